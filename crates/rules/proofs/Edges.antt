@@ -1,0 +1,57 @@
+-- The rules at their edges, computed from the definitions alone: where one more or one less would be another rule. Assumes nothing.
+use Prim.Native.Nat.{ℕ}
+use mathlib.Core.Bool.{Bool, true, false, _||_}
+use mathlib.Core.Path.{_≡_, refl}
+use mathlib.Core.List.{List, [], _∷_}
+use lib.Dec.{eqb}
+use lib.ListN.{getD}
+use Rattle.rules.specs.Orders.{Side, buy, sell, Step, Block}
+use Rattle.rules.specs.Hour.{Hour, buysAbove, buysFrom, sellsTo, sellsBelow, clears, middle}
+use Rattle.rules.specs.Execution.{shares}
+use Rattle.rules.specs.Day.{weight, sumTo, daySum, hourCount, priceSum, keepsLimit}
+use Rattle.rules.specs.Outcome.{allSets}
+
+-- an hour of the base book: buy 100 at 5000, sell 100 at 3000, no blocks
+baseHour : Hour
+baseHour =
+    record {
+      steps = record { hour = 1; side = buy; price = 5000; quantity = 100 } ∷ record { hour = 1; side = sell; price = 3000; quantity = 100 } ∷ [];
+      blockSales = 0;
+      blockBuys = 0;
+    }
+
+-- at 3000 the buys above equal the sells to it, at 5000 the buys from it equal the sells below: both clear, and one cent further none does
+low-end : (clears baseHour 3000 ≡ true) × (clears baseHour 2999 ≡ false)
+unfolding baseHour clears buysAbove buysFrom sellsTo sellsBelow
+low-end = (refl, refl)
+
+high-end : (clears baseHour 5000 ≡ true) × (clears baseHour 5001 ≡ false)
+unfolding baseHour clears buysAbove buysFrom sellsTo sellsBelow
+high-end = (refl, refl)
+
+-- the price between 3000 and 4001 is rounded down
+rounded-down : middle 3000 4001 ≡ 3500
+rounded-down = refl
+
+-- a block of hours 1 and 2 at 3000
+block : Side → Block
+block side = record { number = 1; side = side; price = 3000; quantity = 50; runs = λ h. eqb h 1 || eqb h 2 }
+
+prices : ℕ → ℕ → ℕ → ℕ
+prices first second h = getD (0 ∷ first ∷ second ∷ []) h 150000
+
+-- a sum of 6000 keeps both limits; 6001 is too much for the buy, though the average rounds to 3000; 5999 too little for the sell
+sum-decides : (keepsLimit 24 (prices 3000 3000) (block buy) ≡ true) × (keepsLimit 24 (prices 3000 3000) (block sell) ≡ true)
+    × (keepsLimit 24 (prices 3000 3001) (block buy) ≡ false) × (keepsLimit 24 (prices 3000 2999) (block sell) ≡ false)
+unfolding keepsLimit priceSum hourCount daySum sumTo weight prices block
+sum-decides = (refl, refl, refl, refl)
+
+-- the listing of all sets of two blocks
+two-blocks : allSets 2 ≡ (true ∷ true ∷ []) ∷ (true ∷ false ∷ []) ∷ (false ∷ true ∷ []) ∷ (false ∷ false ∷ []) ∷ []
+unfolding allSets
+two-blocks = refl
+
+-- 100 shared by two steps of 60
+filled-in-turn : shares 100 (60 ∷ 60 ∷ []) ≡ 60 ∷ 40 ∷ []
+unfolding shares
+filled-in-turn = refl

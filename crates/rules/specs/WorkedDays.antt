@@ -1,0 +1,120 @@
+-- THE WORKED DAYS S1 to S10 (document 01, "Days to check by hand") as one table: each day's orders, all that is published of them, and the pricing
+-- facts told of S2 and S6. `proofs/WorkedDayLaws.antt` proves the whole table. Definitions only. Assumes nothing.
+use Prim.Native.Nat.{ℕ}
+use mathlib.Core.Bool.{Bool, true, false, _||_}
+use mathlib.Core.Path.{_≡_}
+use mathlib.Core.List.{List, [], _∷_, _++_}
+use lib.Dec.{eqb}
+use lib.ListN.{replicate}
+use Rattle.rules.specs.Orders.{Side, buy, sell, Step, Order, Block, Orders}
+use Rattle.rules.specs.Hour.{Pricing, cleared, pricing}
+use Rattle.rules.specs.Day.{dayOf, taken, hourOf}
+use Rattle.rules.specs.Outcome.{Published, published}
+
+-- An order of the step chain: number, side, hour, quantity, price.
+abbrev pub step : ℕ → Side → ℕ → ℕ → ℕ → Order
+step number side hour quantity price =
+    record { number = number; step = record { hour = hour; side = side; price = price; quantity = quantity } }
+
+-- A sell block of 50 over hours 1 and 2: number, price.
+abbrev pub block12 : ℕ → ℕ → Block
+block12 number price = record { number = number; side = sell; price = price; quantity = 50; runs = λ h. eqb h 1 || eqb h 2 }
+
+-- The base book with blocks: in hours 1 and 2 each, buy 100 at 5000 and sell 100 at 3000.
+abbrev pub baseWith : List Block → Orders
+baseWith blocks =
+    record {
+      hours = 24;
+      steps = step 1 buy 1 100 5000 ∷ step 2 sell 1 100 3000 ∷ step 3 buy 2 100 5000 ∷ step 4 sell 2 100 3000 ∷ [];
+      blocks = blocks;
+    }
+
+-- A book of steps alone.
+abbrev pub stepsAlone : List Order → Orders
+stepsAlone steps = record { hours = 24; steps = steps; blocks = [] }
+
+-- A number for each of the first hours, the other for the rest of the 24.
+abbrev pub rest23 : ℕ → ℕ → List ℕ
+rest23 first other = first ∷ replicate 23 other
+
+abbrev pub rest22 : ℕ → ℕ → ℕ → List ℕ
+rest22 first second other = first ∷ second ∷ replicate 22 other
+
+-- The answer of an hour under a set of the day's blocks, whether or not the set is published.
+pub record PriceFact : Type 0 where
+  pub set : List Bool
+  pub hour : ℕ
+  pub answer : Pricing
+
+-- A worked day.
+pub record WorkedDay : Type 0 where
+  pub orders : Orders
+  pub publishes : Published
+  pub prices : List PriceFact
+
+-- A day of the base book: its blocks, and what is published: both prices and traded quantities, taken blocks, executed rows, welfare; price facts.
+abbrev pub baseDay : List Block → (price traded : ℕ) → List Bool → List ℕ → ℕ → List PriceFact → WorkedDay
+baseDay blocks price traded chosen rows welfare facts =
+    record {
+      orders = baseWith blocks;
+      publishes = record {
+        welfare = welfare;
+        prices = rest22 price price 150000;
+        traded = rest22 traded traded 0;
+        chosen = chosen;
+        executed = rows;
+      };
+      prices = facts;
+    }
+
+-- A day of steps in hour 1 alone.
+abbrev pub hourDay : List Order → (price traded : ℕ) → List ℕ → ℕ → WorkedDay
+hourDay steps price traded rows welfare =
+    record {
+      orders = stepsAlone steps;
+      publishes = record {
+        welfare = welfare;
+        prices = rest23 price 150000;
+        traded = rest23 traded 0;
+        chosen = [];
+        executed = rows;
+      };
+      prices = [];
+    }
+
+abbrev pub fact : List Bool → ℕ → (low high price : ℕ) → PriceFact
+fact set hour low high price = record { set = set; hour = hour; answer = cleared low high price }
+
+unfoldable pub workedDays : List WorkedDay
+workedDays =
+    -- S1: the base book
+    baseDay [] 4000 100 [] (100 ∷ 100 ∷ 100 ∷ 100 ∷ []) 400000 []
+    -- S2: a block at 3900 is left out: with it both prices would be 3000, without it they are 4000
+    ∷ baseDay (block12 1 3900 ∷ []) 4000 100 (false ∷ []) (100 ∷ 100 ∷ 100 ∷ 100 ∷ []) 400000
+    (fact (true ∷ []) 1 3000 3000 3000 ∷ fact (true ∷ []) 2 3000 3000 3000 ∷ fact (false ∷ []) 1 3000 5000 4000 ∷ fact (false ∷ []) 2 3000 5000 4000 ∷ [])
+    -- S3: at 3000 it is taken, by the equal rule
+    ∷ baseDay (block12 1 3000 ∷ []) 3000 100 (true ∷ []) (100 ∷ 50 ∷ 100 ∷ 50 ∷ []) 400000 []
+    -- S4: at 3001 it is left out
+    ∷ baseDay (block12 1 3001 ∷ []) 4000 100 (false ∷ []) (100 ∷ 100 ∷ 100 ∷ 100 ∷ []) 400000 []
+    -- S5: at 2900 it is taken
+    ∷ baseDay (block12 1 2900 ∷ []) 3000 100 (true ∷ []) (100 ∷ 50 ∷ 100 ∷ 50 ∷ []) 410000 []
+    -- S6: of two such blocks only the first is taken; both would give price 1500
+    ∷ baseDay (block12 1 2900 ∷ block12 2 2900 ∷ []) 3000 100 (true ∷ false ∷ []) (100 ∷ 50 ∷ 100 ∷ 50 ∷ []) 410000
+    (fact (true ∷ true ∷ []) 1 1 3000 1500 ∷ fact (true ∷ true ∷ []) 2 1 3000 1500 ∷ [])
+    -- S7 to S10: steps in hour 1 alone
+    ∷ hourDay (step 1 buy 1 10 4001 ∷ step 2 sell 1 10 3000 ∷ []) 3500 10 (10 ∷ 10 ∷ []) 10010
+    ∷ hourDay (step 1 buy 1 100 300000 ∷ step 2 sell 1 60 2000 ∷ []) 300000 60 (60 ∷ 60 ∷ []) 17880000
+    ∷ hourDay (step 1 sell 1 100 1 ∷ []) 1 0 (0 ∷ []) 0
+    ∷ hourDay (step 1 sell 1 60 3000 ∷ step 2 sell 1 60 3000 ∷ step 3 buy 1 100 5000 ∷ []) 3000 100 (60 ∷ 40 ∷ 100 ∷ []) 200000
+    ∷ []
+
+-- The hour is answered so.
+abbrev pub Answered : Orders → List PriceFact → Type 0
+Answered orders [] = Unit {0}
+Answered orders (f ∷ l) =
+    (pricing (hourOf (dayOf orders) (taken (orders .blocks) (f .set)) (f .hour)) ≡ f .answer) × Answered orders l
+
+-- Every day of a table is published as the table says, and its hours answered so.
+abbrev pub Hold : List WorkedDay → Type 0
+Hold [] = Unit {0}
+Hold (d ∷ l) = (published (d .orders) ≡ d .publishes) × Answered (d .orders) (d .prices) × Hold l
