@@ -1,6 +1,6 @@
 -- THE DAY (document 01, "The day"): the hours under a set of blocks, a block's limit, lawful sets, welfare. Definitions only. Assumes nothing.
 -- A set of the day's blocks is a list of decisions, the lowest-numbered block's first: true if it is taken.
-use Prim.Native.Nat.{ℕ, zero, suc, _+_, _-_, _*_}
+use Prim.Native.Nat.{ℕ, zero, suc, _+_, _-_, _*_, _/_, _%_}
 use mathlib.Core.Bool.{Bool, true, false, _&&_, _||_}
 use mathlib.Core.List.{List, [], _∷_}
 use lib.Dec.{leb, eqb}
@@ -64,6 +64,11 @@ taken [] set = []
 taken (b ∷ l) [] = []
 taken (b ∷ l) (true ∷ set) = b ∷ taken l set
 taken (b ∷ l) (false ∷ set) = taken l set
+
+-- The decisions of n blocks for a set given as bits, the lowest for the first block.
+unfoldable pub decisions : ℕ → ℕ → List Bool
+decisions zero bits = []
+decisions (suc n) bits = eqb (bits % 2) 1 ∷ decisions n (bits / 2)
 
 -- The sum of a number of each block.
 abbrev pub overBlocks : (Block → ℕ) → List Block → ℕ

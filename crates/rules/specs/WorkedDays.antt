@@ -1,7 +1,7 @@
 -- THE WORKED DAYS S1 to S10 (document 01, "Days to check by hand") as one table: each day's orders, all that is published of them, and the pricing
 -- facts told of S2 and S6. `proofs/WorkedDayLaws.antt` proves the whole table. Definitions only. Assumes nothing.
-use Prim.Native.Nat.{ℕ}
-use mathlib.Core.Bool.{Bool, true, false, _||_}
+use Prim.Native.Nat.{ℕ, _-_, _/_, _%_, _^_}
+use mathlib.Core.Bool.{Bool, true, false}
 use mathlib.Core.Path.{_≡_}
 use mathlib.Core.List.{List, [], _∷_, _++_}
 use lib.Dec.{eqb}
@@ -16,9 +16,13 @@ abbrev pub step : ℕ → Side → ℕ → ℕ → ℕ → Order
 step number side hour quantity price =
     record { number = number; step = record { hour = hour; side = side; price = price; quantity = quantity } }
 
--- A sell block of 50 over hours 1 and 2: number, price.
+-- Hour h is among hours given as bits, hour h with the weight 2 to the power h − 1.
+abbrev pub hoursAs : ℕ → ℕ → Bool
+hoursAs bits h = eqb (bits / 2 ^ (h - 1) % 2) 1
+
+-- A sell block of 50 over hours 1 and 2 (bits 3): number, price.
 abbrev pub block12 : ℕ → ℕ → Block
-block12 number price = record { number = number; side = sell; price = price; quantity = 50; runs = λ h. eqb h 1 || eqb h 2 }
+block12 number price = record { number = number; side = sell; price = price; quantity = 50; runs = hoursAs 3 }
 
 -- The base book with blocks: in hours 1 and 2 each, buy 100 at 5000 and sell 100 at 3000.
 abbrev pub baseWith : List Block → Orders
