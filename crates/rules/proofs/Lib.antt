@@ -12,3 +12,10 @@ pub mod BestLaws
 pub mod SearchLaws
 pub mod BoundLaws
 pub mod WorkedDayLaws
+pub mod TableLaws
+pub mod NeighbourLaws
+pub mod LossLaws
+pub mod LossSearchLaws
+pub mod SetBits
+pub mod PlaceLaws
+pub mod LawCutLaws

@@ -1,0 +1,384 @@
+-- A TABLE OF PRICES over N, for one hour. The unit price of N is the least price that meets the demand; it never rises with N, L is that of N and H
+-- that of N − 1: the least clearing price of N clears N + 1 too, and is its greatest. At each price p the N from D(p) on have it, as many as the
+-- quantity that stands at p: so a table is filled by walking the steps' prices downwards. Assumes nothing.
+use Prim.Native.Nat.{ℕ, zero, suc, _+_, _≤_, _<_, max}
+use mathlib.Core.Bool.{Bool, true, false}
+use mathlib.Core.Path.{_≡_, refl}
+use mathlib.Core.List.{List, [], _∷_}
+use mathlib.Core.Option.{Option, none, some}
+use native.Mathlib.Omega.{arith}
+use native.Mathlib.Nat.{lt-of-not-le}
+use native.Mathlib.Decide.{decLe}
+use lib.Dec.{ltb, leb, eqb}
+use borrow.Author.Tests.{leb-true, leb-false, lt-ltb, lt-leb}
+use Rattle.rules.specs.Orders.{Side, buy, sell, Step, maxPrice}
+use Rattle.rules.specs.Hour.{
+  Hour,
+  bySide,
+  when,
+  total,
+  buying,
+  selling,
+  buysAbove,
+  buysFrom,
+  sellsTo,
+  sellsBelow,
+  least,
+  Pricing,
+  cleared,
+  doesNotClear,
+  middle,
+  pricing,
+  priceIn,
+}
+use Rattle.rules.specs.Execution.{buyingAt, sellingAt}
+use Rattle.rules.specs.Contender.{PricesInRange}
+use Rattle.rules.proofs.Tests.{by-lt, by-le}
+use Rattle.rules.proofs.CurveLaws.{buysFrom-suc, sellsBelow-suc, buysFrom-split, sellsTo-split, buysAbove-max, sellsTo-max}
+use Rattle.rules.proofs.PricingLaws.{
+  DemandMet,
+  SupplyMet,
+  Clears,
+  demand-on,
+  supply-down,
+  supply-before,
+  Clearable,
+  LeastOf,
+  least-is,
+  Cleared,
+  middle-clears,
+  answer,
+  NoMoreExcess,
+  low-not-higher,
+  high-not-higher,
+  price-not-higher,
+  net,
+  pricing-net,
+}
+
+-- L, H AND THE PRICE of an hour, 0 where it does not clear
+abbrev pub lowIn : Pricing → ℕ
+lowIn (cleared low high price) = low
+lowIn doesNotClear = 0
+
+abbrev pub highIn : Pricing → ℕ
+highIn (cleared low high price) = high
+highIn doesNotClear = 0
+
+unfoldable pub lowOf : Hour → ℕ
+lowOf h = lowIn (pricing h)
+
+unfoldable pub highOf : Hour → ℕ
+highOf h = highIn (pricing h)
+
+unfoldable pub priceOf : Hour → ℕ
+priceOf h = priceIn (pricing h)
+
+pub answered : (h : Hour) → PricesInRange (h .steps) → Clearable h → Cleared h (lowOf h) (highOf h) (priceOf h)
+unfolding lowOf highOf priceOf
+answered h r c = let a = answer h r c in rw (a .is) (a .says)
+
+pub own-clears : (h : Hour) → PricesInRange (h .steps) → Clearable h → Clears h (priceOf h)
+own-clears h r c = middle-clears h (lowOf h) (highOf h) (priceOf h) (answered h r c)
+
+-- N ALONE decides
+module _ (l : List Step) (s b s′ b′ : ℕ) (same : s + b′ ≡ s′ + b) where
+  pub low-net : lowOf (net l s b) ≡ lowOf (net l s′ b′)
+  unfolding lowOf
+  low-net = rw (pricing-net l s b s′ b′ same)
+
+  pub high-net : highOf (net l s b) ≡ highOf (net l s′ b′)
+  unfolding highOf
+  high-net = rw (pricing-net l s b s′ b′ same)
+
+  pub price-net : priceOf (net l s b) ≡ priceOf (net l s′ b′)
+  unfolding priceOf
+  price-net = rw (pricing-net l s b s′ b′ same)
+
+  pub clearable-net : Clearable (net l s b) → Clearable (net l s′ b′)
+  clearable-net c = record { buysSuffice = omega (arith, c .buysSuffice); sellsSuffice = omega (arith, c .sellsSuffice) }
+
+-- N ≤ N′
+module _ (l : List Step) (r : PricesInRange l) (s b s′ b′ : ℕ) (less : s + b′ ≤ s′ + b) where
+  pub no-more-excess : NoMoreExcess (net l s b) (net l s′ b′)
+  no-more-excess p = omega arith
+
+  module _ (c : Clearable (net l s b)) (c′ : Clearable (net l s′ b′)) where
+    abbrev less-N : Hour
+    less-N = net l s b
+
+    abbrev more-N : Hour
+    more-N = net l s′ b′
+
+    -- M11 of one hour: L, H and the price do not rise
+    pub low-falls : lowOf (net l s′ b′) ≤ lowOf (net l s b)
+    low-falls = low-not-higher less-N more-N no-more-excess _ _ _ _ _ _ (answered less-N r c) (answered more-N r c′)
+
+    pub high-falls : highOf (net l s′ b′) ≤ highOf (net l s b)
+    high-falls = high-not-higher less-N more-N no-more-excess _ _ _ _ _ _ (answered less-N r c) (answered more-N r c′)
+
+    pub price-falls : priceOf (net l s′ b′) ≤ priceOf (net l s b)
+    price-falls = price-not-higher less-N more-N no-more-excess _ _ _ _ _ _ (answered less-N r c) (answered more-N r c′)
+
+-- THE UNIT PRICE of an hour: the least price of 1 to 300000 that meets the demand; the greatest where none does. A table of it over N holds all of
+-- L and H: L is the unit price of N, and H that of N − 1
+unfoldable pub meetsDemand : Hour → ℕ → Bool
+meetsDemand h p = leb (buysAbove p (h .steps) + h .blockBuys) (sellsTo p (h .steps) + h .blockSales)
+
+abbrev pub orMax : Option ℕ → ℕ
+orMax none = maxPrice
+orMax (some p) = p
+
+unfoldable pub unitPrice : Hour → ℕ
+unitPrice h = orMax (least (meetsDemand h) maxPrice)
+
+-- u is the first price that meets the demand, or the greatest
+pub record FirstToMeet (h : Hour) (u : ℕ) : Type 0 where
+  pub positive : 1 ≤ u
+  pub inRange : u ≤ maxPrice
+  pub meets : u < maxPrice → DemandMet h u
+  pub first : (q : ℕ) → 1 ≤ q → q < u → DemandMet h q → ⊥
+
+demand-met : (h : Hour) (q : ℕ) → meetsDemand h q ≡ true → DemandMet h q
+unfolding meetsDemand
+demand-met h q e = leb-true _ _ e
+
+demand-fails : (h : Hour) (q : ℕ) → meetsDemand h q ≡ false → DemandMet h q → ⊥
+unfolding meetsDemand
+demand-fails h q e d = let k : sellsTo q (h .steps) + h .blockSales < buysAbove q (h .steps) + h .blockBuys = leb-false _ _ e in omega arith
+
+pub unit-first : (h : Hour) → FirstToMeet h (unitPrice h)
+unfolding unitPrice
+unit-first h = go (least (meetsDemand h) maxPrice) (least-is (meetsDemand h) maxPrice)
+  where
+    go : (o : Option ℕ) → LeastOf (meetsDemand h) maxPrice o → FirstToMeet h (orMax o)
+    go none t = record {
+      positive = omega arith;
+      inRange = omega arith;
+      meets = λ k. absurd (omega arith);
+      first = λ q i k. demand-fails h q (t q i (omega arith));
+    }
+    go (some u) t = record { positive = t .0; inRange = t .1; meets = λ k. demand-met h u (t .2); first = λ q i k. demand-fails h q (t .3 q i k) }
+
+-- by two tests on neighbouring prices: suc p meets the demand (or is the greatest price) and p does not
+pub unit-is : (h : Hour) (p : ℕ) → suc p ≤ maxPrice → (suc p < maxPrice → DemandMet h (suc p)) → (1 ≤ p → DemandMet h p → ⊥) → unitPrice h ≡ suc p
+unit-is h p k d f =
+    let u = unit-first h in
+    elim (decLe (unitPrice h) p) [
+      | yes le ↦ absurd (f (omega (arith, u .positive)) (demand-on h (unitPrice h) p le (u .meets (omega arith))))
+      | no gt ↦ elim (decLe (unitPrice h) (suc p)) [
+        | yes le ↦ omega (arith, lt-of-not-le gt)
+        | no more ↦
+            let m : suc p < unitPrice h = lt-of-not-le more in
+            absurd (u .first (suc p) (omega arith) m (d (omega (arith, u .inRange))))
+      ]
+    ]
+
+-- it does not rise with N, and depends on N alone
+pub unit-falls : (l : List Step) (s b s′ b′ : ℕ) → s + b′ ≤ s′ + b → unitPrice (net l s′ b′) ≤ unitPrice (net l s b)
+unit-falls l s b s′ b′ less =
+    let u = unit-first (net l s b) in
+    let u′ = unit-first (net l s′ b′) in
+    elim (decLe (unitPrice (net l s′ b′)) (unitPrice (net l s b))) [
+      | yes k ↦ k
+      | no k ↦
+          let met = u .meets (omega (arith, lt-of-not-le k, u′ .inRange)) in
+          absurd (u′ .first (unitPrice (net l s b)) (u .positive) (lt-of-not-le k) (omega arith))
+    ]
+
+pub unit-net : (l : List Step) (s b s′ b′ : ℕ) → s + b′ ≡ s′ + b → unitPrice (net l s b) ≡ unitPrice (net l s′ b′)
+unit-net l s b s′ b′ same = omega (arith, unit-falls l s b s′ b′ (omega arith), unit-falls l s′ b′ s b (omega arith))
+
+-- the price that a table of unit prices has for N; where the hour clears it is its price
+unfoldable pub tablePrice : List Step → ℕ → ℕ → ℕ
+tablePrice l s b = middle (unitPrice (net l s b)) (unitPrice (net l s (suc b)))
+
+pub table-falls : (l : List Step) (s b s′ b′ : ℕ) → s + b′ ≤ s′ + b → tablePrice l s′ b′ ≤ tablePrice l s b
+unfolding tablePrice
+table-falls l s b s′ b′ less = omega (arith, unit-falls l s b s′ b′ less, unit-falls l s (suc b) s′ (suc b′) (omega arith))
+
+-- the greatest price meets the demand of a clearable hour
+met-in-range : (h : Hour) → PricesInRange (h .steps) → Clearable h → (u : ℕ) → u ≤ maxPrice → (u < maxPrice → DemandMet h u) → DemandMet h u
+met-in-range h r c u k f = elim (decLe maxPrice u) [
+  | yes top ↦
+      let e : u ≡ maxPrice = omega arith in
+      let d : DemandMet h maxPrice = omega (arith, c .sellsSuffice, buysAbove-max (h .steps) r, sellsTo-max (h .steps) r) in
+      rw e d
+  | no below ↦ f (lt-of-not-le below)
+]
+
+-- L IS THE UNIT PRICE OF N, H THAT OF N − 1
+pub unit-low : (h : Hour) → PricesInRange (h .steps) → Clearable h → lowOf h ≡ unitPrice h
+unit-low h r c =
+    let a = answered h r c in
+    let u = unit-first h in
+    elim (decLe (unitPrice h) (lowOf h)) [
+      | yes le ↦
+          let k : Clears h (unitPrice h) = record {
+            demandMet = met-in-range h r c (unitPrice h) (u .inRange) (u .meets);
+            supplyMet = supply-down h (unitPrice h) (lowOf h) le (a .lowClears .supplyMet);
+          } in
+          omega (arith, a .ends (unitPrice h) (u .positive) (u .inRange) k)
+      | no gt ↦ absurd (u .first (lowOf h) (a .positive) (lt-of-not-le gt) (a .lowClears .demandMet))
+    ]
+
+module _ (l : List Step) (r : PricesInRange l) (s b : ℕ) (c : Clearable (net l (suc s) b)) where
+  abbrev one-more : Hour
+  one-more = net l (suc s) b
+
+  -- what does not meet the demand of N does not exceed the supply of N + 1
+  unit-supplied : (u : ℕ) → 1 ≤ u → ((q : ℕ) → 1 ≤ q → q < u → DemandMet (net l s b) q → ⊥) → SupplyMet (net l (suc s) b) u
+  unit-supplied zero i f = absurd (omega arith)
+  unit-supplied (suc zero) i f =
+      let a = answered one-more r c in
+      supply-down one-more 1 (lowOf one-more) (a .positive) (a .lowClears .supplyMet)
+  unit-supplied (suc (suc q)) i f = elim (decLe (buysAbove (suc q) l + b) (sellsTo (suc q) l + s)) [
+    | yes met ↦ absurd (f (suc q) (omega arith) (omega arith) met)
+    | no fails ↦ supply-before one-more (suc q) .1 (omega (arith, lt-of-not-le fails))
+  ]
+
+  pub unit-clears-next : Clears (net l (suc s) b) (unitPrice (net l s b))
+  unit-clears-next =
+      let u = unit-first (net l s b) in
+      record {
+        demandMet = met-in-range one-more r c (unitPrice (net l s b)) (u .inRange) (λ k. omega (arith, u .meets k));
+        supplyMet = unit-supplied (unitPrice (net l s b)) (u .positive) (u .first);
+      }
+
+  pub unit-high : highOf (net l (suc s) b) ≡ unitPrice (net l s b)
+  unit-high =
+      let a = answered one-more r c in
+      let u = unit-first (net l s b) in
+      elim (decLe (highOf one-more) (unitPrice (net l s b))) [
+        | yes le ↦ omega (arith, a .ends (unitPrice (net l s b)) (u .positive) (u .inRange) unit-clears-next)
+        | no gt ↦
+            let k : unitPrice (net l s b) < highOf one-more = lt-of-not-le gt in
+            let m = u .meets (omega (arith, a .inRange)) in
+            let before = supply-down one-more (suc (unitPrice (net l s b))) (highOf one-more) k (a .highClears .supplyMet) in
+            absurd (omega (arith, supply-before one-more (unitPrice (net l s b)) .0 before))
+      ]
+
+  -- ONE MORE UNIT, where N clears too: its L clears N + 1 and is the greatest price that does
+  module _ (d : Clearable (net l s b)) where
+    pub low-clears-next : Clears (net l (suc s) b) (lowOf (net l s b))
+    low-clears-next = rw (unit-low (net l s b) r d) unit-clears-next
+
+    pub next-high : highOf (net l (suc s) b) ≡ lowOf (net l s b)
+    next-high = rw (unit-low (net l s b) r d) unit-high
+
+-- H BY THE UNIT PRICE OF N − 1, written with one more unit bought
+module _ (l : List Step) (r : PricesInRange l) (s b : ℕ) where
+  pub unit-high-before : Clearable (net l s b) → highOf (net l s b) ≡ unitPrice (net l s (suc b))
+  unit-high-before c =
+      rw (high-net l s b (suc s) (suc b) (omega arith))
+      (unit-high l r s (suc b) (clearable-net l s b (suc s) (suc b) (omega arith) c))
+
+  pub price-is-table : Clearable (net l s b) → priceOf (net l s b) ≡ tablePrice l s b
+  unfolding tablePrice
+  price-is-table c = rw (← (unit-low (net l s b) r c), ← (unit-high-before c)) (answered (net l s b) r c .isMiddle)
+
+-- FILLING A TABLE of L over N
+-- L by two tests on neighbouring prices
+pub low-is : (h : Hour) → PricesInRange (h .steps) → Clearable h → (p : ℕ) → suc p ≤ maxPrice → DemandMet h (suc p) →
+    (1 ≤ p → DemandMet h p → ⊥) → lowOf h ≡ suc p
+low-is h r c p k d f = rw (unit-low h r c) (unit-is h p k (λ _. d) f)
+
+-- what stands at price p, on both sides together
+unfoldable pub standing : ℕ → List Step → ℕ
+standing p = total (λ s. when (eqb (s .price) p) (s .quantity))
+
+pub standing-is : (p : ℕ) (l : List Step) → standing p l ≡ total (buyingAt p) l + total (sellingAt p) l
+unfolding standing
+standing-is p [] = omega arith
+standing-is p (s ∷ l) = omega (arith, of-side (s .side) (eqb (s .price) p) (s .quantity), standing-is p l)
+  where
+    of-side : (side : Side) (t : Bool) (q : ℕ) → when t q ≡ when t (bySide side q 0) + when t (bySide side 0 q)
+    of-side buy true q = omega arith
+    of-side buy false q = omega arith
+    of-side sell true q = omega arith
+    of-side sell false q = omega arith
+
+-- D(p − 1) is D(p) and what stands at p, where D is the buys above less the sells at or below
+pub excess-step : (p : ℕ) (l : List Step) → buysAbove p l + sellsTo (suc p) l ≡ buysAbove (suc p) l + sellsTo p l + standing (suc p) l
+excess-step p l =
+    omega (arith, standing-is (suc p) l, buysFrom-suc p l, sellsBelow-suc p l, buysFrom-split (suc p) l, sellsTo-split (suc p) l)
+
+-- so the N from D(p) up to D(p) and what stands at p have unit price p
+pub unit-filled : (h : Hour) (p : ℕ) → suc p ≤ maxPrice → (suc p < maxPrice → DemandMet h (suc p)) →
+    sellsTo (suc p) (h .steps) + h .blockSales < buysAbove (suc p) (h .steps) + h .blockBuys + standing (suc p) (h .steps) →
+    unitPrice h ≡ suc p
+unit-filled h p k d more = unit-is h p k d (λ _ m. omega (arith, excess-step p (h .steps)))
+
+-- no step of any quantity lies strictly between two prices
+abbrev pub NoneBetween : ℕ → ℕ → List Step → Type 0
+NoneBetween low high [] = Unit {0}
+NoneBetween low high (s ∷ l) = (low < s .price → s .price < high → s .quantity ≡ 0) × NoneBetween low high l
+
+module _ (low high : ℕ) (k : low < high) where
+  above-is-from : (x n : ℕ) → (low < x → x < high → n ≡ 0) → when (ltb low x) n ≡ when (leb high x) n
+  above-is-from x n f =
+      by-lt (λ t. when t n ≡ when (leb high x) n) low x
+      (λ a. by-le (λ t. n ≡ when t n) high x (λ z. refl) (λ z. f a z))
+      (λ a. rw (lt-leb high x (omega arith)))
+
+  to-is-below : (x n : ℕ) → (low < x → x < high → n ≡ 0) → when (leb x low) n ≡ when (ltb x high) n
+  to-is-below x n f =
+      by-lt (λ t. when (leb x low) n ≡ when t n) x high
+      (λ z. by-le (λ t. when t n ≡ n) x low (λ a. refl) (λ a. omega (arith, f a z)))
+      (λ z. rw (lt-leb x low (omega arith)))
+
+  none-of-side : (side : Side) (q : ℕ) → q ≡ 0 → (bySide side q 0 ≡ 0) × (bySide side 0 q ≡ 0)
+  none-of-side buy q e = (e, refl)
+  none-of-side sell q e = (refl, e)
+
+  pub none-between : (l : List Step) → NoneBetween low high l → (buysAbove low l ≡ buysFrom high l) × (sellsTo low l ≡ sellsBelow high l)
+  unfolding buysAbove buysFrom sellsTo sellsBelow
+  none-between [] z = (refl, refl)
+  none-between (s ∷ l) z =
+      let t = none-between l (z .1) in (
+        omega (arith, above-is-from (s .price) (buying s) (λ a e. none-of-side (s .side) (s .quantity) (z .0 a e) .0)),
+        omega (arith, to-is-below (s .price) (selling s) (λ a e. none-of-side (s .side) (s .quantity) (z .0 a e) .1)),
+      )
+
+-- D is the same from a step's price up to just below the next higher one
+pub excess-same : (low p : ℕ) (l : List Step) → low ≤ p → NoneBetween low (suc p) l → (buysAbove low l ≡ buysAbove p l) × (sellsTo low l ≡ sellsTo p l)
+excess-same low p l k z =
+    let t = none-between low (suc p) (omega arith) l z in
+    (omega (arith, buysFrom-suc p l), omega (arith, sellsBelow-suc p l))
+
+-- so what meets the demand just below a price meets it at the next lower step's price
+pub meets-down : (h : Hour) (low p : ℕ) → low ≤ p → NoneBetween low (suc p) (h .steps) → DemandMet h p → DemandMet h low
+meets-down h low p k z d = omega (arith, excess-same low p (h .steps) k z)
+
+-- and past the N that stand at a price the next lower step's price meets the demand
+pub filled-next : (h : Hour) (low p : ℕ) → low ≤ p → NoneBetween low (suc p) (h .steps) →
+    buysAbove (suc p) (h .steps) + h .blockBuys + standing (suc p) (h .steps) ≤ sellsTo (suc p) (h .steps) + h .blockSales → DemandMet h low
+filled-next h low p k z past = meets-down h low p k z (omega (arith, excess-step p (h .steps)))
+
+-- the greatest price of a step below p, 1 where there is none
+unfoldable pub priceBelow : ℕ → List Step → ℕ
+priceBelow p [] = 1
+priceBelow p (s ∷ l) = max (when (ltb (s .price) p) (s .price)) (priceBelow p l)
+
+pub below-positive : (p : ℕ) (l : List Step) → 1 ≤ priceBelow p l
+unfolding priceBelow
+below-positive p [] = omega arith
+below-positive p (s ∷ l) = omega (arith, below-positive p l)
+
+pub below-less : (p : ℕ) (l : List Step) → 1 < p → priceBelow p l < p
+unfolding priceBelow
+below-less p [] k = k
+below-less p (s ∷ l) k =
+    by-lt (λ t. max (when t (s .price)) (priceBelow p l) < p) (s .price) p (λ a. omega (arith, below-less p l k)) (λ a. omega (arith, below-less p l k))
+
+none-above : (low low′ high : ℕ) → low ≤ low′ → (l : List Step) → NoneBetween low high l → NoneBetween low′ high l
+none-above low low′ high k [] z = tt
+none-above low low′ high k (s ∷ l) z = ((λ a. z .0 (omega arith)), none-above low low′ high k l (z .1))
+
+pub below-next : (p : ℕ) (l : List Step) → NoneBetween (priceBelow p l) p l
+unfolding priceBelow
+below-next p [] = tt
+below-next p (s ∷ l) = (
+  (λ a e. absurd (omega (arith, rw (lt-ltb (s .price) p e) at a))),
+  none-above (priceBelow p l) (max (when (ltb (s .price) p) (s .price)) (priceBelow p l)) p (omega arith) l (below-next p l),
+)
