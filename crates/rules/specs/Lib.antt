@@ -5,4 +5,5 @@ pub mod Execution
 pub mod Day
 pub mod Outcome
 pub mod Contender
+pub mod OutcomeRules
 pub mod WorkedDays

@@ -1,0 +1,100 @@
+-- The fields of a book's records, and a record as a step or a block (document 01, "The book in bytes").
+-- Records have 16 bytes; record k starts at byte 16 × k. Whether a field is in its range is told in Refusals. Assumes nothing.
+use Prim.Native.Nat.{ℕ, zero, suc, _+_, _-_, _*_, _/_, _%_, _^_}
+use mathlib.Core.List.{List}
+use mathlib.Core.Bool.{Bool, cond}
+use lib.Dec.{eqb}
+use Rattle.book.specs.Bytes.{byteAt, u16At, u24At, u32At}
+use Rattle.book.specs.declared.Side.{Side}
+use Rattle.book.specs.declared.Side.the-variants.{Buy, Sell}
+use Rattle.book.specs.declared.Step.{Step}
+use Rattle.book.specs.declared.Block.{Block}
+use Rattle.book.specs.declared.Record.{Record}
+use Rattle.book.specs.declared.Record.the-variants as record-of
+
+-- The head, bytes 0 and 1: the record count R, head included
+abbrev pub recordCount : List ℕ → ℕ
+recordCount b = u16At b 0
+
+-- The head, bytes 2-3: the first step
+abbrev pub firstStep : List ℕ → ℕ
+firstStep b = u16At b 2
+
+-- The head, bytes 4-5: the first block
+abbrev pub firstBlock : List ℕ → ℕ
+firstBlock b = u16At b 4
+
+-- The head, byte 6: the day's hours
+abbrev pub dayHours : List ℕ → ℕ
+dayHours b = byteAt b 6
+
+-- The head, byte 7: the edition
+abbrev pub edition : List ℕ → ℕ
+edition b = byteAt b 7
+
+-- Byte 0 of record k: its kind, 1 a step, 2 a block
+abbrev pub kind : List ℕ → ℕ → ℕ
+kind b k = byteAt b (16 * k)
+
+-- Byte 1: the side, 0 buy, 1 sell
+abbrev pub sideByte : List ℕ → ℕ → ℕ
+sideByte b k = byteAt b (16 * k + 1)
+
+-- Bytes 2-3: the index of the following record of its chain, 0 at the end
+abbrev pub next : List ℕ → ℕ → ℕ
+next b k = u16At b (16 * k + 2)
+
+-- Bytes 4-5: the order number
+abbrev pub number : List ℕ → ℕ → ℕ
+number b k = u16At b (16 * k + 4)
+
+-- Byte 6: a step's hour, 0 in a block
+abbrev pub hourByte : List ℕ → ℕ → ℕ
+hourByte b k = byteAt b (16 * k + 6)
+
+-- Byte 7: the portfolio
+abbrev pub portfolio : List ℕ → ℕ → ℕ
+portfolio b k = byteAt b (16 * k + 7)
+
+-- The side that a byte names: 0 buy, 1 sell (another byte is refusal 4)
+abbrev pub sideOf : ℕ → Side
+sideOf x = cond (eqb x 0) Buy Sell
+
+-- Record k read as a step: price in bytes 8-11, quantity in 12-15
+unfoldable pub stepAt : List ℕ → ℕ → Step
+stepAt b k =
+    record {
+      side = sideOf (sideByte b k);
+      number = number b k;
+      hour = hourByte b k;
+      portfolio = portfolio b k;
+      price = u32At b (16 * k + 8);
+      quantity = u32At b (16 * k + 12);
+    }
+
+-- Record k read as a block: hours in bytes 8-10, price in 11-13, quantity in 14-15
+unfoldable pub blockAt : List ℕ → ℕ → Block
+blockAt b k =
+    record {
+      side = sideOf (sideByte b k);
+      number = number b k;
+      portfolio = portfolio b k;
+      hours = u24At b (16 * k + 8);
+      price = u24At b (16 * k + 11);
+      quantity = u16At b (16 * k + 14);
+    }
+
+-- Record k as its kind says: a step, a block, or neither
+unfoldable pub recordAt : List ℕ → ℕ → Record
+recordAt b k =
+    cond (eqb (kind b k) 1) (record-of.Step (stepAt b k))
+    (cond (eqb (kind b k) 2) (record-of.Block (blockAt b k)) record-of.Other)
+
+-- Hour h is among a block's hours x: 24 bits, hour h with the weight 2 to the power h − 1
+abbrev pub holdsHour : ℕ → ℕ → Bool
+holdsHour x h = eqb (x / 2 ^ (h - 1) % 2) 1
+
+-- How many of the hours 1 to n are among a block's hours x
+unfoldable pub hourCount : ℕ → ℕ → ℕ
+hourCount zero x = 0
+hourCount (suc n) x = hourCount n x + cond (holdsHour x (suc n)) 1 0

@@ -1,0 +1,110 @@
+-- The causes for which a book is refused, 1 to 6, in the words of document 01, "Refused books and calls".
+-- The causes of a call (7 a result buffer, 8 an hour or a set) belong to the calls; they are looked for after these. Assumes nothing.
+use Prim.Native.Nat.{ℕ, _*_}
+use mathlib.Core.Path.{_≡_}
+use mathlib.Core.List.{List, [], _∷_}
+use mathlib.Core.Bool.{Bool, true, false, cond, not, _&&_, _||_}
+use lib.Dec.{eqb, leb, ltb}
+use lib.ListN.{length}
+use Rattle.book.specs.Bytes.{nonzero}
+use Rattle.book.specs.Tests.{within, someBelow, someIn, countIn, member}
+use Rattle.rules.specs.Orders.{Limits, limits}
+use Rattle.book.specs.Records.{recordCount, dayHours, edition, kind, sideByte, number, hourByte, portfolio, stepAt, blockAt, hourCount}
+use Rattle.book.specs.Chains.{stepChain, blockChain}
+use Rattle.book.specs.declared.Step.{Step}
+use Rattle.book.specs.declared.Block.{Block}
+
+-- 1: length not 16 × R, below 16 bytes, or R outside 1 to 2,048
+unfoldable pub wrongSize : List ℕ → Bool
+wrongSize b = not (eqb (length b) (16 * recordCount b)) || ltb (length b) 16 || not (within 1 (recordCount b) 2048)
+
+-- 2, the head: hours not 24, edition not 1, or bytes 8-15 not all 0
+unfoldable pub wrongHead : List ℕ → Bool
+wrongHead b = not (eqb (dayHours b) 24) || not (eqb (edition b) 1) || nonzero b 8 8
+
+-- 3, at record i of a chain of kind k, after the number `last`: an index of R or more, another kind, or, if numbers must rise, one that does not
+unfoldable pub misplaced : List ℕ → ℕ → Bool → ℕ → ℕ → Bool
+misplaced b k rising last i = leb (recordCount b) i || not (eqb (kind b i) k) || (rising && leb (number b i) last)
+
+-- 3, along a chain of kind k, after the number `last` (0 before the first): some record is misplaced
+unfoldable pub broken : List ℕ → ℕ → Bool → ℕ → List ℕ → Bool
+broken b k rising last [] = false
+broken b k rising last (i ∷ l) = misplaced b k rising last i || broken b k rising (number b i) l
+
+-- 3, on a chain: an index of R or more, a kind not the chain's, or a number that does not rise (a first one of 0 included)
+unfoldable pub brokenChain : List ℕ → Bool
+brokenChain b = broken b 1 true 0 (stepChain b) || broken b 2 true 0 (blockChain b)
+
+-- A step's hour is 1 to 24, its portfolio 1 to 255, its price 1 to 300000, its quantity 1 to 99,999
+unfoldable pub stepFits : Step → Bool
+stepFits s = within 1 (s .hour) 24 && within 1 (s .portfolio) 255 && within 1 (s .price) 300000 && within 1 (s .quantity) 99999
+
+-- A block's portfolio is 1 to 255, at least two of its hours are set, its price is 1 to 300000, its quantity 1 to the limit
+unfoldable pub blockFits : Limits → Block → Bool
+blockFits l s =
+    within 1 (s .portfolio) 255 && leb 2 (hourCount 24 (s .hours)) && within 1 (s .price) 300000 && within 1 (s .quantity) (l .blockQuantity)
+
+-- Record i of the step chain: its side is 0 or 1, and it fits
+unfoldable pub stepInRange : List ℕ → ℕ → Bool
+stepInRange b i = within 0 (sideByte b i) 1 && stepFits (stepAt b i)
+
+-- Record i of the block chain: its side is 0 or 1, its byte 6 is 0, and it fits
+unfoldable pub blockInRange : List ℕ → ℕ → Bool
+blockInRange b i = within 0 (sideByte b i) 1 && eqb (hourByte b i) 0 && blockFits (limits (edition b)) (blockAt b i)
+
+-- 4, at record i of a chain of kind k: a field outside its range
+unfoldable pub outOfRange : List ℕ → ℕ → ℕ → Bool
+outOfRange b k i = not (cond (eqb k 1) (stepInRange b i) (blockInRange b i))
+
+-- 4, on a chain: any other field outside its range
+unfoldable pub wrongField : List ℕ → Bool
+wrongField b = someIn (stepChain b) (outOfRange b 1) || someIn (blockChain b) (outOfRange b 2)
+
+-- Record i is not the head, and on no chain
+unfoldable pub stray : List ℕ → ℕ → Bool
+stray b i = leb 1 i && not (member i (stepChain b) || member i (blockChain b))
+
+-- 5: a record on no chain, so some index from 1 to R − 1
+unfoldable pub strayRecord : List ℕ → Bool
+strayRecord b = someBelow (recordCount b) (stray b)
+
+-- Record i is of portfolio p
+unfoldable pub ownedBy : List ℕ → ℕ → ℕ → Bool
+ownedBy b p i = eqb (portfolio b i) p
+
+-- Portfolio p has more blocks than the limit
+unfoldable pub tooManyOf : List ℕ → ℕ → Bool
+tooManyOf b p = ltb (limits (edition b) .blocksOfPortfolio) (countIn (blockChain b) (ownedBy b p))
+
+-- 6: more than 32 blocks, or more than 5 (the limit) of one portfolio
+unfoldable pub tooManyBlocks : List ℕ → Bool
+tooManyBlocks b = ltb 32 (length (blockChain b)) || someBelow 256 (tooManyOf b)
+
+-- The number of the first cause of a list that holds; 0 where none does
+unfoldable pub firstOf : List (Bool × ℕ) → ℕ
+firstOf [] = 0
+firstOf (cause ∷ l) = cond (cause .0) (cause .1) (firstOf l)
+
+-- A book's own causes with their numbers, in the order in which they are looked for
+unfoldable pub ownCauses : List ℕ → List (Bool × ℕ)
+ownCauses b =
+    (wrongSize b, 1)
+    ∷ (wrongHead b, 2)
+    ∷ (brokenChain b, 3)
+    ∷ (wrongField b, 4)
+    ∷ (strayRecord b, 5)
+    ∷ (tooManyBlocks b, 6)
+    ∷ []
+
+-- The number for which a book by itself is refused; 0, which is ours, where it is accepted
+unfoldable pub refusal : List ℕ → ℕ
+refusal b = firstOf (ownCauses b)
+
+-- A book is accepted when none of its own causes holds
+pub record Accepted (b : List ℕ) : Type 0 where
+  pub rightSize : wrongSize b ≡ false
+  pub rightHead : wrongHead b ≡ false
+  pub unbroken : brokenChain b ≡ false
+  pub inRange : wrongField b ≡ false
+  pub noStray : strayRecord b ≡ false
+  pub notTooMany : tooManyBlocks b ≡ false

@@ -1,0 +1,120 @@
+// The causes for which a book by itself is refused, 1 to 6 (document 01, "Refused books and calls"), each found in one pass over the
+// records, and the first of them that holds. Assumes nothing.
+ghost use mathlib.Core.Path.{_≡_};
+ghost use mathlib.Core.Bool.{cond};
+ghost use Prim.Native.Nat.{_+_};
+ghost use lib.Dec.{ltb};
+ghost use lib.ListN.{length};
+ghost use Rattle.book.specs.Tests.{someBelow};
+ghost use Rattle.book.specs.Records.{recordCount};
+ghost use Rattle.book.specs.Chains.{stepChain, blockChain};
+ghost use Rattle.book.specs.Refusals.{wrongSize, wrongHead, brokenChain, wrongField, tooManyOf, tooManyBlocks, refusal};
+use crate::bytes::is_nonzero;
+use crate::chains::chain_length;
+use crate::chains::counts_by_portfolio;
+use crate::chains::has_outside_field;
+use crate::chains::is_broken;
+use crate::ranges::is_within;
+use crate::ranges::most_blocks_of_portfolio;
+use crate::records::BLOCK;
+use crate::records::STEP;
+use crate::records::day_hours;
+use crate::records::edition_of;
+use crate::records::first_block;
+use crate::records::first_step;
+use crate::records::record_count;
+
+// 1: the length, or the record count.
+fn has_wrong_size(book: &[u8]) -> bool
+    ensures { λ r. ⌜ r ≡ wrongSize (now (book .entry)) ⌝ }
+{
+    let count = record_count(book);
+    let size = 16 * (count as usize);
+    (book.len() != size) | (book.len() < 16) | !is_within(1, count as u32, 2048)
+}
+
+// 2: the head.
+fn has_wrong_head(book: &[u8]) -> bool
+    ensures { λ r. ⌜ r ≡ wrongHead (now (book .entry)) ⌝ }
+{
+    (day_hours(book) != 24) | (edition_of(book) != 1) | is_nonzero(book, 8, 8)
+}
+
+// 3: an index, a kind or a number, on either chain.
+fn has_broken_chain(book: &[u8]) -> bool
+    ensures { λ r. ⌜ r ≡ brokenChain (now (book .entry)) ⌝ }
+{
+    let step = first_step(book);
+    let block = first_block(book);
+    let broken_steps = is_broken(book, STEP, true, step);
+    let broken_blocks = is_broken(book, BLOCK, true, block);
+    broken_steps | broken_blocks
+}
+
+// 4: any other field, on either chain.
+fn has_wrong_field(book: &[u8]) -> bool
+    ensures { λ r. ⌜ r ≡ wrongField (now (book .entry)) ⌝ }
+{
+    let step = first_step(book);
+    let block = first_block(book);
+    let wrong_steps = has_outside_field(book, STEP, step);
+    let wrong_blocks = has_outside_field(book, BLOCK, block);
+    wrong_steps | wrong_blocks
+}
+
+// 5, where 3 does not hold: the records of the chains are then distinct, so one is missing just where head and chains are fewer than R.
+fn has_short_chains(book: &[u8]) -> bool
+    ensures { λ r. ⌜ r ≡ ltb (length (stepChain (now (book .entry))) + length (blockChain (now (book .entry))) + 1) (recordCount (now (book .entry))) ⌝ }
+{
+    let steps = chain_length(book, first_step(book));
+    let blocks = chain_length(book, first_block(book));
+    let count = record_count(book);
+    (steps as u32) + (blocks as u32) + 1 < (count as u32)
+}
+
+// 6: the blocks in all, or those of one portfolio.
+fn has_too_many_blocks(book: &[u8]) -> bool
+    ensures { λ r. ⌜ r ≡ tooManyBlocks (now (book .entry)) ⌝ }
+{
+    let blocks = chain_length(book, first_block(book));
+    (32 < blocks) | has_crowded_portfolio(book)
+}
+
+// 6, of one portfolio: more blocks than the edition's limit.
+fn has_crowded_portfolio(book: &[u8]) -> bool
+    ensures { λ r. ⌜ r ≡ someBelow 256 (tooManyOf (now (book .entry))) ⌝ }
+{
+    let most = most_blocks_of_portfolio(edition_of(book));
+    let counts = counts_by_portfolio(book, first_block(book));
+    let mut p: usize = 256;
+    while 0 < p {
+        p -= 1;
+        if most < counts[p] {
+            return true;
+        }
+    }
+    false
+}
+
+// One cause of a list: its number where it holds, else the number that the causes after it give.
+fn first_of(holds: bool, number: u8, after: u8) -> u8
+    ensures { λ r. ⌜ r ≡ cond holds number after ⌝ }
+{
+    if holds { number } else { after }
+}
+
+// The number of the first cause that holds; 0 where none does.
+pub fn refusal_of(book: &[u8]) -> u8
+    ensures { λ r. ⌜ r ≡ refusal (now (book .entry)) ⌝ }
+{
+    if has_wrong_size(book) {
+        return 1;
+    }
+    let head = has_wrong_head(book);
+    let broken = has_broken_chain(book);
+    let wrong = has_wrong_field(book);
+    let short = has_short_chains(book);
+    let many = has_too_many_blocks(book);
+    let after = first_of(short, 5, first_of(many, 6, 0));
+    first_of(head, 2, first_of(broken, 3, first_of(wrong, 4, after)))
+}

@@ -1,0 +1,98 @@
+// The chains (document 01, "The book in bytes"): each is followed from its first record to the zero that ends it, for at most R records,
+// in one loop for each question asked of it. Assumes nothing.
+ghost use mathlib.Core.Path.{_≡_};
+ghost use Prim.Native.Nat.{ℕ, _<_};
+ghost use lib.ListN.{length, getD};
+ghost use Rattle.book.specs.Tests.{someIn, countIn};
+ghost use Rattle.book.specs.Chains.{chain};
+ghost use Rattle.book.specs.Refusals.{misplaced, broken, outOfRange, ownedBy};
+use crate::ranges::is_out_of_range;
+use crate::records::kind_of;
+use crate::records::next_of;
+use crate::records::number_of;
+use crate::records::portfolio_of;
+use crate::records::record_count;
+
+// How many records the chain that starts at first has.
+pub fn chain_length(book: &[u8], first: u16) -> u16
+    ensures { λ r. ⌜ r ≡ length (chain (now (book .entry)) first) ⌝ }
+{
+    let mut left = record_count(book);
+    let mut i = first;
+    let mut count = 0;
+    while 0 < left {
+        if i == 0 {
+            return count;
+        }
+        count += 1;
+        i = next_of(book, i);
+        left -= 1;
+    }
+    count
+}
+
+// Cause 3 at record i of a chain of this kind, after the number last.
+fn is_misplaced(book: &[u8], kind: u8, rising: bool, last: u16, i: u16) -> bool
+    ensures { λ r. ⌜ r ≡ misplaced (now (book .entry)) kind rising last i ⌝ }
+{
+    (record_count(book) <= i) | (kind_of(book, i) != kind) | (rising & (number_of(book, i) <= last))
+}
+
+// Cause 3 along the chain of this kind that starts at first: some record is misplaced.
+pub fn is_broken(book: &[u8], kind: u8, rising: bool, first: u16) -> bool
+    ensures { λ r. ⌜ r ≡ broken (now (book .entry)) kind rising 0 (chain (now (book .entry)) first) ⌝ }
+{
+    let mut left = record_count(book);
+    let mut i = first;
+    let mut last = 0;
+    while 0 < left {
+        if i == 0 {
+            return false;
+        }
+        if is_misplaced(book, kind, rising, last, i) {
+            return true;
+        }
+        last = number_of(book, i);
+        i = next_of(book, i);
+        left -= 1;
+    }
+    false
+}
+
+// Cause 4 along the chain of this kind that starts at first: some record has a field outside its range.
+pub fn has_outside_field(book: &[u8], kind: u8, first: u16) -> bool
+    ensures { λ r. ⌜ r ≡ someIn (chain (now (book .entry)) first) (outOfRange (now (book .entry)) kind) ⌝ }
+{
+    let mut left = record_count(book);
+    let mut i = first;
+    while 0 < left {
+        if i == 0 {
+            return false;
+        }
+        if is_out_of_range(book, kind, i) {
+            return true;
+        }
+        i = next_of(book, i);
+        left -= 1;
+    }
+    false
+}
+
+// How many records of the chain that starts at first each portfolio has.
+pub fn counts_by_portfolio(book: &[u8], first: u16) -> [u16; 256]
+    ensures { λ r. ⌜ ((p : ℕ) → p < 256 → getD r p 0 ≡ countIn (chain (now (book .entry)) first) (ownedBy (now (book .entry)) p)) ⌝ }
+{
+    let mut counts = [0; 256];
+    let mut left = record_count(book);
+    let mut i = first;
+    while 0 < left {
+        if i == 0 {
+            return counts;
+        }
+        let p = portfolio_of(book, i) as usize;
+        counts[p] += 1;
+        i = next_of(book, i);
+        left -= 1;
+    }
+    counts
+}
