@@ -15,6 +15,7 @@ pub use records::day_hours;
 pub use records::edition_of;
 pub use records::first_block;
 pub use records::first_step;
+pub use records::hour_byte;
 pub use records::hour_count;
 pub use records::kind_of;
 pub use records::next_of;
@@ -22,6 +23,7 @@ pub use records::number_of;
 pub use records::portfolio_of;
 pub use records::record_at;
 pub use records::record_count;
+pub use records::side_byte;
 pub use records::step_at;
 
 pub enum Side {

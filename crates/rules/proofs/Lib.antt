@@ -19,3 +19,5 @@ pub mod LossSearchLaws
 pub mod SetBits
 pub mod PlaceLaws
 pub mod LawCutLaws
+pub mod OutcomeRulesLaws
+pub mod BoundsLaws

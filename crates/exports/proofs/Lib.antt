@@ -1,0 +1,1 @@
+-- The calls for other languages meet their contracts.

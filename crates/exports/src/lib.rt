@@ -1,0 +1,47 @@
+// The public calls for programs in other languages: numbers and byte slices only. Assumes nothing.
+ghost use mathlib.Core.Path.{_≡_};
+ghost use Rattle.book.specs.Refusals.{refusal};
+ghost use Rattle.pricing.specs.Answers.{hourAnswer};
+ghost use Rattle.exports.specs.Parts.{answerPart};
+use book::Reading;
+use book::read;
+use pricing::HourAnswer;
+use pricing::price;
+
+// The book's refusal, 0 for an accepted book.
+#[no_mangle]
+pub extern "C" fn auction_read(book: &[u8]) -> u32
+    ensures { λ r. ⌜ r ≡ refusal (now (book .entry)) ⌝ }
+{
+    let reading = read(book);
+    match reading {
+        Reading::Refused(number) => number as u32,
+        Reading::Accepted {
+            steps: _,
+            blocks: _,
+        } => 0,
+    }
+}
+
+// One part of the answer of a pricing call.
+#[no_mangle]
+pub extern "C" fn auction_price(book: &[u8], set: u32, hour: u32, part: u32) -> u32
+    ensures { λ r. ⌜ r ≡ answerPart (hourAnswer (now (book .entry)) set hour) part ⌝ }
+{
+    let answer = price(book, set, hour);
+    match answer {
+        HourAnswer::Refused(number) => { if part == 0 { number as u32 } else { 0 } }
+        HourAnswer::NotClearing => { if part == 0 { 9 } else { 0 } }
+        HourAnswer::Cleared { low, high, price } => {
+            if part == 1 {
+                low
+            } else {
+                if part == 2 {
+                    high
+                } else {
+                    if part == 3 { price } else { 0 }
+                }
+            }
+        }
+    }
+}

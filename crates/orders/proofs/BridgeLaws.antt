@@ -1,0 +1,128 @@
+-- THE BRIDGE HOLDS: an accepted book's orders are a day of the rules, of 24 hours, with every price, hour and quantity in its range; and its blocks are
+-- those of the block columns. Assumes nothing.
+use Prim.Native.Nat.{ℕ, zero, suc, _+_, _*_, _≤_}
+use mathlib.Core.Bool.{Bool, true, false, cond}
+use mathlib.Core.Path.{_≡_, refl, ap, sym, _∙_}
+use mathlib.Core.List.{List, [], _∷_, map}
+use lib.ListN.{length, take, length-map}
+use Rattle.rules.specs.Orders.{limits}
+use Rattle.book.specs.Records.{sideByte, blockAt, holdsHour, hourCount}
+use Rattle.book.specs.Chains.{stepChain, blockChain}
+use Rattle.book.specs.Refusals.{Accepted}
+use Rattle.book.proofs.Members.{Each, each-map, each-image}
+use Rattle.book.proofs.Accepted.{StepRecord, BlockRecord, step-records, block-records, day-hours}
+use Rattle.rules.specs.Orders.{Step, Block, stepsOf, canonical}
+use Rattle.rules.specs.Day.{dayOf, weight, sumTo, daySum}
+use Rattle.rules.specs.Day as day
+use Rattle.rules.specs.Hour.{when}
+use Rattle.rules.specs.Contender.{PricesInRange, HoursInRange}
+use Rattle.orders.specs.Bridge.{stepFrom, orderFrom, blockFrom, ordersOf, dayFrom}
+use Rattle.orders.specs.Columns.{blockRecords, blockHoursAt, blockPriceAt, blockQuantityAt, BlockColumns, blockOf, blocksFrom}
+use Rattle.orders.proofs.RecordLaws.{blocks-all}
+use Rattle.orders.proofs.HourLaws.{side-same}
+
+-- THE DAY'S LISTS
+steps-from : (b : List ℕ) (l : List ℕ) → stepsOf (map (orderFrom b) l) ≡ map (stepFrom b) l
+unfolding stepsOf orderFrom
+steps-from b [] = refl
+steps-from b (k ∷ l) = ap (λ (m : List Step). stepFrom b k ∷ m) (steps-from b l)
+
+-- The day's steps and blocks are those of the two chains, in chain order
+pub day-steps : (b : List ℕ) → dayFrom b .steps ≡ map (stepFrom b) (stepChain b)
+unfolding dayFrom dayOf ordersOf canonical
+day-steps b = steps-from b (stepChain b)
+
+pub day-blocks : (b : List ℕ) → dayFrom b .blocks ≡ map (blockFrom b) (blockChain b)
+unfolding dayFrom dayOf ordersOf canonical
+day-blocks b = refl
+
+-- The day has 24 hours
+pub day-has-24 : (b : List ℕ) → Accepted b → dayFrom b .hours ≡ 24
+unfolding dayFrom dayOf ordersOf canonical
+day-has-24 b a = day-hours b a
+
+-- RANGES
+-- A step of the rules within the ranges of document 01
+pub record StepInRange (s : Step) : Type 0 where
+  pub hour : (1 ≤ s .hour) × (s .hour ≤ 24)
+  pub price : (1 ≤ s .price) × (s .price ≤ 300000)
+  pub quantity : (1 ≤ s .quantity) × (s .quantity ≤ 99999)
+
+-- A block of the rules within the ranges of document 01
+pub record BlockInRange (s : Block) : Type 0 where
+  pub price : (1 ≤ s .price) × (s .price ≤ 300000)
+  pub quantity : (1 ≤ s .quantity) × (s .quantity ≤ 50)
+
+step-in-range : (b : List ℕ) (k : ℕ) → StepRecord b k → StepInRange (stepFrom b k)
+unfolding stepFrom
+step-in-range b k r = record { hour = r .fields .hour; price = r .fields .price; quantity = r .fields .quantity }
+
+block-in-range : (b : List ℕ) (k : ℕ) → BlockRecord b k → BlockInRange (blockFrom b k)
+unfolding blockFrom limits
+block-in-range b k r = record { price = r .fields .price; quantity = r .fields .quantity }
+
+-- Every step and every block of the day
+pub steps-in-range : (b : List ℕ) → Accepted b → Each StepInRange (dayFrom b .steps)
+steps-in-range b a =
+    rw (day-steps b)
+    (each-image StepInRange (stepFrom b) (stepChain b)
+    (each-map (StepRecord b) (λ k. StepInRange (stepFrom b k)) (stepChain b) (step-in-range b) (step-records b a)))
+
+pub blocks-in-range : (b : List ℕ) → Accepted b → Each BlockInRange (dayFrom b .blocks)
+blocks-in-range b a =
+    rw (day-blocks b)
+    (each-image BlockInRange (blockFrom b) (blockChain b)
+    (each-map (BlockRecord b) (λ k. BlockInRange (blockFrom b k)) (blockChain b) (block-in-range b) (block-records b a)))
+
+-- What the rules ask of a day's steps
+prices-of : (l : List Step) → Each StepInRange l → PricesInRange l
+prices-of [] h = tt
+prices-of (s ∷ l) h = (h .0 .price .0, h .0 .price .1, prices-of l (h .1))
+
+hours-of : (l : List Step) → Each StepInRange l → HoursInRange l
+hours-of [] h = tt
+hours-of (s ∷ l) h = (h .0 .hour .0, h .0 .hour .1, hours-of l (h .1))
+
+pub prices-in-range : (b : List ℕ) → Accepted b → PricesInRange (dayFrom b .steps)
+prices-in-range b a = prices-of (dayFrom b .steps) (steps-in-range b a)
+
+pub hours-in-range : (b : List ℕ) → Accepted b → HoursInRange (dayFrom b .steps)
+hours-in-range b a = hours-of (dayFrom b .steps) (steps-in-range b a)
+
+-- BLOCKS OUT OF THEIR COLUMNS
+blocks-from : (b : List ℕ) (l : List ℕ) → map (blockFrom b) l
+    ≡ blocksFrom b l (map (sideByte b) l) (map (blockHoursAt b) l) (map (blockPriceAt b) l) (map (blockQuantityAt b) l)
+unfolding blockFrom blockAt blocksFrom
+blocks-from b [] = refl
+blocks-from b (k ∷ l) = rw (side-same (sideByte b k), blocks-from b l)
+
+-- The day's blocks are those of the first `count` places of the columns
+pub blocks-from-columns : (b : List ℕ) (count : ℕ) (records sides hours prices quantities : List ℕ)
+    → BlockColumns b count records sides hours prices quantities → Accepted b
+    → dayFrom b .blocks
+    ≡ blocksFrom b (take count records) (take count sides) (take count hours) (take count prices) (take count quantities)
+blocks-from-columns b count records sides hours prices quantities c a =
+    day-blocks b
+    ∙ rw (← blocks-all b a, c .recordsAre, c .sidesAre, c .hoursAre, c .pricesAre, c .quantitiesAre) (blocks-from b (blockRecords b))
+
+-- .. and there are `count` of them
+pub block-count : (b : List ℕ) (count : ℕ) (records sides hours prices quantities : List ℕ)
+    → BlockColumns b count records sides hours prices quantities → Accepted b → length (dayFrom b .blocks) ≡ count
+block-count b count records sides hours prices quantities c a =
+    rw (day-blocks b, length-map, ← blocks-all b a) (sym (c .counted))
+
+-- HOURS OF A BLOCK
+hours-counted : (n hours x : ℕ) → sumTo n (λ h. weight hours h * when (holdsHour x h) 1) ≡ hourCount n x
+unfolding sumTo weight hourCount
+hours-counted zero hours x = refl
+hours-counted (suc n) hours x = rw (hours-counted n hours x) (at (holdsHour x (suc n)))
+  where
+    at : (t : Bool) → hourCount n x + 1 * when t 1 ≡ hourCount n x + cond t 1 0
+    at true = refl
+    at false = refl
+
+-- A block of the rules runs in as many hours as its 24 bits say
+pub hour-count : (day-hours number side hours price quantity : ℕ)
+    → day.hourCount day-hours (blockOf number side hours price quantity) ≡ hourCount 24 hours
+unfolding day.hourCount daySum
+hour-count day-hours number side hours price quantity = hours-counted 24 day-hours hours

@@ -1,0 +1,104 @@
+-- THE COLUMNS PLACE BY PLACE: at place i of an accepted book's columns stand the numbers of one record, and they are in their ranges. Assumes nothing.
+use Prim.Native.Nat.{ℕ, zero, suc, _≤_, _<_}
+use mathlib.Core.Path.{_≡_, refl, sym, _∙_}
+use mathlib.Core.List.{List, [], _∷_, map}
+use native.Mathlib.Omega.{arith}
+use lib.ListN.{length, take, getD}
+use lib.Seq.{getD-take}
+use Rattle.book.specs.Records.{sideByte, hourCount}
+use Rattle.rules.specs.Orders.{limits}
+use Rattle.book.specs.Refusals.{Accepted}
+use Rattle.book.proofs.Members.{each-place}
+use Rattle.book.proofs.Accepted.{StepRecord, BlockRecord}
+use Rattle.orders.specs.Columns.{blockRecords, byHour, priceAt, quantityAt, blockHoursAt, blockPriceAt, blockQuantityAt}
+use Rattle.orders.specs.Columns.{StepColumns, BlockColumns}
+use Rattle.orders.proofs.ColumnLaws.{same, map-same}
+use Rattle.orders.proofs.RecordLaws.{byHour-each, step-each, block-each}
+
+map-at : (f : ℕ → ℕ) (l : List ℕ) (i : ℕ) → i < length l → getD (map f l) i 0 ≡ f (getD l i 0)
+map-at f [] i h = absurd (omega arith)
+map-at f (x ∷ l) zero h = refl
+map-at f (x ∷ l) (suc i) h = map-at f l i (omega arith)
+
+place-of : (f : ℕ → ℕ) (n : ℕ) (l column : List ℕ) → n ≡ length l → take n column ≡ map f l → (i : ℕ) → i < n → getD column i 0 ≡ f (getD l i 0)
+place-of f n l column e given i h = sym (getD-take n column i 0 h) ∙ rw given (map-at f l i (omega arith))
+
+-- A step's numbers at one place of the columns: those of record k, which is a step of the book, each in its range
+pub record StepPlace (b : List ℕ) (k side price quantity : ℕ) : Type 0 where
+  pub known : StepRecord b k
+  pub sideIs : side ≡ sideByte b k
+  pub priceIs : price ≡ priceAt b k
+  pub quantityIs : quantity ≡ quantityAt b k
+  pub sideRange : side ≤ 1
+  pub priceRange : (1 ≤ price) × (price ≤ 300000)
+  pub quantityRange : (1 ≤ quantity) × (quantity ≤ 99999)
+
+step-placed : (b : List ℕ) (k side price quantity : ℕ) → StepRecord b k → side ≡ sideByte b k → price ≡ priceAt b k → quantity ≡ quantityAt b k
+    → StepPlace b k side price quantity
+step-placed b k side price quantity r s p q =
+    record {
+      known = r;
+      sideIs = s;
+      priceIs = p;
+      quantityIs = q;
+      sideRange = rw s (r .side);
+      priceRange = rw p (r .fields .price);
+      quantityRange = rw q (r .fields .quantity);
+    }
+
+pub step-place : (b ends records sides prices quantities : List ℕ) → StepColumns b ends records sides prices quantities → Accepted b
+    → (i : ℕ) → i < getD ends 24 0 → StepPlace b (getD records i 0) (getD sides i 0) (getD prices i 0) (getD quantities i 0)
+step-place b ends records sides prices quantities c a i h =
+    let l = byHour b 24 in
+    let n = length l in
+    let g : i < n = (let e = c .endsAt 24 (omega arith) in omega arith) in
+    let k : getD records i 0 ≡ getD l i 0 = place-of same n l records refl (c .recordsAre ∙ sym (map-same l)) i g in
+    rw k
+    (step-placed b (getD l i 0) _ _ _
+    (each-place (StepRecord b) l i 0 (byHour-each (StepRecord b) b 24 (step-each b a)) g)
+    (place-of (sideByte b) n l sides refl (c .sidesAre) i g)
+    (place-of (priceAt b) n l prices refl (c .pricesAre) i g)
+    (place-of (quantityAt b) n l quantities refl (c .quantitiesAre) i g))
+
+-- A block's numbers at one place of the columns: those of record k, which is a block of the book, each in its range
+pub record BlockPlace (b : List ℕ) (k side hours price quantity : ℕ) : Type 0 where
+  pub known : BlockRecord b k
+  pub sideIs : side ≡ sideByte b k
+  pub hoursIs : hours ≡ blockHoursAt b k
+  pub priceIs : price ≡ blockPriceAt b k
+  pub quantityIs : quantity ≡ blockQuantityAt b k
+  pub sideRange : side ≤ 1
+  pub hoursCount : 2 ≤ hourCount 24 hours
+  pub priceRange : (1 ≤ price) × (price ≤ 300000)
+  pub quantityRange : (1 ≤ quantity) × (quantity ≤ 50)
+
+block-placed : (b : List ℕ) (k side hours price quantity : ℕ) → BlockRecord b k → side ≡ sideByte b k → hours ≡ blockHoursAt b k
+    → price ≡ blockPriceAt b k → quantity ≡ blockQuantityAt b k → BlockPlace b k side hours price quantity
+unfolding limits
+block-placed b k side hours price quantity r s x p q =
+    record {
+      known = r;
+      sideIs = s;
+      hoursIs = x;
+      priceIs = p;
+      quantityIs = q;
+      sideRange = rw s (r .side);
+      hoursCount = rw x (r .fields .hours);
+      priceRange = rw p (r .fields .price);
+      quantityRange = rw q (r .fields .quantity);
+    }
+
+pub block-place : (b : List ℕ) (count : ℕ) (records sides hours prices quantities : List ℕ)
+    → BlockColumns b count records sides hours prices quantities → Accepted b → (i : ℕ) → i < count
+    → BlockPlace b (getD records i 0) (getD sides i 0) (getD hours i 0) (getD prices i 0) (getD quantities i 0)
+block-place b count records sides hours prices quantities c a i h =
+    let l = blockRecords b in
+    let e = c .counted in
+    let k : getD records i 0 ≡ getD l i 0 = place-of same count l records e (c .recordsAre ∙ sym (map-same l)) i h in
+    rw k
+    (block-placed b (getD l i 0) _ _ _ _
+    (each-place (BlockRecord b) l i 0 (block-each b a) (omega arith))
+    (place-of (sideByte b) count l sides e (c .sidesAre) i h)
+    (place-of (blockHoursAt b) count l hours e (c .hoursAre) i h)
+    (place-of (blockPriceAt b) count l prices e (c .pricesAre) i h)
+    (place-of (blockQuantityAt b) count l quantities e (c .quantitiesAre) i h))

@@ -1,0 +1,73 @@
+-- S1 TO S10 FROM BOOK BYTES: each book is accepted, its orders are those of the rules' table, and so what is published of it is what the table says.
+-- Reading computes; the rules are not computed again. Assumes nothing.
+use Prim.Native.Nat.{ℕ}
+use mathlib.Core.Path.{_≡_, refl, ap, _∙_}
+use mathlib.Core.List.{List, [], _∷_}
+use Rattle.book.specs.Bytes.{u16At, u24At, u32At, nonzero}
+use Rattle.book.specs.Tests.{within, someBelow, someIn, countIn}
+use Rattle.rules.specs.Orders.{limits}
+use Rattle.book.specs.Records.{stepAt, blockAt, hourCount}
+use Rattle.book.specs.Chains.{chainFrom}
+use Rattle.book.specs.Refusals.{
+  wrongSize,
+  wrongHead,
+  misplaced,
+  broken,
+  brokenChain,
+  stepFits,
+  blockFits,
+  stepInRange,
+  blockInRange,
+  outOfRange,
+  wrongField,
+  stray,
+  strayRecord,
+  ownedBy,
+  tooManyOf,
+  tooManyBlocks,
+  firstOf,
+  ownCauses,
+  refusal,
+}
+use Rattle.rules.specs.Outcome.{published}
+use Rattle.rules.specs.WorkedDays.{WorkedDay, workedDays, Hold}
+use Rattle.rules.proofs.WorkedDayLaws.{worked-days-hold}
+use Rattle.orders.specs.Bridge.{stepFrom, orderFrom, blockFrom, ordersOf}
+use Rattle.orders.specs.WorkedBooks.{chained, bookOf, workedBooks, EachWorked}
+
+-- Every book of a list is accepted
+AllAccepted : List (List ℕ) → Type 0
+AllAccepted [] = Unit {0}
+AllAccepted (b ∷ books) = (refusal b ≡ 0) × AllAccepted books
+
+-- Every book of a list has the orders of its day
+AllRead : List (List ℕ) → List WorkedDay → Type 0
+AllRead [] [] = Unit {0}
+AllRead [] (d ∷ days) = ⊥
+AllRead (b ∷ books) [] = ⊥
+AllRead (b ∷ books) (d ∷ days) = (ordersOf b ≡ d .orders) × AllRead books days
+
+-- What the table says of its orders it then says of the books
+worked : (books : List (List ℕ)) (days : List WorkedDay) → AllAccepted books → AllRead books days → Hold days → EachWorked books days
+unfolding AllAccepted AllRead
+worked [] [] a r h = tt
+worked [] (d ∷ days) a r h = r
+worked (b ∷ books) [] a r h = r
+worked (b ∷ books) (d ∷ days) a r h = (
+  record { accepted = a .0; publishes = ap published (r .0) ∙ h .0; answers = rw (r .0) (h .1) },
+  worked books days (a .1) (r .1) (h .2),
+)
+
+books-accepted : AllAccepted workedBooks
+unfolding AllAccepted workedBooks bookOf chained refusal ownCauses firstOf wrongSize wrongHead brokenChain broken misplaced wrongField outOfRange
+    stepInRange blockInRange stepFits blockFits strayRecord stray tooManyBlocks tooManyOf ownedBy within someBelow someIn countIn nonzero limits
+    hourCount stepAt blockAt chainFrom u16At u24At u32At
+books-accepted = (refl, (refl, (refl, (refl, (refl, (refl, (refl, (refl, (refl, (refl, tt))))))))))
+
+books-read : AllRead workedBooks workedDays
+unfolding AllRead workedBooks workedDays bookOf chained ordersOf orderFrom stepFrom blockFrom stepAt blockAt chainFrom u16At u24At u32At
+books-read = (refl, (refl, (refl, (refl, (refl, (refl, (refl, (refl, (refl, (refl, tt))))))))))
+
+-- S1 TO S10
+pub worked-books-hold : EachWorked workedBooks workedDays
+worked-books-hold = worked workedBooks workedDays books-accepted books-read worked-days-hold

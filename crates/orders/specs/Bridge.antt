@@ -1,0 +1,49 @@
+-- THE BRIDGE from a book's bytes to the rules: its orders as the auction's rules see them (document 01, "The book in bytes"). Definitions only.
+-- Assumes nothing.
+use Prim.Native.Nat.{ℕ}
+use mathlib.Core.List.{List, map}
+use Rattle.book.specs.Records.{dayHours, stepAt, blockAt, holdsHour}
+use Rattle.book.specs.Chains.{stepChain, blockChain}
+use Rattle.book.specs.declared.Side as read
+use Rattle.book.specs.declared.Side.the-variants as read-side
+use Rattle.rules.specs.Orders.{Side, buy, sell, Step, Order, Block, Orders}
+use Rattle.rules.specs.Day.{Day, dayOf}
+
+-- Buy or sell.
+abbrev pub sideFrom : read.Side → Side
+sideFrom read-side.Buy = buy
+sideFrom read-side.Sell = sell
+
+-- Record k as a step of the rules.
+unfoldable pub stepFrom : List ℕ → ℕ → Step
+stepFrom b k =
+    record {
+      hour = stepAt b k .hour;
+      side = sideFrom (stepAt b k .side);
+      price = stepAt b k .price;
+      quantity = stepAt b k .quantity;
+    }
+
+-- Record k as an order of the step chain.
+unfoldable pub orderFrom : List ℕ → ℕ → Order
+orderFrom b k = record { number = stepAt b k .number; step = stepFrom b k }
+
+-- Record k as a block of the rules: hour h is among its hours where bit h − 1 is set.
+unfoldable pub blockFrom : List ℕ → ℕ → Block
+blockFrom b k =
+    record {
+      number = blockAt b k .number;
+      side = sideFrom (blockAt b k .side);
+      price = blockAt b k .price;
+      quantity = blockAt b k .quantity;
+      runs = holdsHour (blockAt b k .hours);
+    }
+
+-- The orders of a book, each chain in its own order.
+unfoldable pub ordersOf : List ℕ → Orders
+ordersOf b =
+    record { hours = dayHours b; steps = map (orderFrom b) (stepChain b); blocks = map (blockFrom b) (blockChain b) }
+
+-- The day that a book makes.
+unfoldable pub dayFrom : List ℕ → Day
+dayFrom b = dayOf (ordersOf b)

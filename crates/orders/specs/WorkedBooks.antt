@@ -1,0 +1,91 @@
+-- THE WORKED DAYS S1 TO S10 AS BOOKS (document 01, "Days to check by hand", "The book in bytes"): each day of the rules' table written out in bytes.
+-- The numbers and portfolios of the base book are decision 23's. `proofs/WorkedBookLaws.antt` proves the whole table. Definitions only. Assumes nothing.
+use Prim.Native.Nat.{ℕ, suc, _+_, _/_, _%_}
+use mathlib.Core.Path.{_≡_}
+use mathlib.Core.List.{List, [], _∷_, _++_}
+use lib.ListN.{length, replicate}
+use Rattle.book.specs.Refusals.{refusal}
+use Rattle.rules.specs.Outcome.{published}
+use Rattle.rules.specs.WorkedDays.{WorkedDay, Answered}
+use Rattle.orders.specs.Bridge.{ordersOf}
+
+-- WRITING
+-- A number in 2, 3 and 4 bytes, high byte first.
+abbrev pub two : ℕ → List ℕ
+two n = n / 256 % 256 ∷ n % 256 ∷ []
+
+abbrev pub three : ℕ → List ℕ
+three n = n / 65536 % 256 ∷ two n
+
+abbrev pub four : ℕ → List ℕ
+four n = n / 16777216 % 256 ∷ three n
+
+-- A step's record, then a block's, each up to the index of the record that follows it on its chain.
+abbrev pub stepRecord : (number side hour portfolio quantity price : ℕ) → ℕ → List ℕ
+stepRecord number side hour portfolio quantity price next =
+    1 ∷ side ∷ two next ++ two number ++ hour ∷ portfolio ∷ four price ++ four quantity
+
+abbrev pub blockRecord : (number side portfolio hours quantity price : ℕ) → ℕ → List ℕ
+blockRecord number side portfolio hours quantity price next =
+    2 ∷ side ∷ two next ++ two number ++ 0 ∷ portfolio ∷ three hours ++ three price ++ two quantity
+
+-- The records of a chain, the first at index k and each followed by the next; the last is followed by none.
+unfoldable pub chained : ℕ → List (ℕ → List ℕ) → List ℕ
+chained k [] = []
+chained k (r ∷ []) = r 0
+chained k (r ∷ (s ∷ l)) = r (suc k) ++ chained (suc k) (s ∷ l)
+
+-- The index of a chain's first record, if it has one, where that is k.
+abbrev pub firstAt : ℕ → List (ℕ → List ℕ) → ℕ
+firstAt k [] = 0
+firstAt k (r ∷ l) = k
+
+-- A book: the head, the steps from record 1 on, the blocks after them.
+unfoldable pub bookOf : List (ℕ → List ℕ) → List (ℕ → List ℕ) → List ℕ
+bookOf steps blocks =
+    two (1 + length steps + length blocks) ++ two (firstAt 1 steps) ++ two (firstAt (1 + length steps) blocks) ++ 24 ∷ 1 ∷ replicate 8 0
+    ++ chained 1 steps ++ chained (1 + length steps) blocks
+
+-- THE BOOKS
+-- A step of portfolio 1, which buys, and of portfolio 2, which sells: number, hour, quantity, price.
+abbrev pub buyStep : ℕ → ℕ → ℕ → ℕ → ℕ → List ℕ
+buyStep number hour = stepRecord number 0 hour 1
+
+abbrev pub sellStep : ℕ → ℕ → ℕ → ℕ → ℕ → List ℕ
+sellStep number hour = stepRecord number 1 hour 2
+
+-- A sell block of portfolio 3, of 50 over hours 1 and 2 (bits 3): number, price.
+abbrev pub sellBlock : ℕ → ℕ → ℕ → List ℕ
+sellBlock number = blockRecord number 1 3 3 50
+
+-- The base book with blocks.
+abbrev pub baseBook : List (ℕ → List ℕ) → List ℕ
+baseBook = bookOf (buyStep 1 1 100 5000 ∷ sellStep 2 1 100 3000 ∷ buyStep 3 2 100 5000 ∷ sellStep 4 2 100 3000 ∷ [])
+
+-- The books of S1 to S10, in the order of the rules' table.
+unfoldable pub workedBooks : List (List ℕ)
+workedBooks =
+    baseBook []
+    ∷ baseBook (sellBlock 1 3900 ∷ [])
+    ∷ baseBook (sellBlock 1 3000 ∷ [])
+    ∷ baseBook (sellBlock 1 3001 ∷ [])
+    ∷ baseBook (sellBlock 1 2900 ∷ [])
+    ∷ baseBook (sellBlock 1 2900 ∷ sellBlock 2 2900 ∷ [])
+    ∷ bookOf (buyStep 1 1 10 4001 ∷ sellStep 2 1 10 3000 ∷ []) []
+    ∷ bookOf (buyStep 1 1 100 300000 ∷ sellStep 2 1 60 2000 ∷ []) []
+    ∷ bookOf (sellStep 1 1 100 1 ∷ []) []
+    ∷ bookOf (sellStep 1 1 60 3000 ∷ sellStep 2 1 60 3000 ∷ buyStep 3 1 100 5000 ∷ []) []
+    ∷ []
+
+-- A book is accepted, all that is published of it is what a worked day says, and so are the prices told of it.
+pub record Worked (b : List ℕ) (d : WorkedDay) : Type 0 where
+  pub accepted : refusal b ≡ 0
+  pub publishes : published (ordersOf b) ≡ d .publishes
+  pub answers : Answered (ordersOf b) (d .prices)
+
+-- So of each book and each day of two lists of the same length.
+abbrev pub EachWorked : List (List ℕ) → List WorkedDay → Type 0
+EachWorked [] [] = Unit {0}
+EachWorked [] (d ∷ days) = ⊥
+EachWorked (b ∷ books) [] = ⊥
+EachWorked (b ∷ books) (d ∷ days) = Worked b d × EachWorked books days

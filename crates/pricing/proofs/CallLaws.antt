@@ -1,0 +1,217 @@
+-- A pricing call: the hour's columns and N are the hour of the book's day under the set, and the refusals come in their order. Assumes nothing.
+use Prim.Native.Nat.{ℕ, zero, suc, _+_, _-_, _*_, _/_, _^_, _≤_, _<_}
+use mathlib.Core.Path.{_≡_, refl, sym, ap, subst, _∙_}
+use mathlib.Core.List.{List, [], _∷_, _++_}
+use mathlib.Core.Bool.{Bool, true, false, cond, not, _&&_, _||_, true≢false}
+use native.Mathlib.Omega.{arith}
+use native.Mathlib.Nat.{le-div-iff-mul-le, div-lt-iff-lt-mul}
+use lib.Pow.{pow-pos, pow-mono}
+use lib.Dec.{eqb, leb, ltb}
+use lib.ListN.{length, take, drop, getD, length-drop}
+use lib.Seq.{slice, length-take-le, getD-take}
+use borrow.Author.Tests.{eq-eqb, ne-eqb, le-leb, lt-leb, lt-ltb, le-ltb, ltb-true, ltb-false}
+use Rattle.book.specs.Tests.{within}
+use Rattle.book.specs.Chains.{blockChain}
+use Rattle.book.specs.Refusals.{Accepted, refusal, firstOf, ownCauses}
+use Rattle.book.proofs.Accepted.{accepted-zero}
+use Rattle.book.proofs.Refused.{bounds, refusal-then}
+use Rattle.rules.specs.Orders.{Side, buy, sell, Block}
+use Rattle.rules.specs.Hour.{bySide, when, pricing}
+use Rattle.rules.specs.Day.{Day, stepsIn, taken, decisions, overBlocks, sells, buys, hourOf}
+use Rattle.rules.specs.Contender.{PricesInRange}
+use Rattle.rules.proofs.Tests.{by-le, by-lt}
+use Rattle.rules.proofs.CurveLaws.{when-zero, when-le}
+use Rattle.rules.proofs.PricingLaws.{pricing-net}
+use Rattle.rules.proofs.ChainLaws.{prices-in}
+use Rattle.orders.specs.Bridge.{dayFrom}
+use Rattle.orders.specs.Columns.{StepColumns, BlockColumns, stepsFrom, blocksFrom, blockOf, sideFor}
+use Rattle.orders.proofs.HourLaws.{hour-from-columns}
+use Rattle.orders.proofs.BridgeLaws.{prices-in-range, blocks-from-columns, block-count}
+use Rattle.orders.proofs.PlaceLaws.{block-place}
+use Rattle.pricing.specs.Curves.{bias, hourWith, tradersFrom, TradesOf}
+use Rattle.pricing.specs.Answers.{answerFor, AnswerOf, blocksOf, NetOf, hourAnswered, wrongCall, priceCauses, hourAnswer}
+use Rattle.pricing.specs.declared.HourAnswer.{HourAnswer}
+use Rattle.pricing.specs.declared.HourAnswer.the-variants.{Cleared, NotClearing, Refused}
+
+-- TRADES
+-- a block's number and price play no part in what it sells or buys in an hour
+traders-same : (f : Block → ℕ) → ((n s x p q : ℕ) → f (blockOf n s x p q) ≡ f (blockOf 0 s x 0 q)) →
+    (b records sides hours prices quantities : List ℕ) → length sides ≡ length records → length hours ≡ length records → length prices ≡ length records →
+    length quantities ≡ length records → (set : List Bool) →
+    overBlocks f (taken (blocksFrom b records sides hours prices quantities) set) ≡ overBlocks f (taken (tradersFrom sides hours quantities) set)
+unfolding blocksFrom tradersFrom
+traders-same f e b [] [] hours prices quantities a c d g set = refl
+traders-same f e b [] (s ∷ sides) hours prices quantities a c d g set = absurd (omega arith)
+traders-same f e b (k ∷ records) [] hours prices quantities a c d g set = absurd (omega arith)
+traders-same f e b (k ∷ records) (s ∷ sides) [] prices quantities a c d g set = absurd (omega arith)
+traders-same f e b (k ∷ records) (s ∷ sides) (x ∷ hours) [] quantities a c d g set = absurd (omega arith)
+traders-same f e b (k ∷ records) (s ∷ sides) (x ∷ hours) (p ∷ prices) [] a c d g set = absurd (omega arith)
+traders-same f e b (k ∷ records) (s ∷ sides) (x ∷ hours) (p ∷ prices) (q ∷ quantities) a c d g [] = refl
+traders-same f e b (k ∷ records) (s ∷ sides) (x ∷ hours) (p ∷ prices) (q ∷ quantities) a c d g (true ∷ set) =
+    omega (
+      arith,
+      e (Rattle.book.specs.Records.number b k) s x p q,
+      traders-same f e b records sides hours prices quantities (omega arith) (omega arith) (omega arith) (omega arith) set,
+    )
+traders-same f e b (k ∷ records) (s ∷ sides) (x ∷ hours) (p ∷ prices) (q ∷ quantities) a c d g (false ∷ set) =
+    traders-same f e b records sides hours prices quantities (omega arith) (omega arith) (omega arith) (omega arith) set
+
+-- blocks of at most 50 each
+traders-fit : (f : Block → ℕ) → ((s x q : ℕ) → f (blockOf 0 s x 0 q) ≤ q) → (sides hours quantities : List ℕ) →
+    ((i : ℕ) → i < length sides → getD quantities i 0 ≤ 50) → (set : List Bool) →
+    overBlocks f (taken (tradersFrom sides hours quantities) set) ≤ length sides * 50
+unfolding tradersFrom
+traders-fit f e [] hours quantities small set = omega arith
+traders-fit f e (s ∷ sides) [] quantities small set = omega arith
+traders-fit f e (s ∷ sides) (x ∷ hours) [] small set = omega arith
+traders-fit f e (s ∷ sides) (x ∷ hours) (q ∷ quantities) small [] = omega arith
+traders-fit f e (s ∷ sides) (x ∷ hours) (q ∷ quantities) small (true ∷ set) =
+    omega (arith, e s x q, small 0 (omega arith), traders-fit f e sides hours quantities (λ i k. small (suc i) (omega arith)) set)
+traders-fit f e (s ∷ sides) (x ∷ hours) (q ∷ quantities) small (false ∷ set) =
+    omega (arith, traders-fit f e sides hours quantities (λ i k. small (suc i) (omega arith)) set)
+
+side-le : (t : Bool) (side : Side) (q : ℕ) → (when t (bySide side q 0) ≤ q) × (when t (bySide side 0 q) ≤ q)
+side-le t buy q = (when-le t q, omega (arith, when-zero t))
+side-le t sell q = (omega (arith, when-zero t), when-le t q)
+
+module _ (b : List ℕ) (a : Accepted b) (count : ℕ) (records sides hours prices quantities : List ℕ)
+    (columns : BlockColumns b count records sides hours prices quantities)
+    (er : length records ≡ 32) (es : length sides ≡ 32) (eh : length hours ≡ 32) (ep : length prices ≡ 32) (eq : length quantities ≡ 32)
+    (set h sales bought : ℕ) (trades : TradesOf (take count sides) (take count hours) (take count quantities) set h sales bought) where
+  size : (l : List ℕ) → length l ≡ 32 → length (take count l) ≡ count
+  size l e = length-take-le count l (omega (arith, columns .few))
+
+  -- they are few enough to be added to and taken off the bias
+  pub trades-fit : (sales ≤ 1600) × (bought ≤ 1600)
+  trades-fit =
+      let small : (i : ℕ) → i < length (take count sides) → getD (take count quantities) i 0 ≤ 50 = λ i k.
+      let j : i < count = omega (arith, size sides es) in
+      rw (getD-take count quantities i 0 j) (block-place b count records sides hours prices quantities columns a i j .quantityRange .1) in
+      let n = size sides es in (
+        omega (
+          arith,
+          trades .sold,
+          columns .few,
+          traders-fit (sells h) (λ s x q. side-le (Rattle.book.specs.Records.holdsHour x h) (sideFor s) q .1) (take count sides) (take count hours) (take count quantities)
+              small (decisions (length (take count sides)) set),
+        ),
+        omega (
+          arith,
+          trades .bought,
+          columns .few,
+          traders-fit (buys h) (λ s x q. side-le (Rattle.book.specs.Records.holdsHour x h) (sideFor s) q .0) (take count sides) (take count hours) (take count quantities)
+              small (decisions (length (take count sides)) set),
+        ),
+      )
+
+  abbrev S : List Block
+  S = taken (dayFrom b .blocks) (decisions (length (dayFrom b .blocks)) set)
+
+  trades-are : (overBlocks (sells h) S ≡ sales) × (overBlocks (buys h) S ≡ bought)
+  trades-are =
+      let c = block-count b count records sides hours prices quantities columns a in
+      let traders = tradersFrom (take count sides) (take count hours) (take count quantities) in
+      let sold : overBlocks (sells h) (taken traders (decisions count set)) ≡ sales =
+      subst (λ n. overBlocks (sells h) (taken traders (decisions n set)) ≡ sales) (size sides es) (sym (trades .sold)) in
+      let purchased : overBlocks (buys h) (taken traders (decisions count set)) ≡ bought =
+      subst (λ n. overBlocks (buys h) (taken traders (decisions n set)) ≡ bought) (size sides es) (sym (trades .bought)) in (
+        rw (c, blocks-from-columns b count records sides hours prices quantities columns a)
+            (traders-same (sells h) (λ n s x p q. refl) b (take count records) (take count sides) (take count hours) (take count prices) (take count quantities)
+            (size sides es ∙ sym (size records er)) (size hours eh ∙ sym (size records er)) (size prices ep ∙ sym (size records er))
+            (size quantities eq ∙ sym (size records er)) (decisions count set) ∙ sold),
+        rw (c, blocks-from-columns b count records sides hours prices quantities columns a)
+            (traders-same (buys h) (λ n s x p q. refl) b (take count records) (take count sides) (take count hours) (take count prices) (take count quantities)
+            (size sides es ∙ sym (size records er)) (size hours eh ∙ sym (size records er)) (size prices ep ∙ sym (size records er))
+            (size quantities eq ∙ sym (size records er)) (decisions count set) ∙ purchased),
+      )
+
+  pub net-is : NetOf b set h (bias + sales - bought)
+  net-is = omega (arith, trades-are, trades-fit)
+
+-- THE HOUR by its columns and N
+-- a part of a column, as code takes it and as the columns' laws say it
+abbrev pub part : ℕ → ℕ → List ℕ → List ℕ
+part from to l = take (to - from) (drop from l)
+
+part-slice : (from to : ℕ) (l : List ℕ) → part from to l ≡ slice from to l
+part-slice zero to l = let e : to - 0 ≡ to = omega arith in ap (λ n. take n l) e
+part-slice (suc from) zero l = let e : 0 - suc from ≡ 0 = omega arith in ap (λ n. take n (drop (suc from) l)) e
+part-slice (suc from) (suc to) [] = none (suc to - suc from)
+  where
+    none : (n : ℕ) → _≡_ {A = List ℕ} (take n []) []
+    none zero = refl
+    none (suc n) = refl
+part-slice (suc from) (suc to) (x ∷ l) = let e : suc to - suc from ≡ to - from = omega arith in ap (λ n. take n (drop from l)) e ∙ part-slice from to l
+
+pub part-length : (from to : ℕ) (l : List ℕ) → from ≤ to → to ≤ length l → length (part from to l) ≡ to - from
+part-length from to l k j = length-take-le (to - from) (drop from l) (omega (arith, length-drop from l))
+
+pub answer-is : (b : List ℕ) → Accepted b → (ends records sides prices quantities : List ℕ) → StepColumns b ends records sides prices quantities →
+    (h n : ℕ) → 1 ≤ h → h ≤ 24 → (r : HourAnswer) →
+    AnswerOf (part (getD ends (h - 1) 0) (getD ends h 0) sides) (part (getD ends (h - 1) 0) (getD ends h 0) prices)
+    (part (getD ends (h - 1) 0) (getD ends h 0) quantities) n r →
+    r ≡ answerFor (pricing record { steps = stepsIn h (dayFrom b .steps); blockSales = n; blockBuys = bias })
+answer-is b a ends records sides prices quantities steps h n first last r answer =
+    let at = part-slice (getD ends (h - 1) 0) (getD ends h 0) in
+    let l : stepsIn h (dayFrom b .steps) ≡ stepsFrom h (part (getD ends (h - 1) 0) (getD ends h 0) sides) (part (getD ends (h - 1) 0) (getD ends h 0) prices)
+    (part (getD ends (h - 1) 0) (getD ends h 0) quantities) =
+    rw (at sides, at prices, at quantities) (hour-from-columns b ends records sides prices quantities steps a h first last) in
+    let range : PricesInRange (stepsIn h (dayFrom b .steps)) = prices-in h (dayFrom b .steps) (prices-in-range b a) in
+    answer h (rw l at range) ∙ rw (← l)
+
+-- N alone decides
+pub hour-answered : (b : List ℕ) (set h n : ℕ) → NetOf b set h n →
+    answerFor (pricing record { steps = stepsIn h (dayFrom b .steps); blockSales = n; blockBuys = bias }) ≡ answerFor (hourAnswered b set h)
+unfolding hourAnswered
+hour-answered b set h n e =
+    ap answerFor (pricing-net (stepsIn h (dayFrom b .steps)) n bias (overBlocks (sells h) (blocksOf b set)) (overBlocks (buys h) (blocksOf b set)) (omega arith))
+
+-- REFUSALS
+pub absent-named : (set count : ℕ) → not (eqb (set / 2 ^ count) 0) ≡ leb (2 ^ count) set
+absent-named set count =
+    by-le (λ t. not (eqb (set / 2 ^ count) 0) ≡ t) (2 ^ count) set
+    (λ k. let z : 1 ≤ set / 2 ^ count = le-div-iff-mul-le (pow-pos count) .1 (omega arith) in rw (ne-eqb (set / 2 ^ count) 0 (omega arith)))
+    (λ k. let z : set / 2 ^ count < 1 = div-lt-iff-lt-mul (pow-pos count) .1 (omega arith) in rw (eq-eqb (set / 2 ^ count) 0 (omega arith)))
+
+pub bits-enough : (set count : ℕ) → set < 2 ^ 32 → 32 ≤ count → leb (2 ^ count) set ≡ false
+bits-enough set count room k = lt-leb (2 ^ count) set (omega (arith, pow-mono {i = 32} {j = count} k))
+
+-- THE CALL: the book's own refusals, then 8, then the answer
+pub call-refused : (b : List ℕ) (set hour n : ℕ) → refusal b ≡ n → (n ≡ 0 → ⊥) → hourAnswer b set hour ≡ Refused n
+unfolding hourAnswer priceCauses
+call-refused b set hour n e f =
+    let first : firstOf (ownCauses b ++ ((wrongCall b set hour, 8) ∷ [])) ≡ n =
+    refusal-then b ((wrongCall b set hour, 8) ∷ []) ∙ rw (e, ne-eqb n 0 f) in
+    rw (first, ne-eqb n 0 f)
+
+module _ (b : List ℕ) (a : Accepted b) (set hour : ℕ) where
+  causes-are : firstOf (priceCauses b set hour) ≡ cond (wrongCall b set hour) 8 0
+  unfolding priceCauses firstOf
+  causes-are = refusal-then b ((wrongCall b set hour, 8) ∷ []) ∙ rw (accepted-zero b a)
+
+  pub call-wrong : wrongCall b set hour ≡ true → hourAnswer b set hour ≡ Refused 8
+  unfolding hourAnswer
+  call-wrong e = rw (causes-are, e)
+
+  pub call-answered : wrongCall b set hour ≡ false → hourAnswer b set hour ≡ answerFor (hourAnswered b set hour)
+  unfolding hourAnswer
+  call-answered e = rw (causes-are, e)
+
+  pub call-bounds : wrongCall b set hour ≡ false → (1 ≤ hour) × (hour ≤ 24)
+  unfolding wrongCall
+  call-bounds e = bounds 1 hour 24 (inside (within 1 hour 24) refl)
+    where
+      inside : (t : Bool) → within 1 hour 24 ≡ t → t ≡ true
+      inside true k = refl
+      inside false k = absurd (true≢false (ap (λ t. not t || leb (2 ^ length (blockChain b)) set) (sym k) ∙ e))
+
+  -- the code's test for 8
+  pub wrong-is : (absent : Bool) → absent ≡ leb (2 ^ length (blockChain b)) set → ((ltb hour 1 || ltb 24 hour) || absent) ≡ wrongCall b set hour
+  unfolding wrongCall within
+  wrong-is absent e =
+      rw e (by-lt (λ t. ((t || ltb 24 hour) || x) ≡ (not (leb 1 hour && leb hour 24) || x)) hour 1
+      (λ k. rw (lt-leb 1 hour k))
+      (λ k. rw (le-leb 1 hour k) (by-lt (λ t. (t || x) ≡ (not (leb hour 24) || x)) 24 hour (λ j. rw (lt-leb hour 24 j)) (λ j. rw (le-leb hour 24 j)))))
+    where
+      x : Bool
+      x = leb (2 ^ length (blockChain b)) set

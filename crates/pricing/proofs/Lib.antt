@@ -1,0 +1,10 @@
+-- Laws of pricing.
+pub mod TotalsLaws
+pub mod TradeLaws
+pub mod EndLaws
+pub mod AnswerLaws
+pub mod ShareLaws
+pub mod LevelLaws
+pub mod RangeLaws
+pub mod GapLaws
+pub mod CallLaws

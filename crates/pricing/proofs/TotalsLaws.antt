@@ -1,0 +1,121 @@
+-- The totals of columns, one order at a time. Assumes nothing.
+use Prim.Native.Nat.{ℕ, zero, suc, _+_, _*_, _^_, _≤_, _<_}
+use mathlib.Core.Path.{_≡_, refl, _∙_}
+use mathlib.Core.List.{List, [], _∷_}
+use mathlib.Core.Bool.{Bool, true, false}
+use native.Mathlib.Omega.{arith}
+use native.Mathlib.Numerals.{add-one}
+use lib.Dec.{ltb, leb}
+use lib.ListN.{length, drop, getD, drop-of-length-le}
+use lib.Seq.{drop-cons}
+use borrow.Author.Tests.{lt-ltb, le-ltb, le-leb, lt-leb}
+use Rattle.rules.specs.Orders.{Side, buy, sell, Step}
+use Rattle.rules.specs.Hour.{bySide, when, total, buysAbove, sellsTo}
+use Rattle.rules.proofs.CurveLaws.{when-zero, when-le}
+use Rattle.orders.specs.Columns.{sideFor, stepsFrom}
+use Rattle.pricing.specs.Curves.{Columns, TotalsAt}
+
+-- A SIDE as a number
+pub side-sell : (s : ℕ) → (s ≡ 0 → ⊥) → sideFor s ≡ sell
+side-sell zero h = absurd (h refl)
+side-sell (suc s) h = refl
+
+-- ONE ORDER, by the way it goes: what is added to the buys above, and to the sells up to the price
+module _ (p x q a u : ℕ) where
+  abbrev Added : Side → ℕ → ℕ → Type 0
+  Added side a′ u′ = (a′ ≡ a + when (ltb p x) (bySide side q 0)) × (u′ ≡ u + when (leb x p) (bySide side 0 q))
+
+  pub buy-above : (s : ℕ) → s ≡ 0 → p < x → Added (sideFor s) (a + q) u
+  buy-above s e h = rw (e, lt-ltb p x h) (omega arith, omega (arith, when-zero (leb x p)))
+
+  pub buy-not : (s : ℕ) → s ≡ 0 → x ≤ p → Added (sideFor s) a u
+  buy-not s e h = rw (e, le-ltb p x h) (omega arith, omega (arith, when-zero (leb x p)))
+
+  pub sell-upto : (s : ℕ) → (s ≡ 0 → ⊥) → x ≤ p → Added (sideFor s) a (u + q)
+  sell-upto s e h = rw (side-sell s e, le-leb x p h) (omega (arith, when-zero (ltb p x)), omega arith)
+
+  pub sell-not : (s : ℕ) → (s ≡ 0 → ⊥) → p < x → Added (sideFor s) a u
+  sell-not s e h = rw (side-sell s e, lt-leb x p h) (omega (arith, when-zero (ltb p x)), omega arith)
+
+-- THE REST OF THE COLUMNS
+abbrev pub restOf : ℕ → List ℕ → List ℕ → List ℕ → ℕ → List Step
+restOf h sides prices quantities i = stepsFrom h (drop i sides) (drop i prices) (drop i quantities)
+
+pub rest-more : (h : ℕ) (sides prices quantities : List ℕ) (i : ℕ) → length sides ≡ length prices → length sides ≡ length quantities → i < length sides →
+    restOf h sides prices quantities i
+    ≡ record { hour = h; side = sideFor (getD sides i 0); price = getD prices i 0; quantity = getD quantities i 0 }
+    ∷ restOf h sides prices quantities (i + 1)
+unfolding stepsFrom
+rest-more h sides prices quantities i ep eq k =
+    let kp : i < length prices = omega arith in
+    let kq : i < length quantities = omega arith in
+    rw (add-one, drop-cons sides i 0 k, drop-cons prices i 0 kp, drop-cons quantities i 0 kq)
+
+pub rest-end : (h : ℕ) (sides prices quantities : List ℕ) (i : ℕ) → length sides ≤ i → restOf h sides prices quantities i ≡ []
+unfolding stepsFrom
+rest-end h sides prices quantities i k = rw (drop-of-length-le sides k)
+
+-- a step's part of the two totals
+pub buysAbove-more : (p : ℕ) (s : Step) (l : List Step) → buysAbove p (s ∷ l) ≡ when (ltb p (s .price)) (bySide (s .side) (s .quantity) 0) + buysAbove p l
+unfolding buysAbove
+buysAbove-more p s l = refl
+
+pub sellsTo-more : (p : ℕ) (s : Step) (l : List Step) → sellsTo p (s ∷ l) ≡ when (leb (s .price) p) (bySide (s .side) 0 (s .quantity)) + sellsTo p l
+unfolding sellsTo
+sellsTo-more p s l = refl
+
+pub buysAbove-none : (p : ℕ) → buysAbove p [] ≡ 0
+unfolding buysAbove
+buysAbove-none p = refl
+
+pub sellsTo-none : (p : ℕ) → sellsTo p [] ≡ 0
+unfolding sellsTo
+sellsTo-none p = refl
+
+-- COUNTING: the totals so far and those of the rest are the whole
+pub record Counted (sides prices quantities : List ℕ) (price above upto i : ℕ) : Type 0 where
+  pub inside : i ≤ length sides
+  pub buys : (h : ℕ) → buysAbove price (stepsFrom h sides prices quantities) ≡ above + buysAbove price (restOf h sides prices quantities i)
+  pub sells : (h : ℕ) → sellsTo price (stepsFrom h sides prices quantities) ≡ upto + sellsTo price (restOf h sides prices quantities i)
+  pub aboveFits : above ≤ i * 2 ^ 32
+  pub uptoFits : upto ≤ i * 2 ^ 32
+
+pub counted-none : (sides prices quantities : List ℕ) (price : ℕ) → Counted sides prices quantities price 0 0 0
+counted-none sides prices quantities price =
+    record { inside = omega arith; buys = λ h. omega arith; sells = λ h. omega arith; aboveFits = omega arith; uptoFits = omega arith }
+
+bySide-le : (side : Side) (q : ℕ) → (bySide side q 0 ≤ q) × (bySide side 0 q ≤ q)
+bySide-le buy q = (omega arith, omega arith)
+bySide-le sell q = (omega arith, omega arith)
+
+module _ (sides prices quantities : List ℕ) (columns : Columns sides prices quantities) (price : ℕ) where
+  more : (h i : ℕ) → i < length sides →
+      restOf h sides prices quantities i
+      ≡ record { hour = h; side = sideFor (getD sides i 0); price = getD prices i 0; quantity = getD quantities i 0 }
+      ∷ restOf h sides prices quantities (i + 1)
+  more h i k = rest-more h sides prices quantities i (columns .asManyPrices) (columns .asManyQuantities) k
+
+  pub counted-next : (above upto above′ upto′ i : ℕ) → Counted sides prices quantities price above upto i → i < length sides →
+      getD quantities i 0 < 2 ^ 32 →
+      above′ ≡ above + when (ltb price (getD prices i 0)) (bySide (sideFor (getD sides i 0)) (getD quantities i 0) 0) →
+      upto′ ≡ upto + when (leb (getD prices i 0) price) (bySide (sideFor (getD sides i 0)) 0 (getD quantities i 0)) →
+      Counted sides prices quantities price above′ upto′ (i + 1)
+  counted-next above upto above′ upto′ i c k small ea eu =
+      let q = getD quantities i 0 in
+      let side = sideFor (getD sides i 0) in
+      record {
+        inside = omega arith;
+        buys = λ h. c .buys h ∙ rw (more h i k, buysAbove-more) (omega arith);
+        sells = λ h. c .sells h ∙ rw (more h i k, sellsTo-more) (omega arith);
+        aboveFits = omega (arith, c .aboveFits, when-le (ltb price (getD prices i 0)) (bySide side q 0), bySide-le side q);
+        uptoFits = omega (arith, c .uptoFits, when-le (leb (getD prices i 0) price) (bySide side 0 q), bySide-le side q);
+      }
+
+  pub counted-all : (above upto i : ℕ) → Counted sides prices quantities price above upto i → length sides ≤ i →
+      TotalsAt sides prices quantities price above upto
+  counted-all above upto i c k = record {
+    buys = λ h. let e = rw (rest-end h sides prices quantities i k, buysAbove-none) at (c .buys h) in omega arith;
+    sells = λ h. let e = rw (rest-end h sides prices quantities i k, sellsTo-none) at (c .sells h) in omega arith;
+    aboveFits = omega (arith, c .aboveFits, c .inside, columns .notTooMany);
+    uptoFits = omega (arith, c .uptoFits, c .inside, columns .notTooMany);
+  }

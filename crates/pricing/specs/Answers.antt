@@ -1,0 +1,63 @@
+-- WHAT PRICING AN HOUR ANSWERS (document 01, "Pricing an hour gives one of three answers"), for every byte string, set and hour. Definitions only.
+-- Assumes nothing.
+use Prim.Native.Nat.{ℕ, _+_, _^_}
+use mathlib.Core.List.{List, [], _∷_, _++_}
+use mathlib.Core.Bool.{Bool, true, false, cond, not, _||_}
+use mathlib.Core.Path.{_≡_}
+use lib.Dec.{eqb, leb}
+use lib.ListN.{length}
+use Rattle.book.specs.Tests.{within}
+use Rattle.book.specs.Chains.{blockChain}
+use Rattle.book.specs.Refusals.{ownCauses, firstOf}
+use Rattle.rules.specs.Hour.{Pricing, cleared, doesNotClear, pricing}
+use Rattle.rules.specs.Orders.{Block}
+use Rattle.rules.specs.Day.{Day, taken, decisions, overBlocks, sells, buys, hourOf}
+use Rattle.rules.specs.Contender.{PricesInRange}
+use Rattle.orders.specs.Bridge.{dayFrom}
+use Rattle.orders.specs.Columns.{stepsFrom}
+use Rattle.pricing.specs.Curves.{bias, hourWith}
+use Rattle.pricing.specs.declared.HourAnswer.{HourAnswer}
+use Rattle.pricing.specs.declared.HourAnswer.the-variants.{Cleared, NotClearing, Refused}
+
+-- The answer for what the rules say of an hour.
+abbrev pub answerFor : Pricing → HourAnswer
+answerFor (cleared low high price) = Cleared low high price
+answerFor doesNotClear = NotClearing
+
+-- Document 01's number for an answer; 0, which is ours, where it is no refusal.
+abbrev pub numberOf : HourAnswer → ℕ
+numberOf (Cleared low high price) = 0
+numberOf NotClearing = 0
+numberOf (Refused n) = n
+
+-- 8: hour outside 1 to 24, or a set that names a block position not there.
+unfoldable pub wrongCall : List ℕ → ℕ → ℕ → Bool
+wrongCall b set hour = not (within 1 hour 24) || leb (2 ^ length (blockChain b)) set
+
+-- The causes of a pricing call in the order in which they are looked for: the book's own, then 8.
+unfoldable pub priceCauses : List ℕ → ℕ → ℕ → List (Bool × ℕ)
+priceCauses b set hour = ownCauses b ++ ((wrongCall b set hour, 8) ∷ [])
+
+-- The hour of the book's day under the set, the lowest bit for the first block.
+unfoldable pub hourAnswered : List ℕ → ℕ → ℕ → Pricing
+hourAnswered b set hour =
+    pricing (hourOf (dayFrom b) (taken (dayFrom b .blocks) (decisions (length (dayFrom b .blocks)) set)) hour)
+
+-- The answer of a pricing call.
+unfoldable pub hourAnswer : List ℕ → ℕ → ℕ → HourAnswer
+hourAnswer b set hour =
+    let number = firstOf (priceCauses b set hour) in
+    cond (eqb number 0) (answerFor (hourAnswered b set hour)) (Refused number)
+
+-- The answer for columns and N is the rules' answer for their hour, whichever hour it is, where its prices are in range.
+abbrev pub AnswerOf : List ℕ → List ℕ → List ℕ → ℕ → HourAnswer → Type 0
+AnswerOf sides prices quantities n r =
+    (h : ℕ) → PricesInRange (stepsFrom h sides prices quantities) → r ≡ answerFor (pricing (hourWith h sides prices quantities n))
+
+-- The blocks of the book that a set of bits holds.
+abbrev pub blocksOf : List ℕ → ℕ → List Block
+blocksOf b set = taken (dayFrom b .blocks) (decisions (length (dayFrom b .blocks)) set)
+
+-- N of an hour under a set, held with the bias.
+abbrev pub NetOf : List ℕ → ℕ → ℕ → ℕ → Type 0
+NetOf b set hour n = n + overBlocks (buys hour) (blocksOf b set) ≡ bias + overBlocks (sells hour) (blocksOf b set)

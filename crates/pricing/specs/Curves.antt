@@ -1,0 +1,76 @@
+-- AN HOUR AS COLUMNS AND A NUMBER: what the price finder is given, neither the book, the set nor the blocks. Definitions only. Assumes nothing.
+use Prim.Native.Nat.{ℕ, _+_, _*_, _^_, _≤_, _<_}
+use mathlib.Core.List.{List, [], _∷_, map}
+use mathlib.Core.Path.{_≡_}
+use lib.ListN.{length}
+use Rattle.orders.specs.Columns.{sideFor, stepsFrom, blockOf}
+use Rattle.rules.specs.Orders.{Step, Block, maxPrice}
+use Rattle.rules.specs.Hour.{Hour, buysAbove, sellsTo}
+use Rattle.rules.specs.Execution.{inFull, buyingAt, sellingAt, buyAmount, sellAmount, shares, plus, execution}
+use Rattle.rules.specs.Day.{taken, decisions, overBlocks, sells, buys as buysIn}
+
+-- N is held as one number that is never negative: this, plus block sales, less block purchases.
+abbrev pub bias : ℕ
+bias = 2097152
+
+-- The hour of three columns (sides, prices, quantities) and N.
+abbrev pub hourWith : ℕ → List ℕ → List ℕ → List ℕ → ℕ → Hour
+hourWith h sides prices quantities n = record { steps = stepsFrom h sides prices quantities; blockSales = n; blockBuys = bias }
+
+-- At price q the buys above and the blocks' purchases, with a margin, are no more than the sells to q and the blocks' sales.
+abbrev pub Covered : ℕ → Hour → ℕ → Type 0
+Covered margin hour q = buysAbove q (hour .steps) + hour .blockBuys + margin ≤ sellsTo q (hour .steps) + hour .blockSales
+
+-- r is the least price at which that holds, or the highest price where it holds at none below.
+pub record LeastCovered (margin : ℕ) (hour : Hour) (r : ℕ) : Type 0 where
+  pub positive : 1 ≤ r
+  pub inRange : r ≤ maxPrice
+  pub below : (q : ℕ) → 1 ≤ q → q < r → sellsTo q (hour .steps) + hour .blockSales < buysAbove q (hour .steps) + hour .blockBuys + margin
+  pub holds : r < maxPrice → Covered margin hour r
+
+-- What the columns' steps buy above a price and sell to it, whatever hour they are of.
+pub record TotalsAt (sides prices quantities : List ℕ) (price above upto : ℕ) : Type 0 where
+  pub buys : (h : ℕ) → above ≡ buysAbove price (stepsFrom h sides prices quantities)
+  pub sells : (h : ℕ) → upto ≡ sellsTo price (stepsFrom h sides prices quantities)
+  pub aboveFits : above ≤ 2048 * 2 ^ 32
+  pub uptoFits : upto ≤ 2048 * 2 ^ 32
+
+-- Columns of one length, at most 2,048.
+pub record Columns (sides prices quantities : List ℕ) : Type 0 where
+  pub asManyPrices : length sides ≡ length prices
+  pub asManyQuantities : length sides ≡ length quantities
+  pub notTooMany : length sides ≤ 2048
+
+-- Blocks out of the columns that trades go by (sides, hours, quantities); their numbers and prices play no part in an hour's totals.
+unfoldable pub tradersFrom : List ℕ → List ℕ → List ℕ → List Block
+tradersFrom [] hours quantities = []
+tradersFrom (s ∷ sides) [] quantities = []
+tradersFrom (s ∷ sides) (x ∷ hours) [] = []
+tradersFrom (s ∷ sides) (x ∷ hours) (q ∷ quantities) = blockOf 0 s x 0 q ∷ tradersFrom sides hours quantities
+
+-- What the blocks of a set given as bits sell and buy in hour h.
+pub record TradesOf (sides hours quantities : List ℕ) (set h sales buys : ℕ) : Type 0 where
+  pub sold : sales ≡ overBlocks (sells h) (taken (tradersFrom sides hours quantities) (decisions (length sides) set))
+  pub bought : buys ≡ overBlocks (buysIn h) (taken (tradersFrom sides hours quantities) (decisions (length sides) set))
+
+-- EXECUTION out of columns
+-- A step by its side, price and quantity; its hour plays no part in what it gets.
+abbrev pub stepFor : ℕ → ℕ → ℕ → Step
+stepFor side price quantity = record { hour = 0; side = sideFor side; price = price; quantity = quantity }
+
+-- The amounts for the steps at a price, whatever hour the columns are of.
+pub record AmountsOf (sides prices quantities : List ℕ) (n price buys sells : ℕ) : Type 0 where
+  pub forBuys : (h : ℕ) → buys ≡ buyAmount (hourWith h sides prices quantities n) price
+  pub forSells : (h : ℕ) → sells ≡ sellAmount (hourWith h sides prices quantities n) price
+
+-- What steps get at a price, where so much is left for the buys at it and so much for the sells.
+unfoldable pub sharedOut : ℕ → ℕ → ℕ → List Step → List ℕ
+sharedOut price buys sells l =
+    plus (map (inFull price) l) (plus (shares buys (map (buyingAt price) l)) (shares sells (map (sellingAt price) l)))
+
+abbrev pub SharedOut : List ℕ → List ℕ → List ℕ → ℕ → ℕ → ℕ → List ℕ → Type 0
+SharedOut sides prices quantities price buys sells out = (h : ℕ) → out ≡ sharedOut price buys sells (stepsFrom h sides prices quantities)
+
+-- The executed quantities of an hour's columns at a price.
+abbrev pub ExecutedOf : List ℕ → List ℕ → List ℕ → ℕ → ℕ → List ℕ → Type 0
+ExecutedOf sides prices quantities n price out = (h : ℕ) → out ≡ execution (hourWith h sides prices quantities n) price

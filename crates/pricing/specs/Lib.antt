@@ -1,0 +1,4 @@
+-- Pricing one hour: its columns and N, and what a pricing call answers. Definitions only.
+pub mod Curves
+pub mod Answers
+pub mod Tables
