@@ -1,1 +1,2 @@
--- The calls for other languages meet their contracts.
+-- The laws that the calls' proofs cite; each call's own proof stands in its folder.
+pub mod NumberLaws

@@ -4,8 +4,11 @@ ghost use Rattle.book.specs.Refusals.{refusal};
 ghost use Rattle.pricing.specs.Answers.{hourAnswer};
 ghost use Rattle.exports.specs.Parts.{answerPart};
 use book::Reading;
+ghost use Rattle.clearing.specs.Promise.{clearRefusal, resultAfter};
 use book::read;
 use pricing::HourAnswer;
+use clearing::clear;
+use clearing::Clearing;
 use pricing::price;
 
 // The book's refusal, 0 for an accepted book.
@@ -43,5 +46,18 @@ pub extern "C" fn auction_price(book: &[u8], set: u32, hour: u32, part: u32) -> 
                 }
             }
         }
+    }
+}
+
+// The clearing's refusal, 0 where the outcome is published into the result.
+#[no_mangle]
+pub extern "C" fn auction_clear(book: &[u8], result: &mut [u8]) -> u32
+    ensures answer { λ r. ⌜ r ≡ clearRefusal (now (book .entry)) (now (result .entry)) ⌝ }
+    ensures bytes { λ _. ⌜ now (result .exit) ≡ resultAfter (now (book .entry)) (now (result .entry)) ⌝ }
+{
+    let answer = clear(book, result);
+    match answer {
+        Clearing::Refused(number) => number as u32,
+        Clearing::Published => 0,
     }
 }

@@ -1,0 +1,457 @@
+-- The search's branches: a decided set at its tables is lawful or not and loses what they say; one more block taken or left out. Assumes nothing.
+use Prim.Native.Nat.{ℕ, zero, suc, _+_, _-_, _*_, _/_, _%_, _^_, _≤_, _<_}
+use mathlib.Core.Path.{_≡_, refl, sym, ap, ap₂, _∙_}
+use mathlib.Core.List.{List, [], _∷_, _++_}
+use mathlib.Core.Bool.{Bool, true, false, cond, not, _&&_, _||_}
+use native.Mathlib.Omega.{arith}
+use mathlib.Core.Logic.{_⊎_, inl, inr}
+use native.Mathlib.Nat.{eq-or-lt-of-le}
+use native.Mathlib.Numerals.{add-one, sub-one}
+use lib.Dec.{eqb, leb}
+use lib.ListN.{length, drop, getD, length-append}
+use lib.Seq.{drop-drop, getD-drop}
+use lib.Pow.{pow-mono}
+use borrow.Author.Tests.{eq-eqb, ne-eqb}
+use Rattle.book.specs.Records.{holdsHour}
+use Rattle.orders.specs.Columns.{sideFor}
+use Rattle.rules.specs.Orders.{Side, buy, sell, Block}
+use Rattle.rules.specs.Hour.{bySide, when, middle}
+use Rattle.rules.specs.Execution.{testSide}
+use Rattle.rules.specs.Day.{Day, weight, sumTo, daySum, taken, decisions, overBlocks, sells, buys, hourOf, stepsIn, setPrices, hourCount, priceSum, keepsLimit,
+    everyBlock, allowed, lawful}
+use Rattle.rules.specs.Contender.{Counts}
+use Rattle.rules.proofs.Tests.{by-test, both, clash}
+use Rattle.rules.proofs.CurveLaws.{when-zero, when-le}
+use Rattle.rules.proofs.PricingLaws.{Clearable, net}
+use Rattle.rules.proofs.TableLaws.{unitPrice, unit-net, tablePrice}
+use Rattle.rules.proofs.NeighbourLaws.{slack}
+use Rattle.rules.proofs.LossLaws.{losses, lossOf, gaps, losses-taken, losses-left, bound-with}
+use Rattle.rules.proofs.LossSearchLaws as by-loss
+use Rattle.rules.proofs.SetBits.{bits-length, bits-at, bits-taken, bits-left, bits-room}
+use Rattle.rules.proofs.PlaceLaws.{place, hourAt, pricesAt, gapsAt, place-is, place-taken, place-left, gaps-by-place, price-at-place, lawful-by-places,
+    lawful-clears, lawful-limits, slack-at-place}
+use Rattle.rules.proofs.LawCutLaws.{taken-passes}
+use Rattle.clearing.specs.Search.{Small, sumOfHours, cell, ofHour, InRange, GapsOf, PricesOf, sideAt, hoursAt, quantityAt, limitAt, againstAt,
+    gainAt, keepsAt, allKeep}
+use Rattle.clearing.specs.Meaning.{BlocksSized, Fits, Shown, Known, Branch, lossAbove, bestAs, DayOf, Outcome, Decided,
+    ExploredFrom, TakenTo, LeftTo}
+use Rattle.clearing.specs.declared.search.Best.{Best}
+use Rattle.clearing.specs.declared.search.Node.{Node}
+
+-- HOURS: today each counts once
+pub counts : (hours h : ℕ) → 1 ≤ h → h ≤ 24 → Counts hours h
+unfolding weight
+counts hours h a b = record { first = a; last = b; counted = omega arith }
+
+pub sumTo-in : (n : ℕ) (f g : ℕ → ℕ) → ((h : ℕ) → 1 ≤ h → h ≤ n → f h ≡ g h) → sumTo n f ≡ sumTo n g
+unfolding sumTo
+sumTo-in zero f g k = refl
+sumTo-in (suc n) f g k = ap₂ _+_ (sumTo-in n f g (λ h a b. k h a (omega arith))) (k (suc n) (omega arith) (omega arith))
+
+pub sumTo-add : (n : ℕ) (f g : ℕ → ℕ) → sumTo n (λ h. f h + g h) ≡ sumTo n f + sumTo n g
+unfolding sumTo
+sumTo-add zero f g = omega arith
+sumTo-add (suc n) f g = omega (arith, sumTo-add n f g)
+
+pub daySum-plain : (hours : ℕ) (f : ℕ → ℕ) → daySum hours f ≡ sumTo 24 f
+unfolding daySum weight
+daySum-plain hours f = sumTo-in 24 _ f (λ h a b. omega arith)
+
+-- A SET'S BLOCKS
+taken-le : (f : Block → ℕ) (l : List Block) (s : List Bool) → overBlocks f (taken l s) ≤ overBlocks f l
+taken-le f [] s = omega arith
+taken-le f (b ∷ l) [] = omega arith
+taken-le f (b ∷ l) (true ∷ s) = omega (arith, taken-le f l s)
+taken-le f (b ∷ l) (false ∷ s) = omega (arith, taken-le f l s)
+
+-- what passes for each taken block by its number
+passes-taken : (t : Block → Bool) (other : Block) (l : List Block) (s : List Bool) →
+    ((j : ℕ) → j < length l → getD s j false ≡ true → t (getD l j other) ≡ true) → everyBlock t (taken l s) ≡ true
+passes-taken t other [] s f = refl
+passes-taken t other (b ∷ l) [] f = refl
+passes-taken t other (b ∷ l) (true ∷ s) f = rw (f 0 (omega arith) refl, passes-taken t other l s (λ j k e. f (suc j) (omega arith) e))
+passes-taken t other (b ∷ l) (false ∷ s) f = passes-taken t other l s (λ j k e. f (suc j) (omega arith) e)
+
+-- the block at a number
+block-at : (l : List Block) (j : ℕ) (b : Block) (after : List Block) (other : Block) → drop j l ≡ b ∷ after → getD l j other ≡ b
+block-at [] zero b after other e = let z : _≡_ {A = ℕ} 0 1 = cc in absurd (omega arith)
+block-at [] (suc j) b after other e = let z : _≡_ {A = ℕ} 0 1 = cc in absurd (omega arith)
+block-at (x ∷ l) zero b after other e = cc
+block-at (x ∷ l) (suc j) b after other e = block-at l j b after other e
+
+-- ALL LIMITS, by the columns
+all-keep-at : (blocks : List ℕ) (set : ℕ) (prices : List ℕ) (n j : ℕ) → allKeep blocks set prices n ≡ true → j < n → set / 2 ^ j % 2 ≡ 1 →
+    keepsAt (sideAt blocks j) (hoursAt blocks j) (limitAt blocks j) prices ≡ true
+unfolding allKeep
+all-keep-at blocks set prices zero j e k c = absurd (omega arith)
+all-keep-at blocks set prices (suc n) j e k c =
+    let t = both (not (eqb (set / 2 ^ n % 2) 1) || keepsAt (sideAt blocks n) (hoursAt blocks n) (limitAt blocks n) prices) (allKeep blocks set prices n) e in
+    elim (native.Mathlib.Decide.decLe n j) [
+      | yes a ↦
+          let z : j ≡ n = omega arith in
+          let c′ : set / 2 ^ n % 2 ≡ 1 = rw (sym z) c in
+          rw z (rw (eq-eqb (set / 2 ^ n % 2) 1 c′) at (t .0))
+      | no a ↦ all-keep-at blocks set prices n j (t .1) (native.Mathlib.Nat.lt-of-not-le a) c
+    ]
+
+all-keep : (blocks : List ℕ) (set : ℕ) (prices : List ℕ) (n : ℕ) →
+    ((j : ℕ) → j < n → set / 2 ^ j % 2 ≡ 1 → keepsAt (sideAt blocks j) (hoursAt blocks j) (limitAt blocks j) prices ≡ true) → allKeep blocks set prices n ≡ true
+unfolding allKeep
+all-keep blocks set prices zero f = refl
+all-keep blocks set prices (suc n) f =
+    rw (all-keep blocks set prices n (λ j k c. f j (omega arith) c))
+    (Rattle.rules.proofs.Tests.by-eq (λ t. ((not t || keepsAt (sideAt blocks n) (hoursAt blocks n) (limitAt blocks n) prices) && true) ≡ true) (set / 2 ^ n % 2) 1
+    (λ c. rw (f n (omega arith) c)) (λ c. refl))
+
+same-test : (side side′ : Side) (sum sum′ limit limit′ : ℕ) → side ≡ side′ → sum ≡ sum′ → limit ≡ limit′ →
+    testSide side (leb sum limit) (leb limit sum) ≡ testSide side′ (leb sum′ limit′) (leb limit′ sum′)
+same-test side side′ sum sum′ limit limit′ a b c = rw (a, b, c)
+
+-- THE DAY AT ITS TABLES
+module _ (day : Day) (p rest : ℕ → ℕ) (low gap first last blocks : List ℕ) (count : ℕ) (known : Known day p rest low gap first last blocks count)
+    (set loss : ℕ) (places : List ℕ) (d : List Bool) (branch : Branch day p d set loss places) (whole : length d ≡ count) where
+  size : length d ≡ length (day .blocks)
+  size = whole ∙ sym (known .counted)
+
+  place-fits : (h : ℕ) → 1 ≤ h → h ≤ 24 → place (day .blocks) d h ≤ 1600
+  place-fits h a b =
+      omega (arith, place-is (day .blocks) d h size, taken-le (sells h) (day .blocks) d, known .fits h a b)
+
+  -- a lawful set's places are in range
+  lawful-in-range : lawful day d ≡ true → InRange first last places
+  lawful-in-range law h a b =
+      rw (branch .placesAre h a b)
+      (known .clearsOnly h (place (day .blocks) d h) a b (place-fits h a b) (lawful-clears day d size (known .prices) (known .hours) law h (counts (day .hours) h a b)))
+
+  module _ (inside : InRange first last places) where
+    clear-at : (h : ℕ) → 1 ≤ h → h ≤ 24 → Clearable (hourAt day h (place (day .blocks) d h))
+    clear-at h a b =
+        let r = inside h a b in
+        let e = branch .placesAre h a b in
+        known .clears h (place (day .blocks) d h) a b (place-fits h a b) (rw e at (r .0)) (rw e at (r .1))
+
+    -- the loss by the gap table
+    pub loss-is : (sum : ℕ) → sum ≡ sumTo 24 (λ h. cell gap h (ofHour places h)) → lossOf day p d ≡ loss + sum + daySum (day .hours) rest
+    unfolding lossOf gapsAt
+    loss-is sum e =
+        let gap-at : (h : ℕ) → 1 ≤ h → h ≤ 24 → gapsAt day p (place (day .blocks) d) h ≡ cell gap h (ofHour places h) + rest h = λ h a b.
+              let r = inside h a b in
+              rw (branch .placesAre h a b) (known .gapIs h (place (day .blocks) d h) a b (rw (branch .placesAre h a b) at (r .0)) (rw (branch .placesAre h a b) at (r .1))) in
+        omega (
+          arith,
+          branch .lossIs,
+          gaps-by-place day d size p,
+          daySum-plain (day .hours) (gapsAt day p (place (day .blocks) d)),
+          sumTo-in 24 (gapsAt day p (place (day .blocks) d)) (λ h. cell gap h (ofHour places h) + rest h) gap-at,
+          sumTo-add 24 (λ h. cell gap h (ofHour places h)) rest,
+          daySum-plain (day .hours) rest,
+        )
+
+    -- the prices by the price table
+    module _ (prices : List ℕ) (priced : PricesOf low places prices) where
+      price-at : (h : ℕ) → 1 ≤ h → h ≤ 24 → ofHour prices h ≡ pricesAt day (place (day .blocks) d) h
+      unfolding pricesAt tablePrice
+      price-at h a b =
+          let i = place (day .blocks) d h in
+          let off = overBlocks (buys h) (day .blocks) in
+          let l = stepsIn h (day .steps) in
+          let e : ofHour places h ≡ i = branch .placesAre h a b in
+          let at = rw e at (priced .are h a b) in
+          omega (
+            arith,
+            at,
+            known .lowIs h i a b (omega (arith, place-fits h a b)),
+            known .lowIs h (i + 1) a b (omega (arith, place-fits h a b)),
+            unit-net l (i + 1) (suc off) i off (omega arith),
+          )
+
+      pub day-of : DayOf day d record { prices = prices; quantities = places }
+      day-of = record {
+        pricesAre = λ h a b. price-at h a b ∙ sym (price-at-place day d size (known .prices) (known .hours) h (clear-at h a b));
+        placesAre = branch .placesAre;
+      }
+
+      -- a block's limit by the columns
+      keeps-same : (j : ℕ) (s : Shown day p blocks j) →
+          keepsLimit (day .hours) (pricesAt day (place (day .blocks) d)) (s .block) ≡ keepsAt (sideAt blocks j) (hoursAt blocks j) (limitAt blocks j) prices
+      unfolding keepsLimit keepsAt priceSum sumOfHours
+      keeps-same j s =
+          let sum : daySum (day .hours) (λ h. when (s .block .runs h) (pricesAt day (place (day .blocks) d) h))
+                ≡ sumTo 24 (λ h. when (holdsHour (hoursAt blocks j) h) (getD prices (h - 1) 0)) =
+                daySum-plain (day .hours) _ ∙ sumTo-in 24 _ _ (λ h a b. rw (s .runsIs h, ← (price-at h a b))) in
+          same-test _ _ _ _ _ _ (s .sideIs) sum (s .limitIs)
+
+      bit-is : (j : ℕ) → j < count → getD d j false ≡ eqb (set / 2 ^ j % 2) 1
+      bit-is j k = rw (← (branch .setIs)) (bits-at (length d) set j (omega arith))
+
+      other : Block
+      other = record { number = 0; side = buy; price = 0; quantity = 0; runs = λ h. false }
+
+      pub limits-kept : allKeep blocks set prices count ≡ true → lawful day d ≡ true
+      unfolding allowed
+      limits-kept e =
+          lawful-by-places day d size (known .prices) (known .hours) refl (λ h c. clear-at h (c .first) (c .last))
+          (passes-taken _ other (day .blocks) d (λ j k t.
+          let kc : j < count = omega (arith, known .counted) in
+          let s = known .shown j kc in
+          rw (block-at (day .blocks) j (s .block) _ other (s .next))
+          (keeps-same j s ∙ all-keep-at blocks set prices count j e kc (borrow.Author.Tests.eqb-true _ _ (sym (bit-is j kc) ∙ t)))))
+
+      pub limits-broken : allKeep blocks set prices count ≡ false → lawful day d ≡ true → ⊥
+      limits-broken e law =
+          clash (all-keep blocks set prices count (λ j k c.
+          let s = known .shown j k in
+          let t = taken-passes _ (day .blocks) d (lawful-limits day d size (known .prices) (known .hours) law) j other
+                (omega (arith, known .counted)) (bit-is j k ∙ eq-eqb _ 1 c) in
+          sym (keeps-same j s) ∙ rw (block-at (day .blocks) j (s .block) _ other (s .next)) at t)) e
+
+-- WHAT COMES BACK
+module _ (day : Day) (p rest : ℕ → ℕ) (count left : ℕ) (d : List Bool) (best : Best) where
+  -- the best as it was
+  pub as-it-was : ((t : List Bool) → length t ≡ left → lawful day (d ++ t) ≡ true → best .limit ≤ lossAbove day p rest (d ++ t)) →
+      Outcome day p rest count left d best best
+  as-it-was f = record {
+    explored = by-loss.branch-cut day (lossAbove day p rest) left d (bestAs count best) f;
+    same = λ _. refl;
+    found = λ k. absurd (omega arith);
+  }
+
+-- the set itself
+module _ (day : Day) (p rest : ℕ → ℕ) (count : ℕ) (d : List Bool) (set : ℕ) (best r : Best) where
+  pub newly-found : decisions count set ≡ d → set < 2 ^ count → r .set ≡ set → r .limit ≡ lossAbove day p rest d → r .limit < best .limit →
+      lawful day d ≡ true → DayOf day d (r .day) → Outcome day p rest count 0 d best r
+  newly-found e room es el less law of =
+      let is : decisions count (r .set) ≡ d = rw es e in
+      record {
+        explored = rw (is, el) (by-loss.leaf-lowered day (lossAbove day p rest) d (bestAs count best) law (rw (sym el) less));
+        same = λ z. absurd (omega arith);
+        found = λ _. (rw es room, rw is of);
+      }
+
+-- A DECIDED SET, one law for each way out
+module _ (low gap first last blocks : List ℕ) (count set loss : ℕ) (places : List ℕ) (best : Best) (clears : Bool) (sum : ℕ)
+    (gapped : GapsOf gap first last places clears sum) where
+  leaf-as-it-was : (day : Day) (p rest : ℕ → ℕ) (d : List Bool) → (lawful day d ≡ true → best .limit ≤ lossAbove day p rest d) →
+      Outcome day p rest count 0 d best best
+  leaf-as-it-was day p rest d f = record {
+    explored = by-loss.leaf-kept day (lossAbove day p rest) d (bestAs count best) f;
+    same = λ _. refl;
+    found = λ k. absurd (omega arith);
+  }
+
+  -- some hour does not clear
+  pub decided-unclear : clears ≡ false → Decided low gap first last blocks count set loss places best best
+  decided-unclear e day p rest d known branch whole room =
+      leaf-as-it-was day p rest d
+      (λ law. absurd (gapped .notInRange e (lawful-in-range day p rest low gap first last blocks count known set loss places d branch whole law)))
+
+  module _ (e : clears ≡ true) where
+    loss-here : (day : Day) (p rest : ℕ → ℕ) (d : List Bool) → Known day p rest low gap first last blocks count → Branch day p d set loss places →
+        length d ≡ count → lossAbove day p rest d ≡ loss + sum
+    unfolding lossAbove
+    loss-here day p rest d known branch whole =
+        omega (arith, loss-is day p rest low gap first last blocks count known set loss places d branch whole (gapped .inRange e) sum (gapped .sumIs e))
+
+    -- it loses as much as the best or more
+    pub decided-worse : best .limit ≤ loss + sum → Decided low gap first last blocks count set loss places best best
+    decided-worse k day p rest d known branch whole room =
+        leaf-as-it-was day p rest d (λ law. omega (arith, loss-here day p rest d known branch whole))
+
+    module _ (prices : List ℕ) (priced : PricesOf low places prices) where
+      -- a block misses its limit
+      pub decided-broken : allKeep blocks set prices count ≡ false → Decided low gap first last blocks count set loss places best best
+      decided-broken k day p rest d known branch whole room =
+          leaf-as-it-was day p rest d (λ law. absurd (limits-broken day p rest low gap first last blocks count known set loss places d branch whole
+          (gapped .inRange e) prices priced k law))
+
+      -- it is lawful and loses less
+      pub decided-better : allKeep blocks set prices count ≡ true → loss + sum < best .limit →
+          Decided low gap first last blocks count set loss places best
+          record { limit = loss + sum; set = set; day = record { prices = prices; quantities = places } }
+      decided-better k less day p rest d known branch whole room =
+          let in-range = gapped .inRange e in
+          newly-found day p rest count d set best _ (rw whole at (branch .setIs)) room refl (sym (loss-here day p rest d known branch whole)) less
+          (limits-kept day p rest low gap first last blocks count known set loss places d branch whole in-range prices priced k)
+          (day-of day p rest low gap first last blocks count known set loss places d branch whole in-range prices priced)
+
+-- ONE MORE BLOCK, in the code's numbers
+module _ (side hours quantity : ℕ) (places further : List ℕ) (moved : (h : ℕ) → 1 ≤ h → h ≤ 24 →
+    ofHour further h ≡ ofHour places h + when (holdsHour hours h) quantity) where
+  -- a sell's places move on where it is taken
+  pub taken-places : (h : ℕ) → 1 ≤ h → h ≤ 24 →
+      ofHour (cond (not (eqb side 0)) further places) h ≡ ofHour places h + when (holdsHour hours h) (bySide (sideFor side) 0 quantity)
+  taken-places h a b = go side
+    where
+      go : (s : ℕ) → ofHour (cond (not (eqb s 0)) further places) h ≡ ofHour places h + when (holdsHour hours h) (bySide (sideFor s) 0 quantity)
+      go zero = omega (arith, when-zero (holdsHour hours h))
+      go (suc s) = rw (ne-eqb (suc s) 0 (omega arith)) (moved h a b)
+
+  -- a buy's where it is left out
+  pub left-places : (h : ℕ) → 1 ≤ h → h ≤ 24 →
+      ofHour (cond (eqb side 0) further places) h ≡ ofHour places h + when (holdsHour hours h) (bySide (sideFor side) quantity 0)
+  left-places h a b = go side
+    where
+      go : (s : ℕ) → ofHour (cond (eqb s 0) further places) h ≡ ofHour places h + when (holdsHour hours h) (bySide (sideFor s) quantity 0)
+      go zero = moved h a b
+      go (suc s) = rw (ne-eqb (suc s) 0 (omega arith)) (omega (arith, when-zero (holdsHour hours h)))
+
+-- places that grow by at most a block's quantity
+pub places-grow : (n : ℕ) (places r : List ℕ) → length r ≡ 24 → Small (n * 50000) places →
+    ((h : ℕ) → 1 ≤ h → h ≤ 24 → ofHour r h ≤ ofHour places h + 50000) → Small ((n + 1) * 50000) r
+places-grow n places r e small f i = at (native.Mathlib.Decide.decLe 24 i)
+  where
+    at : Dec (24 ≤ i) → getD r i 0 ≤ (n + 1) * 50000
+    at (yes k) = let z : length r ≤ i = omega arith in rw (lib.ListN.List·getD-eq-default r 0 z) (omega arith)
+    at (no k) =
+        let a = rw sub-one at (f (suc i) (omega arith) (omega (arith, native.Mathlib.Nat.lt-of-not-le k))) in
+        omega (arith, small i)
+
+pub traded-le : (t : Bool) (side : Side) (q : ℕ) → (when t (bySide side q 0) ≤ q) × (when t (bySide side 0 q) ≤ q)
+traded-le t buy q = (when-le t q, omega (arith, when-zero t))
+traded-le t sell q = (omega (arith, when-zero t), when-le t q)
+
+cond-length : (t : Bool) (a b : List ℕ) (n : ℕ) → length a ≡ n → length b ≡ n → length (cond t a b) ≡ n
+cond-length true a b n ea eb = ea
+cond-length false a b n ea eb = eb
+
+-- the node with the block taken, and with it left out
+module _ (blocks : List ℕ) (at : ℕ) (node : Node) (further chosen : List ℕ) (sized : BlocksSized blocks) (inside : at < 32)
+    (fits : Fits at (node .set) (node .loss) (node .places)) (ef : length further ≡ 24) (ep : length (node .places) ≡ 24)
+    (moved : (h : ℕ) → 1 ≤ h → h ≤ 24 → ofHour further h ≡ ofHour (node .places) h + when (holdsHour (hoursAt blocks at) h) (quantityAt blocks at)) where
+  pub node-taken : (b : ℕ) → b ≡ 2 ^ at → againstAt blocks at < 2 ^ 32 → chosen ≡ cond (not (eqb (sideAt blocks at) 0)) further (node .places) →
+      Fits (at + 1) (node .set + b) (node .loss + againstAt blocks at) chosen
+      × TakenTo blocks at node record { set = node .set + b; loss = node .loss + againstAt blocks at; places = chosen }
+  node-taken b eb small e =
+      let placed : (h : ℕ) → 1 ≤ h → h ≤ 24 →
+            ofHour chosen h ≡ ofHour (node .places) h + when (holdsHour (hoursAt blocks at) h) (bySide (sideFor (sideAt blocks at)) 0 (quantityAt blocks at)) =
+            rw e (taken-places (sideAt blocks at) (hoursAt blocks at) (quantityAt blocks at) (node .places) further moved) in
+      let size : length chosen ≡ 24 = rw e (cond-length (not (eqb (sideAt blocks at) 0)) further (node .places) 24 ef ep) in (
+        record {
+          setFits = rw (eb, add-one) (bits-room at (node .set) (fits .setFits) .0);
+          lossFits = omega (arith, fits .lossFits);
+          placesSize = size;
+          placesFit = places-grow at (node .places) chosen size (fits .placesFit) (λ h i j.
+              omega (arith, placed h i j, traded-le (holdsHour (hoursAt blocks at) h) (sideFor (sideAt blocks at)) (quantityAt blocks at), sized .quantitiesFit at inside));
+        },
+        record { setIs = rw eb; lossIs = refl; placesAre = placed },
+      )
+
+  pub node-left : gainAt blocks at < 2 ^ 32 → chosen ≡ cond (eqb (sideAt blocks at) 0) further (node .places) →
+      Fits (at + 1) (node .set) (node .loss + gainAt blocks at) chosen
+      × LeftTo blocks at node record { set = node .set; loss = node .loss + gainAt blocks at; places = chosen }
+  node-left small e =
+      let placed : (h : ℕ) → 1 ≤ h → h ≤ 24 →
+            ofHour chosen h ≡ ofHour (node .places) h + when (holdsHour (hoursAt blocks at) h) (bySide (sideFor (sideAt blocks at)) (quantityAt blocks at) 0) =
+            rw e (left-places (sideAt blocks at) (hoursAt blocks at) (quantityAt blocks at) (node .places) further moved) in
+      let size : length chosen ≡ 24 = rw e (cond-length (eqb (sideAt blocks at) 0) further (node .places) 24 ef ep) in (
+        record {
+          setFits = rw add-one (bits-room at (node .set) (fits .setFits) .1);
+          lossFits = omega (arith, fits .lossFits);
+          placesSize = size;
+          placesFit = places-grow at (node .places) chosen size (fits .placesFit) (λ h i j.
+              omega (arith, placed h i j, traded-le (holdsHour (hoursAt blocks at) h) (sideFor (sideAt blocks at)) (quantityAt blocks at), sized .quantitiesFit at inside));
+        },
+        record { setIs = refl; lossIs = refl; placesAre = placed },
+      )
+
+-- the branch with the block taken, and with it left out
+module _ (day : Day) (p rest : ℕ → ℕ) (low gap first last blocks : List ℕ) (count : ℕ) (known : Known day p rest low gap first last blocks count)
+    (d : List Bool) (node r : Node) (branch : Branch day p d (node .set) (node .loss) (node .places)) (room : node .set < 2 ^ length d)
+    (k : length d < count) where
+  S : Shown day p blocks (length d)
+  S = known .shown (length d) k
+
+  sells-is : (h : ℕ) → sells h (S .block) ≡ when (holdsHour (hoursAt blocks (length d)) h) (bySide (sideFor (sideAt blocks (length d))) 0 (quantityAt blocks (length d)))
+  sells-is h = rw (S .runsIs h, S .sideIs, S .quantityIs)
+
+  buys-is : (h : ℕ) → buys h (S .block) ≡ when (holdsHour (hoursAt blocks (length d)) h) (bySide (sideFor (sideAt blocks (length d))) (quantityAt blocks (length d)) 0)
+  buys-is h = rw (S .runsIs h, S .sideIs, S .quantityIs)
+
+  longer : (x : Bool) → length (d ++ (x ∷ [])) ≡ suc (length d)
+  longer x = length-append d (x ∷ []) ∙ omega arith
+
+  pub branch-taken : TakenTo blocks (length d) node r → Branch day p (d ++ (true ∷ [])) (r .set) (r .loss) (r .places)
+  branch-taken t = record {
+    setIs = rw (longer true, t .setIs, bits-taken (length d) (node .set) room, branch .setIs);
+    lossIs = t .lossIs ∙ rw (branch .lossIs, ← (S .againstIs)) (sym (losses-taken (day .hours) p (day .blocks) d (S .block) _ (S .next)));
+    placesAre = λ h a b.
+        t .placesAre h a b ∙ rw (branch .placesAre h a b, ← (sells-is h)) (sym (place-taken (day .blocks) d (S .block) _ (S .next) h));
+  }
+
+  pub branch-left : LeftTo blocks (length d) node r → Branch day p (d ++ (false ∷ [])) (r .set) (r .loss) (r .places)
+  branch-left t = record {
+    setIs = rw (longer false, t .setIs, bits-left (length d) (node .set) room, branch .setIs);
+    lossIs = t .lossIs ∙ rw (branch .lossIs, ← (S .gainIs)) (sym (losses-left (day .hours) p (day .blocks) d (S .block) _ (S .next)));
+    placesAre = λ h a b.
+        t .placesAre h a b ∙ rw (branch .placesAre h a b, ← (buys-is h)) (sym (place-left (day .blocks) d (S .block) _ (S .next) h));
+  }
+
+-- a set of fewer than 32 blocks and one more fits 32 bits
+pub set-room : (at set b : ℕ) → at < 32 → set < 2 ^ at → b ≡ 2 ^ at → set + b < 2 ^ 32
+set-room at set b k room e = rw e (omega (arith, bits-room at set room, pow-mono {i = suc at} {j = 32} k))
+
+-- A BRANCH, one law for each way out
+module _ (low gap first last blocks : List ℕ) (count : ℕ) where
+  -- a lawful set's gaps by the table
+  pub gap-of-lawful : (day : Day) (p rest : ℕ → ℕ) → Known day p rest low gap first last blocks count → (s : List Bool) → length s ≡ count →
+      lawful day s ≡ true → (h : ℕ) → Counts (day .hours) h →
+      slack (p h) (hourOf day (taken (day .blocks) s) h) ≡ cell gap h (place (day .blocks) s h) + rest h
+  gap-of-lawful day p rest known s size law h c =
+      let n : length s ≡ length (day .blocks) = size ∙ sym (known .counted) in
+      let i = place (day .blocks) s h in
+      let f : i ≤ 1600 = omega (arith, place-is (day .blocks) s h n, taken-le (sells h) (day .blocks) s, known .fits h (c .first) (c .last)) in
+      let r = known .clearsOnly h i (c .first) (c .last) f (lawful-clears day s n (known .prices) (known .hours) law h c) in
+      slack-at-place day s n h (p h) ∙ known .gapIs h i (c .first) (c .last) (r .0) (r .1)
+
+  -- what the tables leave off is no more
+  pub rest-below : (day : Day) (p rest : ℕ → ℕ) → Known day p rest low gap first last blocks count → (s : List Bool) → length s ≡ count →
+      lawful day s ≡ true → (h : ℕ) → Counts (day .hours) h → rest h ≤ slack (p h) (hourOf day (taken (day .blocks) s) h)
+  rest-below day p rest known s size law h c = omega (arith, gap-of-lawful day p rest known s size law h c)
+
+  -- the decided blocks lose as much as the best already
+  pub explored-cut : (left : ℕ) (node : Node) (best : Best) → best .limit ≤ node .loss → ExploredFrom low gap first last blocks count left node best best
+  unfolding lossAbove
+  explored-cut left node best k day p rest d known branch size =
+      as-it-was day p rest count left d best (λ t l law.
+      omega (
+        arith,
+        branch .lossIs,
+        bound-with day p d t 0 rest (omega arith)
+            (rest-below day p rest known (d ++ t) (length-append d t ∙ rw l size) law),
+      ))
+
+  -- no block is left
+  pub explored-decided : (left : ℕ) (node : Node) (best r : Best) → left ≡ 0 → node .set < 2 ^ count →
+      Decided low gap first last blocks count (node .set) (node .loss) (node .places) best r →
+      ExploredFrom low gap first last blocks count left node best r
+  explored-decided left node best r e room f day p rest d known branch size =
+      rw e (f day p rest d known branch (omega arith) room)
+
+  -- a block is taken and then left out
+  pub explored-both : (left : ℕ) (node taken-node left-node : Node) (best m r : Best) → 0 < left → left ≤ count →
+      node .set < 2 ^ (count - left) → TakenTo blocks (count - left) node taken-node → LeftTo blocks (count - left) node left-node →
+      ExploredFrom low gap first last blocks count (left - 1) taken-node best m →
+      ExploredFrom low gap first last blocks count (left - 1) left-node m r →
+      ExploredFrom low gap first last blocks count left node best r
+  explored-both left node nt nl best m r pos le room t l f g day p rest d known branch size =
+      let at : count - left ≡ length d = omega arith in
+      let k : length d < count = omega arith in
+      let room′ : node .set < 2 ^ length d = rw (← at) room in
+      let bt = branch-taken day p rest low gap first last blocks count known d node nt branch room′ k (rw at at t) in
+      let bl = branch-left day p rest low gap first last blocks count known d node nl branch room′ k (rw at at l) in
+      let a = f day p rest (d ++ (true ∷ [])) known bt (omega (arith, length-append d (true ∷ []))) in
+      let b = g day p rest (d ++ (false ∷ [])) known bl (omega (arith, length-append d (false ∷ []))) in
+      let one : suc (left - 1) ≡ left = omega arith in
+      let lower₁ : m .limit ≤ best .limit = a .explored .noMore in
+      let lower₂ : r .limit ≤ m .limit = b .explored .noMore in
+      record {
+        explored = rw one at (by-loss.joined day (lossAbove day p rest) (left - 1) d _ _ _ (a .explored) (b .explored));
+        same = λ e. b .same (omega arith) ∙ a .same (omega arith);
+        found = λ less. by-which less a b lower₂ (eq-or-lt-of-le lower₂);
+      }
+    where
+      by-which : {day : Day} {p rest : ℕ → ℕ} {dt dl : List Bool} → r .limit < best .limit →
+          Outcome day p rest count (left - 1) dt best m → Outcome day p rest count (left - 1) dl m r → r .limit ≤ m .limit →
+          (r .limit ≡ m .limit) ⊎ (r .limit < m .limit) → (r .set < 2 ^ count) × DayOf day (decisions count (r .set)) (r .day)
+      by-which less a b le (inl e) = rw (b .same e) (a .found (omega arith))
+      by-which less a b le (inr e) = b .found e

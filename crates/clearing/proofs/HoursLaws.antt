@@ -1,0 +1,195 @@
+-- The hours one after another: a part of the columns is an hour, what its steps get goes to the same places, and so hour after hour. Assumes nothing.
+use Prim.Native.Nat.{ℕ, zero, suc, _+_, _-_, _≤_, _<_}
+use mathlib.Core.Path.{_≡_, refl, sym, _∙_}
+use mathlib.Core.List.{List, [], _∷_, _++_, append-assoc}
+use native.Mathlib.Omega.{arith}
+use native.Mathlib.Decide.{decLe}
+use native.Mathlib.Nat.{lt-of-not-le}
+use native.Mathlib.Numerals.{add-one}
+use lib.ListN.{length, take, drop, getD, set, length-set, length-append, take-append-drop}
+use lib.Seq.{slice, take-take, take-at, drop-at, length-take-le, getD-set-same, getD-set-other}
+use borrow.Rule.Slice.PartMut.{putMid, postOf, same-len-mid, mid-len, take-put}
+use Rattle.rules.specs.Orders.{Step}
+use Rattle.rules.specs.Execution.{bought}
+use Rattle.rules.specs.Day.{sumTo}
+use Rattle.rules.proofs.DualityLaws.{value, cost}
+use Rattle.orders.specs.Columns.{stepsFrom}
+use Rattle.pricing.specs.Curves.{Columns, TradesOf}
+use Rattle.clearing.specs.Search.{Small}
+use Rattle.clearing.specs.Publish.{
+  FirstSmall,
+  HourDone,
+  HourPut,
+  PartSized,
+  StepsSized,
+  TradersSized,
+  HoursDone,
+  stepsAt,
+  salesAt,
+  buysAt,
+  inTurn,
+  getsAt,
+}
+use Rattle.clearing.proofs.WorthLaws.{trades-fit}
+
+-- PARTS
+mid-none : (n a : ℕ) → _≡_ {A = List ℕ} (take n (drop a [])) []
+mid-none zero zero = refl
+mid-none zero (suc a) = refl
+mid-none (suc n) zero = refl
+mid-none (suc n) (suc a) = refl
+
+-- a part by its start and count is a part by its start and end
+pub mid-slice : (a e : ℕ) (l : List ℕ) → a ≤ e → take (e - a) (drop a l) ≡ slice a e l
+mid-slice zero e l h = let s : e - 0 ≡ e = omega arith in rw s
+mid-slice (suc a) zero l h = absurd (omega arith)
+mid-slice (suc a) (suc e) [] h = mid-none (suc e - suc a) (suc a)
+mid-slice (suc a) (suc e) (x ∷ l) h = let s : suc e - suc a ≡ e - a = omega arith in rw s (mid-slice a e l (omega arith))
+
+pub small-take : (m e : ℕ) (l : List ℕ) → FirstSmall e m l → Small m (take e l)
+small-take m zero l f i = omega arith
+small-take m (suc e) [] f i = omega arith
+small-take m (suc e) (x ∷ l) f zero = f 0 (omega arith)
+small-take m (suc e) (x ∷ l) f (suc i) = small-take m e l (λ j k. f (suc j) (omega arith)) i
+
+small-drop : (m a : ℕ) (l : List ℕ) → Small m l → Small m (drop a l)
+small-drop m zero l f i = f i
+small-drop m (suc a) [] f i = omega arith
+small-drop m (suc a) (x ∷ l) f i = small-drop m a l (λ j. f (suc j)) i
+
+pub small-part : (m a e : ℕ) (l : List ℕ) → a ≤ e → FirstSmall e m l → Small m (take (e - a) (drop a l))
+small-part m a e l h f = rw (mid-slice a e l h) (small-drop m a (take e l) (small-take m e l f))
+
+-- the columns of a part
+pub part-columns : (sides prices quantities : List ℕ) (from to : ℕ) → PartSized sides prices quantities from to →
+    Columns (take (to - from) (drop from sides)) (take (to - from) (drop from prices)) (take (to - from) (drop from quantities))
+part-columns sides prices quantities from to s =
+    record {
+      asManyPrices = mid-len from to sides (s .inSides) ∙ sym (mid-len from to prices (s .inPrices));
+      asManyQuantities = mid-len from to sides (s .inSides) ∙ sym (mid-len from to quantities (s .inQuantities));
+      notTooMany = omega (arith, mid-len from to sides (s .inSides), s .fit);
+    }
+
+-- what is put into a part stands there
+slice-put : (a e : ℕ) (l out : List ℕ) → a ≤ e → e ≤ length l → length out ≡ e - a → slice a e (putMid a (e - a) l out) ≡ out
+slice-put a e l out h k n =
+    let la = length-take-le a l (omega arith) in
+    let whole : length (take a l ++ out) ≡ e = omega (arith, length-append (take a l) out) in
+    rw (← (append-assoc (take a l) out (postOf a (e - a) l)), take-at (take a l ++ out) (postOf a (e - a) l) e whole) (drop-at (take a l) out a la)
+
+-- so an hour's part is put
+pub hour-put : (sides prices quantities : List ℕ) (from to sales purchases price : ℕ) (before out : List ℕ) (b v c : ℕ) → from ≤ to →
+    to ≤ length before → length out ≡ to - from →
+    HourDone (take (to - from) (drop from sides)) (take (to - from) (drop from prices)) (take (to - from) (drop from quantities)) sales purchases price out
+    b v c →
+    HourPut sides prices quantities from to sales purchases price before (putMid from (to - from) before out) b v c
+hour-put sides prices quantities from to sales purchases price before out b v c h k n d =
+    record {
+      sameLength = same-len-mid from (to - from) before out (n ∙ sym (mid-len from to before k));
+      front = take-put from (to - from) before out (omega arith);
+      done = rw (slice-put from to before out h k n, ← (mid-slice from to sides h), ← (mid-slice from to prices h), ← (mid-slice from to quantities h)) d;
+    }
+
+-- HOUR AFTER HOUR
+take-split : (a e : ℕ) (l : List ℕ) → a ≤ e → take e l ≡ take a l ++ slice a e l
+take-split a e l h = sym (take-append-drop a (take e l)) ∙ rw (take-take a e l h)
+
+inTurn-more : (q : ℕ → List ℕ) (n : ℕ) → inTurn q (n + 1) ≡ inTurn q n ++ q (n + 1)
+unfolding inTurn
+inTurn-more q n = rw add-one
+
+sumTo-more : (n : ℕ) (f : ℕ → ℕ) → sumTo (n + 1) f ≡ sumTo n f + f (n + 1)
+unfolding sumTo
+sumTo-more n f = rw add-one
+
+steps-next : (ends sides prices quantities : List ℕ) (h : ℕ) →
+    stepsAt ends sides prices quantities (h + 1)
+    ≡ stepsFrom (h + 1) (slice (getD ends h 0) (getD ends (h + 1) 0) sides) (slice (getD ends h 0) (getD ends (h + 1) 0) prices)
+    (slice (getD ends h 0) (getD ends (h + 1) 0) quantities)
+unfolding stepsAt
+steps-next ends sides prices quantities h = let e : h + 1 - 1 ≡ h = omega arith in rw e
+
+pub trades-are : (sides hours quantities : List ℕ) (set h sales purchases : ℕ) → TradesOf sides hours quantities set h sales purchases →
+    (sales ≡ salesAt sides hours quantities set h) × (purchases ≡ buysAt sides hours quantities set h)
+unfolding salesAt buysAt
+trades-are sides hours quantities set h sales purchases t = (t .sold, t .bought)
+
+pub trades-most : (sides hours quantities : List ℕ) (set h sales purchases : ℕ) → TradersSized sides hours quantities →
+    TradesOf sides hours quantities set h sales purchases → (sales ≤ 1600) × (purchases ≤ 1600)
+trades-most sides hours quantities set h sales purchases z t =
+    let e = trades-are sides hours quantities set h sales purchases t in
+    let f = trades-fit sides hours quantities set h z in
+    (omega arith, omega arith)
+
+-- no hour ends past the last
+pub hour-inside : (ends sides prices quantities : List ℕ) (h : ℕ) → StepsSized ends sides prices quantities → h < 24 →
+    getD ends (h + 1) 0 ≤ getD ends 24 0
+hour-inside ends sides prices quantities h s k = down (24 - (h + 1)) (h + 1) (omega arith)
+  where
+    down : (n j : ℕ) → j + n ≡ 24 → getD ends j 0 ≤ getD ends 24 0
+    down zero j e = let f : j ≡ 24 = omega arith in rw f (omega arith)
+    down (suc n) j e = omega (arith, s .rise j (omega arith), down n (j + 1) (omega arith))
+
+pub hour-part : (ends sides prices quantities : List ℕ) (h : ℕ) → StepsSized ends sides prices quantities → h < 24 →
+    PartSized sides prices quantities (getD ends h 0) (getD ends (h + 1) 0)
+hour-part ends sides prices quantities h s k =
+    let e = hour-inside ends sides prices quantities h s k in
+    record {
+      ordered = s .rise h k;
+      fit = omega (arith, e, s .fit);
+      inSides = omega (arith, e, s .inSides);
+      inPrices = omega (arith, e, s .inPrices);
+      inQuantities = omega (arith, e, s .inQuantities);
+      pricesFit = λ i m. s .pricesFit i (omega arith);
+      quantitiesFit = λ i m. s .quantitiesFit i (omega arith);
+    }
+
+module _ (ends sides prices quantities : List ℕ) (sales purchases price : ℕ → ℕ) where
+  abbrev steps : ℕ → List Step
+  steps = stepsAt ends sides prices quantities
+
+  abbrev gets : ℕ → List ℕ
+  gets = getsAt (stepsAt ends sides prices quantities) sales purchases price
+
+  pub hours-none : (values traded : List ℕ) → length traded ≡ 24 → getD ends 0 0 ≡ 0 →
+      HoursDone ends (stepsAt ends sides prices quantities) sales purchases price 0 values traded 0 0
+  unfolding inTurn sumTo
+  hours-none values traded room e =
+      record {
+        room = room;
+        gets = rw e;
+        tradedIs = λ h a b. absurd (omega arith);
+        valueIs = refl;
+        costIs = refl;
+        valueFits = omega arith;
+        costFits = omega arith;
+      }
+
+  pub hours-more : (h : ℕ) (values values′ traded : List ℕ) (v c b v′ c′ s u p : ℕ) → h < 24 →
+      s ≡ sales (h + 1) → u ≡ purchases (h + 1) → p ≡ price (h + 1) → getD ends h 0 ≤ getD ends (h + 1) 0 →
+      HoursDone ends (stepsAt ends sides prices quantities) sales purchases price h values traded v c →
+      HourPut sides prices quantities (getD ends h 0) (getD ends (h + 1) 0) s u p values values′ b v′ c′ →
+      HoursDone ends (stepsAt ends sides prices quantities) sales purchases price (h + 1) values′ (set traded h (b + u)) (v + v′) (c + c′)
+  hours-more h values values′ traded v c b v′ c′ s u p k es eu ep rise d put =
+      let from = getD ends h 0 in
+      let to = getD ends (h + 1) 0 in
+      let next = steps-next ends sides prices quantities h in
+      let got : slice from to values′ ≡ gets (h + 1) = put .done .gets (h + 1) ∙ rw (next, es, eu, ep) in
+      let bought-is : b ≡ bought (steps (h + 1)) (gets (h + 1)) = put .done .buysIs (h + 1) ∙ rw (got, next) in
+      let value-is : v′ ≡ value (steps (h + 1)) (gets (h + 1)) = put .done .valueIs (h + 1) ∙ rw (got, next) in
+      let cost-is : c′ ≡ cost (steps (h + 1)) (gets (h + 1)) = put .done .costIs (h + 1) ∙ rw (got, next) in
+      record {
+        room = length-set traded h (b + u) ∙ d .room;
+        gets = take-split from to values′ rise ∙ rw (put .front, d .gets, got, inTurn-more gets h);
+        tradedIs = λ j a m. elim (decLe j h) [
+          | yes z ↦ getD-set-other traded h (j - 1) (b + u) 0 (λ e. omega arith) ∙ d .tradedIs j a z
+          | no z ↦
+              let e : j ≡ h + 1 = (let l = lt-of-not-le z in omega arith) in
+              let f : h + 1 - 1 ≡ h = omega arith in
+              rw (e, f, getD-set-same traded h (b + u) 0 (omega (arith, d .room))) (omega arith)
+        ];
+        valueIs = omega (arith, d .valueIs, sumTo-more h (λ j. value (steps j) (gets j)));
+        costIs = omega (arith, d .costIs, sumTo-more h (λ j. cost (steps j) (gets j)));
+        valueFits = omega (arith, d .valueFits, put .done .valueFits);
+        costFits = omega (arith, d .costFits, put .done .costFits);
+      }

@@ -1,0 +1,276 @@
+-- THE PUBLICATION IS THE RESULT: what is computed out of an accepted book's columns with the published set and its prices is what the definition
+-- publishes: the steps' quantities hour after hour, the traded quantities, the welfare and the rows. Assumes nothing.
+use Prim.Native.Nat.{ℕ, zero, suc, _+_, _-_, _/_, _%_, _^_, _≤_, _<_}
+use mathlib.Core.Bool.{Bool, true, false, cond}
+use mathlib.Core.Path.{_≡_, refl, sym, ap, ap₂, _∙_}
+use mathlib.Core.List.{List, [], _∷_, _++_}
+use native.Mathlib.Omega.{arith}
+use lib.Dec.{eqb}
+use lib.ListN.{length, take, getD, length-map}
+use lib.Seq.{ext-getD, take-all, take-take, getD-take, length-take-le}
+use Rattle.book.specs.Records.{recordCount, blockAt}
+use Rattle.book.specs.Chains.{blockChain}
+use Rattle.book.specs.Refusals.{Accepted}
+use Rattle.rules.specs.Orders.{Step, Block}
+use Rattle.rules.specs.Day.{taken, decisions, overBlocks, sells, buys, stepsIn, sumTo, setPrices, traded, executed, welfare, dayValue, dayCost}
+use Rattle.rules.specs.Day.{blocksValue, blocksCost}
+use Rattle.rules.specs.Outcome.{outcome, forHours}
+use Rattle.rules.specs.Contender.{quantitiesIn}
+use Rattle.rules.proofs.SetBits.{bits-length, bits-at}
+use Rattle.rules.proofs.DualityLaws.{value, cost}
+use Rattle.rules.proofs.DayLaws.{executed-in, value-by-hour, cost-by-hour}
+use Rattle.orders.specs.Bridge.{dayFrom}
+use Rattle.orders.specs.Columns.{blockRecords, byHour, StepColumns, BlockColumns, blocksFrom}
+use Rattle.orders.proofs.RecordLaws.{blocks-all}
+use Rattle.orders.proofs.HourLaws.{hour-from-columns}
+use Rattle.orders.proofs.PlaceLaws.{block-place}
+use Rattle.orders.proofs.BridgeLaws.{blocks-from-columns, block-count, day-blocks, prices-in-range, hours-in-range}
+use Rattle.pricing.specs.Curves.{tradersFrom}
+use Rattle.clearing.specs.Search.{ofHour}
+use Rattle.clearing.specs.Rows.{rowAt}
+use Rattle.clearing.specs.Result.{bytesOf, hourRows, recordRows, beside, blockRows, rowOf, resultBytes}
+use Rattle.clearing.specs.Publish.{FirstSmall, TradersSized, HoursDone, WorthOf, RowsOf, stepsAt, salesAt, buysAt, inTurn, getsAt}
+use Rattle.clearing.proofs.RowLaws.{records-same}
+use Rattle.clearing.proofs.HoursLaws.{small-take}
+use Rattle.clearing.proofs.BranchLaws.{sumTo-in, daySum-plain}
+use Rattle.clearing.proofs.RowsLaws.{
+  hourAfterHour,
+  publishedBlocks,
+  chosen-is,
+  executedIn,
+  executedByHour,
+  rows-by-hour,
+  blockRows-length,
+  blockRows-at,
+}
+use Rattle.clearing.proofs.PromiseLaws.{hours-length, hour-at, bytes-are}
+
+-- THE BLOCKS' TRADES go by their sides, hours and quantities alone
+traders-same : (b : List ℕ) (h : ℕ) (records sides hours prices quantities : List ℕ) (set : List Bool) → length records ≡ length sides →
+    length prices ≡ length sides →
+    (overBlocks (sells h) (taken (tradersFrom sides hours quantities) set)
+    ≡ overBlocks (sells h) (taken (blocksFrom b records sides hours prices quantities) set))
+    × (overBlocks (buys h) (taken (tradersFrom sides hours quantities) set)
+    ≡ overBlocks (buys h) (taken (blocksFrom b records sides hours prices quantities) set))
+unfolding tradersFrom blocksFrom
+traders-same b h [] [] hours prices quantities set e f = (refl, refl)
+traders-same b h [] (s ∷ sides) hours prices quantities set e f = absurd (omega arith)
+traders-same b h (r ∷ records) [] hours prices quantities set e f = absurd (omega arith)
+traders-same b h (r ∷ records) (s ∷ sides) [] prices quantities set e f = (refl, refl)
+traders-same b h (r ∷ records) (s ∷ sides) (x ∷ hours) [] quantities set e f = absurd (omega arith)
+traders-same b h (r ∷ records) (s ∷ sides) (x ∷ hours) (p ∷ prices) [] set e f = (refl, refl)
+traders-same b h (r ∷ records) (s ∷ sides) (x ∷ hours) (p ∷ prices) (q ∷ quantities) [] e f = (refl, refl)
+traders-same b h (r ∷ records) (s ∷ sides) (x ∷ hours) (p ∷ prices) (q ∷ quantities) (true ∷ set) e f =
+    let t = traders-same b h records sides hours prices quantities set (omega arith) (omega arith) in (rw (t .0), rw (t .1))
+traders-same b h (r ∷ records) (s ∷ sides) (x ∷ hours) (p ∷ prices) (q ∷ quantities) (false ∷ set) e f =
+    traders-same b h records sides hours prices quantities set (omega arith) (omega arith)
+
+-- lists that agree in each of the hours
+inTurn-same : (n : ℕ) (q r : ℕ → List ℕ) → ((h : ℕ) → 1 ≤ h → h ≤ n → q h ≡ r h) → inTurn q n ≡ hourAfterHour r n
+unfolding inTurn hourAfterHour
+inTurn-same zero q r e = refl
+inTurn-same (suc n) q r e = ap₂ _++_ (inTurn-same n q r (λ h a k. e h a (omega arith))) (e (suc n) (omega arith) (omega arith))
+
+-- a column of 24 with a number of each hour
+column-is : (column : List ℕ) (f : ℕ → ℕ) → length column ≡ 24 → ((h : ℕ) → 1 ≤ h → h ≤ 24 → ofHour column h ≡ f h) → column ≡ forHours 24 f
+column-is column f n e =
+    ext-getD 0 column (forHours 24 f) (n ∙ sym (hours-length 24 f))
+    (λ i k.
+    let back : i + 1 - 1 ≡ i = omega arith in
+    (rw back at (e (i + 1) (omega arith) (omega arith))) ∙ sym (rw back at (hour-at 24 f (i + 1) (omega arith) (omega arith))))
+
+-- THE ROWS in two goes: the blocks' first, then the steps'
+pub rows-twice : (records values brecords bquantities bvals start rows₀ rows : List ℕ) (set : ℕ) → ((k : ℕ) → getD start k 0 ≡ 0) →
+    length brecords ≤ length bvals →
+    ((i : ℕ) → i < length brecords → getD bvals i 0 ≡ cond (eqb (set / 2 ^ i % 2) 1) (getD bquantities i 0) 0) →
+    ((k : ℕ) → k < 2048 → getD rows₀ k 0 ≡ beside k brecords (take (length brecords) bvals) (getD start k 0)) →
+    ((k : ℕ) → k < 2048 → getD rows k 0 ≡ beside k records values (getD rows₀ k 0)) → RowsOf records values brecords bquantities set rows
+rows-twice records values brecords bquantities bvals start rows₀ rows set none fits at first second bvalues size same k small =
+    let n = length brecords in
+    let e : take n bvals ≡ bvalues =
+    ext-getD 0 (take n bvals) bvalues (length-take-le n bvals fits ∙ sym size)
+    (λ i l.
+    let m : i < n = omega (arith, length-take-le n bvals fits) in
+    getD-take n bvals i 0 m ∙ at i m ∙ sym (same i m)) in
+    second k small ∙ rw (first k small, e, none k)
+
+-- AN ACCEPTED BOOK with its columns, the published set and its prices
+module _ (b ends records sides prices quantities brecords bsides bhours bprices bquantities middles : List ℕ) (set : ℕ) (a : Accepted b)
+    (columns : StepColumns b ends records sides prices quantities)
+    (blocks : BlockColumns b (length bsides) brecords bsides bhours bprices bquantities)
+    (chosen : decisions (length bsides) set ≡ outcome (dayFrom b))
+    (priced : (h : ℕ) → 1 ≤ h → h ≤ 24 → ofHour middles h ≡ setPrices (dayFrom b) (publishedBlocks b) h)
+    (sizeR : length bsides ≡ length brecords) (sizeH : length bsides ≡ length bhours) (sizeP : length bsides ≡ length bprices)
+    (sizeQ : length bsides ≡ length bquantities) where
+  abbrev steps : ℕ → List Step
+  steps = stepsAt ends sides prices quantities
+
+  abbrev sales : ℕ → ℕ
+  sales = salesAt bsides bhours bquantities set
+
+  abbrev purchases : ℕ → ℕ
+  purchases = buysAt bsides bhours bquantities set
+
+  abbrev gets : ℕ → List ℕ
+  gets = getsAt (stepsAt ends sides prices quantities) (salesAt bsides bhours bquantities set) (buysAt bsides bhours bquantities set) (ofHour middles)
+
+  steps-are : (h : ℕ) → 1 ≤ h → h ≤ 24 → steps h ≡ stepsIn h (dayFrom b .steps)
+  unfolding stepsAt
+  steps-are h first last = sym (hour-from-columns b ends records sides prices quantities columns a h first last)
+
+  -- the day's blocks
+  blocks-are : blocksFrom b brecords bsides bhours bprices bquantities ≡ dayFrom b .blocks
+  blocks-are =
+      sym (blocks-from-columns b (length bsides) brecords bsides bhours bprices bquantities blocks a
+      ∙ rw (
+        take-all (length bsides) brecords (omega arith),
+        take-all (length bsides) bsides (omega arith),
+        take-all (length bsides) bhours (omega arith),
+        take-all (length bsides) bprices (omega arith),
+        take-all (length bsides) bquantities (omega arith),
+      ))
+
+  taken-are : taken (blocksFrom b brecords bsides bhours bprices bquantities) (decisions (length bsides) set) ≡ publishedBlocks b
+  taken-are = rw (blocks-are, chosen)
+
+  sales-are : (h : ℕ) → sales h ≡ overBlocks (sells h) (publishedBlocks b)
+  unfolding salesAt
+  sales-are h =
+      traders-same b h brecords bsides bhours bprices bquantities (decisions (length bsides) set) (sym sizeR) (sym sizeP) .0
+      ∙ ap (overBlocks (sells h)) taken-are
+
+  purchases-are : (h : ℕ) → purchases h ≡ overBlocks (buys h) (publishedBlocks b)
+  unfolding buysAt
+  purchases-are h =
+      traders-same b h brecords bsides bhours bprices bquantities (decisions (length bsides) set) (sym sizeR) (sym sizeP) .1
+      ∙ ap (overBlocks (buys h)) taken-are
+
+  gets-are : (h : ℕ) → 1 ≤ h → h ≤ 24 → gets h ≡ executedIn b h
+  unfolding executedIn
+  gets-are h first last = rw (steps-are h first last, sales-are h, purchases-are h, priced h first last)
+
+  module _ (values traded-r : List ℕ) (v c wv wc : ℕ)
+      (hours : HoursDone ends (stepsAt ends sides prices quantities) (salesAt bsides bhours bquantities set) (buysAt bsides bhours bquantities set)
+      (ofHour middles) 24 values traded-r v c)
+      (worth : WorthOf bsides bhours bprices bquantities set wv wc) where
+    values-are : take (getD ends 24 0) values ≡ executedByHour b 24
+    unfolding executedByHour
+    values-are = hours .gets ∙ inTurn-same 24 gets (executedIn b) gets-are
+
+    traded-are : (h : ℕ) → 1 ≤ h → h ≤ 24 → ofHour traded-r h ≡ traded (dayFrom b) (publishedBlocks b) h
+    unfolding traded executedIn
+    traded-are h first last = hours .tradedIs h first last ∙ rw (gets-are h first last, steps-are h first last, purchases-are h)
+
+    -- THE WELFARE
+    abbrev S : List Block
+    S = publishedBlocks b
+
+    executed-here : (h : ℕ) → quantitiesIn h (dayFrom b .steps) (executed (dayFrom b) (publishedBlocks b)) ≡ executedIn b h
+    unfolding executedIn
+    executed-here h = executed-in (dayFrom b) (prices-in-range b a) (hours-in-range b a) (publishedBlocks b) h
+
+    value-is : v + wv ≡ dayValue (dayFrom b) (publishedBlocks b) (executed (dayFrom b) (publishedBlocks b))
+    value-is =
+        let d = dayFrom b in
+        let sum : v ≡ sumTo 24 (λ h. value (stepsIn h (d .steps)) (quantitiesIn h (d .steps) (executed d S))) =
+        hours .valueIs ∙ sumTo-in 24 _ _ (λ h x y. rw (gets-are h x y, steps-are h x y, executed-here h)) in
+        let of : wv ≡ blocksValue (d .hours) S = worth .valueIs b brecords (d .hours) (sym sizeR) ∙ rw taken-are in
+        rw (sum, of)
+        (sym (value-by-hour d (prices-in-range b a) (hours-in-range b a) S (executed d S) ∙ rw (daySum-plain (d .hours))))
+
+    cost-is : c + wc ≡ dayCost (dayFrom b) (publishedBlocks b) (executed (dayFrom b) (publishedBlocks b))
+    cost-is =
+        let d = dayFrom b in
+        let sum : c ≡ sumTo 24 (λ h. cost (stepsIn h (d .steps)) (quantitiesIn h (d .steps) (executed d S))) =
+        hours .costIs ∙ sumTo-in 24 _ _ (λ h x y. rw (gets-are h x y, steps-are h x y, executed-here h)) in
+        let of : wc ≡ blocksCost (d .hours) S = worth .costIs b brecords (d .hours) (sym sizeR) ∙ rw taken-are in
+        rw (sum, of)
+        (sym (cost-by-hour d (prices-in-range b a) (hours-in-range b a) S (executed d S) ∙ rw (daySum-plain (d .hours))))
+
+    welfare-are : v + wv - (c + wc) ≡ welfare (dayFrom b) (outcome (dayFrom b))
+    unfolding welfare
+    welfare-are = rw (value-is, cost-is)
+
+    -- THE ROWS
+    outcome-count : length (outcome (dayFrom b)) ≡ length (blockChain b)
+    outcome-count =
+        rw (← chosen) (bits-length (length bsides) set)
+        ∙ sym (block-count b (length bsides) brecords bsides bhours bprices bquantities blocks a) ∙ rw (day-blocks b, length-map)
+
+    brecords-here : brecords ≡ blockRecords b
+    brecords-here = sym (take-all (length bsides) brecords (omega arith)) ∙ blocks .recordsAre
+
+    brecords-are : brecords ≡ blockChain b
+    brecords-are = brecords-here ∙ blocks-all b a
+
+    abbrev bvalues : List ℕ
+    bvalues = blockRows b (blockChain b) (outcome (dayFrom b))
+
+    bvalues-at : (i : ℕ) → i < length brecords → getD bvalues i 0 ≡ cond (eqb (set / 2 ^ i % 2) 1) (getD bquantities i 0) 0
+    bvalues-at i k =
+        let p = block-place b (length bsides) brecords bsides bhours bprices bquantities blocks a i (omega arith) in
+        let inside : i < length (blockChain b) = rw brecords-are at k in
+        let bit : getD (outcome (dayFrom b)) i false ≡ eqb (set / 2 ^ i % 2) 1 = rw (← chosen) (bits-at (length bsides) set i (omega arith)) in
+        let q : getD bquantities i 0 ≡ blockAt b (getD (blockChain b) i 0) .quantity = rw brecords-are at (p .quantityIs) in
+        blockRows-at b (blockChain b) (outcome (dayFrom b)) i outcome-count inside ∙ rw (bit, q)
+
+    module _ (rows : List ℕ) (rowed : RowsOf (take (getD ends 24 0) records) (take (getD ends 24 0) values) brecords bquantities set rows) where
+      row-is : (k : ℕ) → k < 2048 → rowAt rows k ≡ rowOf b k
+      row-is k small =
+          let n = columns .endsAt 24 (omega arith) in
+          let r : take (getD ends 24 0) records ≡ byHour b 24 = rw n (columns .recordsAre) in
+          rowed bvalues (rw brecords-are (blockRows-length b (blockChain b) (outcome (dayFrom b)) outcome-count)) bvalues-at k small
+          ∙ rw (r, values-are, brecords-here) (rows-by-hour b a bvalues (rw (chosen-is b)) k)
+
+      -- THE WHOLE
+      pub published-from : (result : List ℕ) (count w : ℕ) → length middles ≡ 24 → length traded-r ≡ 24 → count ≡ recordCount b → count ≤ 2048 →
+          w ≡ v + wv - (c + wc) →
+          result ≡ bytesOf 8 w ++ (hourRows middles traded-r ++ recordRows (rowAt rows) (count - 1) 1) → result ≡ resultBytes b
+      published-from result count w lm lt same small ew e =
+          e ∙ rw (
+            bytes-are b a,
+            ew,
+            welfare-are,
+            column-is middles (setPrices (dayFrom b) (publishedBlocks b)) lm priced,
+            column-is traded-r (traded (dayFrom b) (publishedBlocks b)) lt traded-are,
+            records-same (rowAt rows) (rowOf b) (count - 1) 1 (λ i x y. row-is i (omega arith)),
+            same,
+          )
+
+-- THE BLOCKS' COLUMNS as the fronts of their arrays
+module _ (count : ℕ) (records sides hours prices quantities : List ℕ) (few : count ≤ 32) (lr : count ≤ length records) (ls : count ≤ length sides)
+    (lh : count ≤ length hours) (lp : count ≤ length prices) (lq : count ≤ length quantities) where
+  pub fronts-sized : FirstSmall count 50 quantities → TradersSized (take count sides) (take count hours) (take count quantities)
+  fronts-sized small =
+      record {
+        few = omega (arith, length-take-le count sides ls);
+        asManyHours = length-take-le count sides ls ∙ sym (length-take-le count hours lh);
+        asManyQuantities = length-take-le count sides ls ∙ sym (length-take-le count quantities lq);
+        quantitiesFit = small-take 50 count quantities small;
+      }
+
+  pub fronts-records : length (take count sides) ≡ length (take count records)
+  fronts-records = length-take-le count sides ls ∙ sym (length-take-le count records lr)
+
+  pub fronts-prices : length (take count sides) ≡ length (take count prices)
+  fronts-prices = length-take-le count sides ls ∙ sym (length-take-le count prices lp)
+
+  twice : (l : List ℕ) → take count (take count l) ≡ take count l
+  twice l = take-take count count l (omega arith)
+
+  pub fronts-columns : (b : List ℕ) → BlockColumns b count records sides hours prices quantities →
+      BlockColumns b (length (take count sides)) (take count records) (take count sides) (take count hours) (take count prices) (take count quantities)
+  fronts-columns b c =
+      rw (length-take-le count sides ls)
+      record {
+        counted = c .counted;
+        few = c .few;
+        recordsAre = twice records ∙ c .recordsAre;
+        sidesAre = twice sides ∙ c .sidesAre;
+        hoursAre = twice hours ∙ c .hoursAre;
+        pricesAre = twice prices ∙ c .pricesAre;
+        quantitiesAre = twice quantities ∙ c .quantitiesAre;
+      }
+
+  pub fronts-chosen : (set : ℕ) (d : List Bool) → decisions count set ≡ d → decisions (length (take count sides)) set ≡ d
+  fronts-chosen set d e = rw (length-take-le count sides ls) e

@@ -1,0 +1,204 @@
+-- What the blocks of a set are worth, one block at a time, and how much they trade in an hour at most. Assumes nothing.
+use Prim.Native.Nat.{ℕ, zero, suc, _+_, _-_, _*_, _/_, _%_, _≤_, _<_}
+use mathlib.Core.Path.{_≡_, refl, _∙_}
+use mathlib.Core.List.{List, [], _∷_}
+use mathlib.Core.Bool.{Bool, true, false, cond}
+use native.Mathlib.Omega.{arith}
+use native.Mathlib.Numerals.{add-one}
+use lib.Dec.{eqb}
+use lib.ListN.{length, drop, getD, drop-of-length-le}
+use lib.Seq.{drop-cons}
+use borrow.Author.Tests.{eq-eqb, ne-eqb}
+use Rattle.book.specs.Records.{number, holdsHour, hourCount}
+use Rattle.rules.specs.Orders.{Side, buy, sell, Block}
+use Rattle.rules.specs.Hour.{bySide, when}
+use Rattle.rules.specs.Day.{taken, decisions, overBlocks, sells, buys, blocksValue, blocksCost}
+use Rattle.rules.specs.Day as day
+use Rattle.orders.specs.Columns.{sideFor, blockOf, blocksFrom}
+use Rattle.orders.proofs.BridgeLaws.{hour-count}
+use Rattle.pricing.specs.Curves.{tradersFrom}
+use Rattle.clearing.specs.Search.{Small}
+use Rattle.clearing.specs.Publish.{WorthOf, TradersSized, salesAt, buysAt}
+use Rattle.clearing.proofs.SumLaws.{product-le}
+
+-- ONE BLOCK
+pub hours-few : (n x : ℕ) → hourCount n x ≤ n
+unfolding hourCount
+hours-few zero x = omega arith
+hours-few (suc n) x = omega (arith, hours-few n x, at (holdsHour x (suc n)))
+  where
+    at : (t : Bool) → cond t 1 0 ≤ 1
+    at true = omega arith
+    at false = omega arith
+
+module _ (p q x : ℕ) (fp : p ≤ 300000) (fq : q ≤ 50) where
+  pub limit-fits : (c : ℕ) → c ≡ hourCount 24 x → p * c ≤ 7200000
+  limit-fits c e = product-le p c 300000 24 fp (omega (arith, hours-few 24 x))
+
+  pub worth-fits : (c : ℕ) → c ≡ hourCount 24 x → q * (p * c) ≤ 360000000
+  worth-fits c e = product-le q (p * c) 50 7200000 fq (limit-fits c e)
+
+  pub worth-chosen : (t c : ℕ) → c ≡ hourCount 24 x → t ≡ 1 → q * (p * c) ≡ when (eqb t 1) (q * (p * hourCount 24 x))
+  worth-chosen t c e o = rw (eq-eqb t 1 o, e)
+
+  pub worth-not : (t : ℕ) → (t ≡ 1 → ⊥) → _≡_ {A = ℕ} 0 (when (eqb t 1) (q * (p * hourCount 24 x)))
+  worth-not t o = rw (ne-eqb t 1 o)
+
+-- ALL BLOCKS
+take-one : (f : Block → ℕ) (b : Block) (l : List Block) (t : Bool) (set : List Bool) →
+    overBlocks f (taken (b ∷ l) (t ∷ set)) ≡ when t (f b) + overBlocks f (taken l set)
+take-one f b l true set = refl
+take-one f b l false set = omega arith
+
+first-when : (t : Bool) (side : Side) (w : ℕ) → when t (bySide side w 0) ≡ bySide side (when t w) 0
+first-when true side w = refl
+first-when false buy w = refl
+first-when false sell w = refl
+
+second-when : (t : Bool) (side : Side) (w : ℕ) → when t (bySide side 0 w) ≡ bySide side 0 (when t w)
+second-when true side w = refl
+second-when false buy w = refl
+second-when false sell w = refl
+
+bySide-le : (side : Side) (q : ℕ) → (bySide side q 0 ≤ q) × (bySide side 0 q ≤ q)
+bySide-le buy q = (omega arith, omega arith)
+bySide-le sell q = (omega arith, omega arith)
+
+module _ (sides hours prices quantities : List ℕ) where
+  -- the blocks not yet counted, with what is left of the set
+  abbrev restFrom : List ℕ → List ℕ → ℕ → ℕ → List Block
+  restFrom b records i rest =
+      taken (blocksFrom b (drop i records) (drop i sides) (drop i hours) (drop i prices) (drop i quantities)) (decisions (length sides - i) rest)
+
+  abbrev allFrom : List ℕ → List ℕ → ℕ → List Block
+  allFrom b records set = taken (blocksFrom b records sides hours prices quantities) (decisions (length sides) set)
+
+  pub record Worthed (set bought-r value-r cost-r rest i : ℕ) : Type 0 where
+    pub inside : i ≤ length sides
+    pub nothing : bought-r ≡ 0
+    pub valueIs : (b records : List ℕ) (day-hours : ℕ) → length records ≡ length sides →
+        blocksValue day-hours (allFrom b records set) ≡ value-r + blocksValue day-hours (restFrom b records i rest)
+    pub costIs : (b records : List ℕ) (day-hours : ℕ) → length records ≡ length sides →
+        blocksCost day-hours (allFrom b records set) ≡ cost-r + blocksCost day-hours (restFrom b records i rest)
+    pub valueFits : value-r ≤ i * 360000000
+    pub costFits : cost-r ≤ i * 360000000
+
+  pub worthed-none : (set : ℕ) → Worthed set 0 0 0 set 0
+  worthed-none set =
+      let e : length sides - 0 ≡ length sides = omega arith in
+      record {
+        inside = omega arith;
+        nothing = refl;
+        valueIs = λ b records d same. rw e (omega arith);
+        costIs = λ b records d same. rw e (omega arith);
+        valueFits = omega arith;
+        costFits = omega arith;
+      }
+
+  module _ (sized : TradersSized sides hours quantities) (asMany : length sides ≡ length prices) where
+    rest-more : (f : Block → ℕ) (b records : List ℕ) (i rest : ℕ) → length records ≡ length sides → i < length sides →
+        overBlocks f (restFrom b records i rest)
+        ≡ when (eqb (rest % 2) 1) (f (blockOf (number b (getD records i 0)) (getD sides i 0) (getD hours i 0) (getD prices i 0) (getD quantities i 0)))
+        + overBlocks f (restFrom b records (i + 1) (rest / 2))
+    unfolding blocksFrom decisions
+    rest-more f b records i rest same k =
+        let kr : i < length records = omega arith in
+        let kh : i < length hours = omega (arith, sized .asManyHours) in
+        let kp : i < length prices = omega arith in
+        let kq : i < length quantities = omega (arith, sized .asManyQuantities) in
+        let e : length sides - i ≡ suc (length sides - (i + 1)) = omega arith in
+        rw (e, add-one i, drop-cons records i 0 kr, drop-cons sides i 0 k, drop-cons hours i 0 kh, drop-cons prices i 0 kp, drop-cons quantities i 0 kq)
+        (take-one f (blockOf (number b (getD records i 0)) (getD sides i 0) (getD hours i 0) (getD prices i 0) (getD quantities i 0))
+        (blocksFrom b (drop (suc i) records) (drop (suc i) sides) (drop (suc i) hours) (drop (suc i) prices) (drop (suc i) quantities))
+        (eqb (rest % 2) 1) (decisions (length sides - suc i) (rest / 2)))
+
+    rest-none : (f : Block → ℕ) (b records : List ℕ) (i rest : ℕ) → length records ≡ length sides → length sides ≤ i →
+        overBlocks f (restFrom b records i rest) ≡ 0
+    unfolding blocksFrom
+    rest-none f b records i rest same k = let e : length records ≤ i = omega arith in rw (drop-of-length-le records e)
+
+    module _ (i rest : ℕ) (k : i < length sides) where
+      abbrev side : Side
+      side = sideFor (getD sides i 0)
+
+      abbrev w : ℕ
+      w = getD quantities i 0 * (getD prices i 0 * hourCount 24 (getD hours i 0))
+
+      value-more : (b records : List ℕ) (d : ℕ) → length records ≡ length sides →
+          blocksValue d (restFrom b records i rest)
+          ≡ bySide side (when (eqb (rest % 2) 1) w) 0 + blocksValue d (restFrom b records (i + 1) (rest / 2))
+      unfolding blocksValue
+      value-more b records d same =
+          rest-more (λ b. bySide (b .side) (b .quantity * (b .price * day.hourCount d b)) 0) b records i rest same k
+          ∙ rw (hour-count d (number b (getD records i 0)) (getD sides i 0) (getD hours i 0) (getD prices i 0) (getD quantities i 0), first-when)
+
+      cost-more : (b records : List ℕ) (d : ℕ) → length records ≡ length sides →
+          blocksCost d (restFrom b records i rest)
+          ≡ bySide side 0 (when (eqb (rest % 2) 1) w) + blocksCost d (restFrom b records (i + 1) (rest / 2))
+      unfolding blocksCost
+      cost-more b records d same =
+          rest-more (λ b. bySide (b .side) 0 (b .quantity * (b .price * day.hourCount d b))) b records i rest same k
+          ∙ rw (hour-count d (number b (getD records i 0)) (getD sides i 0) (getD hours i 0) (getD prices i 0) (getD quantities i 0), second-when)
+
+    pub worthed-next : (set bo v c rest i worth bo′ v′ c′ : ℕ) → Worthed set bo v c rest i → i < length sides → worth ≤ 360000000 →
+        worth ≡ when (eqb (rest % 2) 1) (getD quantities i 0 * (getD prices i 0 * hourCount 24 (getD hours i 0))) →
+        bo′ ≡ bo + bySide (sideFor (getD sides i 0)) 0 0 → v′ ≡ v + bySide (sideFor (getD sides i 0)) worth 0 →
+        c′ ≡ c + bySide (sideFor (getD sides i 0)) 0 worth → Worthed set bo′ v′ c′ (rest / 2) (i + 1)
+    worthed-next set bo v c rest i worth bo′ v′ c′ s k small ew eb ev ec =
+        let sd = sideFor (getD sides i 0) in
+        record {
+          inside = omega arith;
+          nothing = omega (arith, s .nothing, bySide-le sd 0);
+          valueIs = λ b records d same. s .valueIs b records d same ∙ rw (value-more i rest k b records d same, ev, ew) (omega arith);
+          costIs = λ b records d same. s .costIs b records d same ∙ rw (cost-more i rest k b records d same, ec, ew) (omega arith);
+          valueFits = omega (arith, s .valueFits, bySide-le sd worth);
+          costFits = omega (arith, s .costFits, bySide-le sd worth);
+        }
+
+    value-none : (b records : List ℕ) (d i rest : ℕ) → length records ≡ length sides → length sides ≤ i →
+        blocksValue d (restFrom b records i rest) ≡ 0
+    unfolding blocksValue
+    value-none b records d i rest same k = rest-none _ b records i rest same k
+
+    cost-none : (b records : List ℕ) (d i rest : ℕ) → length records ≡ length sides → length sides ≤ i →
+        blocksCost d (restFrom b records i rest) ≡ 0
+    unfolding blocksCost
+    cost-none b records d i rest same k = rest-none _ b records i rest same k
+
+    pub worthed-all : (set bo v c rest i : ℕ) → Worthed set bo v c rest i → length sides ≤ i → WorthOf sides hours prices quantities set v c
+    worthed-all set bo v c rest i s k =
+        record {
+          valueIs = λ b records d same. omega (arith, s .valueIs b records d same, value-none b records d i rest same k);
+          costIs = λ b records d same. omega (arith, s .costIs b records d same, cost-none b records d i rest same k);
+          valueFits = omega (arith, s .valueFits, s .inside, sized .few);
+          costFits = omega (arith, s .costFits, s .inside, sized .few);
+        }
+
+-- IN AN HOUR the blocks of a set trade 50 each at most
+when-side-le : (t : Bool) (side : Side) (q : ℕ) → q ≤ 50 → (when t (bySide side 0 q) ≤ 50) × (when t (bySide side q 0) ≤ 50)
+when-side-le true buy q k = (omega arith, k)
+when-side-le true sell q k = (k, omega arith)
+when-side-le false side q k = (omega arith, omega arith)
+
+trades-few : (h : ℕ) (sides hours quantities : List ℕ) (set : List Bool) → Small 50 quantities →
+    (overBlocks (sells h) (taken (tradersFrom sides hours quantities) set) ≤ 50 * length sides)
+    × (overBlocks (buys h) (taken (tradersFrom sides hours quantities) set) ≤ 50 * length sides)
+unfolding tradersFrom
+trades-few h [] hours quantities set small = (omega arith, omega arith)
+trades-few h (s ∷ sides) [] quantities set small = (omega arith, omega arith)
+trades-few h (s ∷ sides) (x ∷ hours) [] set small = (omega arith, omega arith)
+trades-few h (s ∷ sides) (x ∷ hours) (q ∷ quantities) [] small = (omega arith, omega arith)
+trades-few h (s ∷ sides) (x ∷ hours) (q ∷ quantities) (true ∷ set) small =
+    let t = trades-few h sides hours quantities set (λ i. small (suc i)) in
+    let o = when-side-le (holdsHour x h) (sideFor s) q (small 0) in
+    (omega (arith, t .0, o .0), omega (arith, t .1, o .1))
+trades-few h (s ∷ sides) (x ∷ hours) (q ∷ quantities) (false ∷ set) small =
+    let t = trades-few h sides hours quantities set (λ i. small (suc i)) in
+    (omega (arith, t .0), omega (arith, t .1))
+
+pub trades-fit : (sides hours quantities : List ℕ) (set h : ℕ) → TradersSized sides hours quantities →
+    (salesAt sides hours quantities set h ≤ 1600) × (buysAt sides hours quantities set h ≤ 1600)
+unfolding salesAt buysAt
+trades-fit sides hours quantities set h sized =
+    let t = trades-few h sides hours quantities (decisions (length sides) set) (sized .quantitiesFit) in
+    (omega (arith, t .0, sized .few), omega (arith, t .1, sized .few))

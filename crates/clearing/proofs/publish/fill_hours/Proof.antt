@@ -1,0 +1,161 @@
+-- `clearing::publish::fill_hours` meets its contract: the hours before h are done. Assumes nothing.
+use Prim.Native.Nat.{_+_, _-_, _≤_}
+use mathlib.Core.Path.{_≡_, refl, _∙_}
+use native.Mathlib.Omega.{arith}
+use lib.ListN.{length}
+use Rattle.clearing.specs.Search.{ofHour}
+use Rattle.clearing.specs.Publish.{HoursDone, stepsAt, salesAt, buysAt}
+use Rattle.clearing.proofs.HoursLaws.{trades-are, trades-most, hour-inside, hour-part, hours-none, hours-more}
+use borrow.Author.Needs.{needs}
+use Rattle.clearing.proofs.publish.fill_hours.Statement.{statement}
+use Rattle.clearing.proofs.publish.fill_hours.Tie as tie
+
+abbrev Inv-loop : tie.InvT-loop
+Inv-loop sides prices quantities bsides bhours bquantities set values₀ ends middles traded₀ value₀ cost₀ h₀ values traded value cost h =
+    (length values ≡ length values₀) × (h ≤ 24)
+    × HoursDone ends (stepsAt ends sides prices quantities) (salesAt bsides bhours bquantities set) (buysAt bsides bhours bquantities set)
+    (ofHour middles) h values traded value cost
+
+abbrev μ-loop : tie.MeasureT-loop
+μ-loop sides prices quantities bsides bhours bquantities set values₀ ends middles traded₀ value₀ cost₀ h₀ values traded value cost h =
+    24 - h
+
+loop-holds : tie.Need-loop-holds Inv-loop μ-loop
+loop-holds c =
+    let s = c .before .before .before .before .before .before .before in
+    (refl, omega arith, hours-none _ _ _ _ _ _ _ _ _ refl (s .pre .0 .start))
+
+mul-from : tie.Need-mul-from Inv-loop μ-loop
+mul-from c = search needs
+
+array-read-from : tie.Need-array-read-from Inv-loop μ-loop
+array-read-from c = search needs
+
+cast-from : tie.Need-cast-from Inv-loop μ-loop
+cast-from c = search needs
+
+add-to : tie.Need-add-to Inv-loop μ-loop
+add-to c = search needs
+
+mul-to : tie.Need-mul-to Inv-loop μ-loop
+mul-to c = search needs
+
+array-read-to : tie.Need-array-read-to Inv-loop μ-loop
+array-read-to c = search needs
+
+cast-to : tie.Need-cast-to Inv-loop μ-loop
+cast-to c = search needs
+
+add-trades-of : tie.Need-add-trades-of Inv-loop μ-loop
+add-trades-of c = search needs
+
+cast-trades-of : tie.Need-cast-trades-of Inv-loop μ-loop
+cast-trades-of c = search needs
+
+trades-of-requires : tie.Need-trades-of-requires Inv-loop μ-loop
+trades-of-requires c κs = search needs
+
+mul-put-hour : tie.Need-mul-put-hour Inv-loop μ-loop
+mul-put-hour c = search needs
+
+array-read-put-hour : tie.Need-array-read-put-hour Inv-loop μ-loop
+array-read-put-hour c = search needs
+
+put-hour-requires : tie.Need-put-hour-requires Inv-loop μ-loop
+put-hour-requires c κs =
+    let v = c .before .before .before in
+    let h = c .before .before .loop-test .taken in
+    let s = v .before .before .before .before .before .before .before .before in
+    let t = trades-most _ _ _ _ _ _ _ (s .pre .1) (c .before .trades-of .ensures) in
+    let inside = hour-inside _ _ _ _ (v .loop .h) (s .pre .0) h in
+    (hour-part _ _ _ _ (v .loop .h) (s .pre .0) h, omega (arith, s .pre .3, v .loop .inv .0), s .pre .2 (v .loop .h) h, t .0, t .1)
+
+add-traded : tie.Need-add-traded Inv-loop μ-loop
+add-traded c =
+    let p = c .before .before .before .before in
+    let w = p .before .before in
+    let s = w .before .before .before .before .before .before .before .before .before .before in
+    let t = trades-most _ _ _ _ _ _ _ (s .pre .1) (w .trades-of .ensures) in
+    record { fits = omega (arith, t .1, p .put-hour .ensures .done .boughtFits) }
+
+cast-traded : tie.Need-cast-traded Inv-loop μ-loop
+cast-traded c =
+    let p = c .before .before .before .before in
+    let w = p .before .before in
+    let s = w .before .before .before .before .before .before .before .before .before .before in
+    let t = trades-most _ _ _ _ _ _ _ (s .pre .1) (w .trades-of .ensures) in
+    record { fits = omega (arith, t .1, p .put-hour .ensures .done .boughtFits) }
+
+mul-traded : tie.Need-mul-traded Inv-loop μ-loop
+mul-traded c = search needs
+
+array-write-traded : tie.Need-array-write-traded Inv-loop μ-loop
+array-write-traded c = search needs
+
+add-value : tie.Need-add-value Inv-loop μ-loop
+add-value c = search needs
+
+add-cost : tie.Need-add-cost Inv-loop μ-loop
+add-cost c = search needs
+
+add-h : tie.Need-add-h Inv-loop μ-loop
+add-h c = search needs
+
+loop-less : tie.Need-loop-less Inv-loop μ-loop
+loop-less c = search needs
+
+loop-again : tie.Need-loop-again Inv-loop μ-loop
+loop-again c =
+    let p = c .before .before .before .before .before .before in
+    let w = p .before .before in
+    let v = w .before .before in
+    let h = w .before .loop-test .taken in
+    let s = v .before .before .before .before .before .before .before .before in
+    let t = trades-are _ _ _ _ _ _ _ (w .trades-of .ensures) in
+    let one : v .loop .h + 1 - 1 ≡ v .loop .h = omega arith in (
+      p .put-hour .ensures .sameLength ∙ v .loop .inv .0,
+      omega arith,
+      hours-more _ _ _ _ _ _ _ (v .loop .h) _ _ _ _ _ _ _ _ _ _ _ h (t .0) (t .1) (rw one) (s .pre .0 .rise (v .loop .h) h) (v .loop .inv .2)
+          (p .put-hour .ensures),
+    )
+
+same-length : tie.Need-same-length Inv-loop μ-loop
+same-length c = search needs
+
+returns : tie.Need-returns Inv-loop μ-loop
+returns c =
+    let v = c .before in
+    let e : v .loop .h ≡ 24 = omega (arith, v .loop .inv .1) in
+    rw e at (v .loop .inv .2)
+
+pub fill-hours-spec : {M : Type 1} → statement M
+fill-hours-spec =
+    tie.close
+    (tie.spec
+    Inv-loop
+    μ-loop
+    loop-holds
+    mul-from
+    array-read-from
+    cast-from
+    add-to
+    mul-to
+    array-read-to
+    cast-to
+    add-trades-of
+    cast-trades-of
+    trades-of-requires
+    mul-put-hour
+    array-read-put-hour
+    put-hour-requires
+    add-traded
+    cast-traded
+    mul-traded
+    array-write-traded
+    add-value
+    add-cost
+    add-h
+    loop-less
+    loop-again
+    same-length
+    returns)

@@ -1,0 +1,171 @@
+-- THE PUBLICATION out of columns: what the steps of each hour get, hour after hour, what is traded, and what it is worth; the result's bytes from them.
+-- These are the contracts of the functions of src/publish.rt; the promise of the clearing itself is in Promise. Definitions only. Assumes nothing.
+use Prim.Native.Nat.{ℕ, zero, suc, _+_, _-_, _*_, _/_, _%_, _^_, _≤_, _<_}
+use mathlib.Core.Bool.{cond}
+use mathlib.Core.List.{List, [], _++_}
+use mathlib.Core.Path.{_≡_}
+use lib.Dec.{eqb}
+use lib.ListN.{length, take, getD}
+use lib.Seq.{slice}
+use Rattle.book.specs.Records.{recordCount}
+use Rattle.book.specs.Refusals.{Accepted}
+use Rattle.rules.specs.Orders.{Step}
+use Rattle.rules.specs.Execution.{execution, bought}
+use Rattle.rules.specs.Day.{taken, decisions, overBlocks, sells, buys, sumTo, setPrices, blocksValue, blocksCost}
+use Rattle.rules.specs.Outcome.{outcome}
+use Rattle.rules.proofs.PricingLaws.{net}
+use Rattle.rules.proofs.DualityLaws.{value, cost}
+use Rattle.orders.specs.Bridge.{dayFrom}
+use Rattle.orders.specs.Columns.{StepColumns, BlockColumns, stepsFrom, blocksFrom}
+use Rattle.orders.specs.declared.Blocks.{Blocks}
+use Rattle.pricing.specs.Curves.{tradersFrom}
+use Rattle.clearing.specs.Search.{Small, ofHour}
+use Rattle.clearing.specs.Meaning.{DayOf}
+use Rattle.clearing.specs.Result.{beside, resultBytes}
+use Rattle.clearing.specs.declared.search.Day as code-day
+
+-- Every one of the first n numbers of a list is at most m.
+abbrev pub FirstSmall : ℕ → ℕ → List ℕ → Type 0
+FirstSmall n m l = (i : ℕ) → i < n → getD l i 0 ≤ m
+
+-- AN HOUR out of its columns
+-- What its steps get at a price, and what that buys and is worth, whatever hour the columns are of.
+pub record HourDone (sides prices quantities : List ℕ) (sales purchases price : ℕ) (out : List ℕ) (bought-r value-r cost-r : ℕ) : Type 0 where
+  pub gets : (h : ℕ) → out ≡ execution (net (stepsFrom h sides prices quantities) sales purchases) price
+  pub buysIs : (h : ℕ) → bought-r ≡ bought (stepsFrom h sides prices quantities) out
+  pub valueIs : (h : ℕ) → value-r ≡ value (stepsFrom h sides prices quantities) out
+  pub costIs : (h : ℕ) → cost-r ≡ cost (stepsFrom h sides prices quantities) out
+  pub boughtFits : bought-r ≤ 204797952
+  pub valueFits : value-r ≤ 2 ^ 46
+  pub costFits : cost-r ≤ 2 ^ 46
+
+-- What quantities of an hour's steps buy and are worth; the steps' own quantities play no part in that.
+pub record SumsOf (sides prices values : List ℕ) (bought-r value-r cost-r : ℕ) : Type 0 where
+  pub buysIs : (h : ℕ) → bought-r ≡ bought (stepsFrom h sides prices values) values
+  pub valueIs : (h : ℕ) → value-r ≡ value (stepsFrom h sides prices values) values
+  pub costIs : (h : ℕ) → cost-r ≡ cost (stepsFrom h sides prices values) values
+  pub boughtFits : bought-r ≤ 204797952
+  pub valueFits : value-r ≤ 2 ^ 46
+  pub costFits : cost-r ≤ 2 ^ 46
+
+-- The same for the part of the columns from one place to another; what stands in front of it stays.
+pub record HourPut (sides prices quantities : List ℕ) (from to sales purchases price : ℕ) (before values : List ℕ)
+    (bought-r value-r cost-r : ℕ) : Type 0 where
+  pub sameLength : length values ≡ length before
+  pub front : take from values ≡ take from before
+  pub done : HourDone (slice from to sides) (slice from to prices) (slice from to quantities) sales purchases price (slice from to values)
+      bought-r value-r cost-r
+
+-- A part of the columns is within them, and its prices and quantities are in their ranges.
+pub record PartSized (sides prices quantities : List ℕ) (from to : ℕ) : Type 0 where
+  pub ordered : from ≤ to
+  pub fit : to ≤ 2048
+  pub inSides : to ≤ length sides
+  pub inPrices : to ≤ length prices
+  pub inQuantities : to ≤ length quantities
+  pub pricesFit : FirstSmall to 300000 prices
+  pub quantitiesFit : FirstSmall to 99999 quantities
+
+-- THE HOURS of the columns
+-- The part of a column that hour h has.
+abbrev pub partOf : List ℕ → List ℕ → ℕ → List ℕ
+partOf ends column h = slice (getD ends (h - 1) 0) (getD ends h 0) column
+
+-- The steps of hour h.
+unfoldable pub stepsAt : (ends sides prices quantities : List ℕ) → ℕ → List Step
+stepsAt ends sides prices quantities h = stepsFrom h (partOf ends sides h) (partOf ends prices h) (partOf ends quantities h)
+
+-- What the blocks of a set sell and buy in hour h.
+unfoldable pub salesAt : (sides hours quantities : List ℕ) (set : ℕ) → ℕ → ℕ
+salesAt sides hours quantities set h = overBlocks (sells h) (taken (tradersFrom sides hours quantities) (decisions (length sides) set))
+
+unfoldable pub buysAt : (sides hours quantities : List ℕ) (set : ℕ) → ℕ → ℕ
+buysAt sides hours quantities set h = overBlocks (buys h) (taken (tradersFrom sides hours quantities) (decisions (length sides) set))
+
+-- One list for each of the hours 1 to n, hour after hour.
+unfoldable pub inTurn : (ℕ → List ℕ) → ℕ → List ℕ
+inTurn q zero = []
+inTurn q (suc n) = inTurn q n ++ q (suc n)
+
+-- What the steps of hour h get, with its blocks' sales and purchases and its price.
+abbrev pub getsAt : (steps : ℕ → List Step) (sales purchases price : ℕ → ℕ) → ℕ → List ℕ
+getsAt steps sales purchases price h = execution (net (steps h) (sales h) (purchases h)) (price h)
+
+-- The hours 1 to n are done: what the steps get stands in front of the values, and with it what is traded in each hour, and the value and the cost.
+pub record HoursDone (ends : List ℕ) (steps : ℕ → List Step) (sales purchases price : ℕ → ℕ) (n : ℕ) (values traded : List ℕ)
+    (value-r cost-r : ℕ) : Type 0 where
+  pub room : length traded ≡ 24
+  pub gets : take (getD ends n 0) values ≡ inTurn (getsAt steps sales purchases price) n
+  pub tradedIs : (h : ℕ) → 1 ≤ h → h ≤ n → ofHour traded h ≡ bought (steps h) (getsAt steps sales purchases price h) + purchases h
+  pub valueIs : value-r ≡ sumTo n (λ h. value (steps h) (getsAt steps sales purchases price h))
+  pub costIs : cost-r ≡ sumTo n (λ h. cost (steps h) (getsAt steps sales purchases price h))
+  pub valueFits : value-r ≤ n * 2 ^ 46
+  pub costFits : cost-r ≤ n * 2 ^ 46
+
+-- THE BLOCKS of a set given as bits: their value and cost, whatever their numbers.
+pub record WorthOf (sides hours prices quantities : List ℕ) (set value-r cost-r : ℕ) : Type 0 where
+  pub valueIs : (b records : List ℕ) (day-hours : ℕ) → length records ≡ length sides →
+      value-r ≡ blocksValue day-hours (taken (blocksFrom b records sides hours prices quantities) (decisions (length sides) set))
+  pub costIs : (b records : List ℕ) (day-hours : ℕ) → length records ≡ length sides →
+      cost-r ≡ blocksCost day-hours (taken (blocksFrom b records sides hours prices quantities) (decisions (length sides) set))
+  pub valueFits : value-r ≤ 2 ^ 46
+  pub costFits : cost-r ≤ 2 ^ 46
+
+-- WHAT IS ASKED of the columns, for safe arithmetic and indexing
+pub record StepsSized (ends sides prices quantities : List ℕ) : Type 0 where
+  pub start : getD ends 0 0 ≡ 0
+  pub rise : (h : ℕ) → h < 24 → getD ends h 0 ≤ getD ends (h + 1) 0
+  pub fit : getD ends 24 0 ≤ 2048
+  pub inSides : getD ends 24 0 ≤ length sides
+  pub inPrices : getD ends 24 0 ≤ length prices
+  pub inQuantities : getD ends 24 0 ≤ length quantities
+  pub pricesFit : FirstSmall (getD ends 24 0) 300000 prices
+  pub quantitiesFit : FirstSmall (getD ends 24 0) 99999 quantities
+
+-- .. of the blocks, by the columns that trades go by
+pub record TradersSized (sides hours quantities : List ℕ) : Type 0 where
+  pub few : length sides ≤ 32
+  pub asManyHours : length sides ≡ length hours
+  pub asManyQuantities : length sides ≡ length quantities
+  pub quantitiesFit : Small 50 quantities
+
+-- .. of the prices of the hours
+abbrev pub Priced : List ℕ → Type 0
+Priced prices = (h : ℕ) → h < 24 → 1 ≤ getD prices h 0
+
+-- .. and of the buffer of a book of so many records
+abbrev pub Buffer : ℕ → List ℕ → Type 0
+Buffer count result = (1 ≤ count) × (count ≤ 2048) × (length result ≡ 196 + 4 * count)
+
+-- THE ROWS: each step's value beside its record, and each taken block's quantity beside its own.
+abbrev pub RowsOf : (records values brecords bquantities : List ℕ) (set : ℕ) (rows : List ℕ) → Type 0
+RowsOf records values brecords bquantities set rows =
+    (bvalues : List ℕ) → length bvalues ≡ length brecords →
+    ((i : ℕ) → i < length brecords → getD bvalues i 0 ≡ cond (eqb (set / 2 ^ i % 2) 1) (getD bquantities i 0) 0) →
+    (k : ℕ) → k < 2048 → getD rows k 0 ≡ beside k records values (beside k brecords bvalues 0)
+
+-- THE RESULT, where the columns are an accepted book's, the set is the published one and the prices are its prices
+abbrev pub PublishedFrom : (count : ℕ) (ends records sides prices quantities brecords bsides bhours bprices bquantities : List ℕ) (set : ℕ)
+    (middles result : List ℕ) → Type 0
+PublishedFrom count ends records sides prices quantities brecords bsides bhours bprices bquantities set middles result =
+    (b : List ℕ) → Accepted b → StepColumns b ends records sides prices quantities →
+    BlockColumns b (length bsides) brecords bsides bhours bprices bquantities → decisions (length bsides) set ≡ outcome (dayFrom b) →
+    ((h : ℕ) → 1 ≤ h → h ≤ 24 → ofHour middles h ≡ setPrices (dayFrom b) (taken (dayFrom b .blocks) (outcome (dayFrom b))) h) →
+    count ≡ recordCount b → result ≡ resultBytes b
+
+abbrev pub PublishedIn : (count : ℕ) (ends records sides prices quantities : List ℕ) (blocks : Blocks) (set : ℕ) (day : code-day.Day) (result : List ℕ) → Type 0
+PublishedIn count ends records sides prices quantities blocks set day result =
+    (b : List ℕ) → Accepted b → StepColumns b ends records sides prices quantities →
+    BlockColumns b (blocks .count) (blocks .records) (blocks .sides) (blocks .hours) (blocks .prices) (blocks .quantities) →
+    decisions (blocks .count) set ≡ outcome (dayFrom b) → DayOf (dayFrom b) (outcome (dayFrom b)) day → count ≡ recordCount b →
+    result ≡ resultBytes b
+
+-- WHAT IS ASKED of a call, all of it for safe arithmetic and indexing: it holds of an accepted book's columns, set and day.
+pub record Publishable (count : ℕ) (ends records sides prices quantities : List ℕ) (blocks : Blocks) (day : code-day.Day) (result : List ℕ) : Type 0 where
+  pub steps : StepsSized ends sides prices quantities
+  pub inRecords : getD ends 24 0 ≤ length records
+  pub fewBlocks : blocks .count ≤ 32
+  pub blockPricesFit : FirstSmall (blocks .count) 300000 (blocks .prices)
+  pub blockQuantitiesFit : FirstSmall (blocks .count) 50 (blocks .quantities)
+  pub priced : Priced (day .prices)
+  pub buffer : Buffer count result

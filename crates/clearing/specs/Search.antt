@@ -1,0 +1,74 @@
+-- What the search works on, and what it gives back. Definitions only. Assumes nothing.
+use Prim.Native.Nat.{ℕ, zero, suc, _+_, _-_, _*_, _/_, _%_, _^_, _≤_, _<_}
+use mathlib.Core.Bool.{Bool, true, false, not, _&&_, _||_}
+use mathlib.Core.List.{List, [], _∷_}
+use mathlib.Core.Path.{_≡_}
+use lib.Dec.{eqb, leb}
+use lib.ListN.{length, getD}
+use Rattle.rules.specs.Execution.{testSide}
+use Rattle.orders.specs.Columns.{sideFor}
+use Rattle.rules.specs.Hour.{when}
+use Rattle.rules.specs.Day.{sumTo}
+use Rattle.book.specs.Records.{holdsHour}
+
+-- Every number of a list is at most m.
+abbrev pub Small : ℕ → List ℕ → Type 0
+Small m l = (i : ℕ) → getD l i 0 ≤ m
+
+-- The sum of a column of hours over the hours of a block, given as bits.
+unfoldable pub sumOfHours : List ℕ → ℕ → ℕ
+sumOfHours column hours = sumTo 24 (λ h. when (holdsHour hours h) (getD column (h - 1) 0))
+
+-- THE TABLES: 24 rows of 1,602 places, hour 1 first.
+-- The number at a place of hour h.
+abbrev pub cell : List ℕ → ℕ → ℕ → ℕ
+cell table h i = getD table ((h - 1) * 1602 + i) 0
+
+-- The number of hour h in a column of 24.
+abbrev pub ofHour : List ℕ → ℕ → ℕ
+ofHour column h = getD column (h - 1) 0
+
+-- Each hour clears at its place, the place lying from the hour's first to its last.
+abbrev pub InRange : List ℕ → List ℕ → List ℕ → Type 0
+InRange first last places = (h : ℕ) → 1 ≤ h → h ≤ 24 → (ofHour first h ≤ ofHour places h) × (ofHour places h ≤ ofHour last h)
+
+-- The gaps at the places: their sum where every place is in range.
+pub record GapsOf (gap first last places : List ℕ) (clears : Bool) (sum : ℕ) : Type 0 where
+  pub inRange : clears ≡ true → InRange first last places
+  pub notInRange : clears ≡ false → InRange first last places → ⊥
+  pub sumIs : clears ≡ true → sum ≡ sumTo 24 (λ h. cell gap h (ofHour places h))
+  pub fits : sum ≤ 24 * 2 ^ 32
+
+-- The prices at the places: the middle of the two neighbouring entries.
+pub record PricesOf (low places prices : List ℕ) : Type 0 where
+  pub are : (h : ℕ) → 1 ≤ h → h ≤ 24 → ofHour prices h ≡ (cell low h (ofHour places h) + cell low h (ofHour places h + 1)) / 2
+  pub small : Small 300000 prices
+
+-- THE BLOCKS: six columns of 32 numbers: side, hours, quantity, limit (price times hour count), loss if taken, loss if left out.
+abbrev pub sideAt : List ℕ → ℕ → ℕ
+sideAt blocks i = getD blocks i 0
+
+abbrev pub hoursAt : List ℕ → ℕ → ℕ
+hoursAt blocks i = getD blocks (32 + i) 0
+
+abbrev pub quantityAt : List ℕ → ℕ → ℕ
+quantityAt blocks i = getD blocks (64 + i) 0
+
+abbrev pub limitAt : List ℕ → ℕ → ℕ
+limitAt blocks i = getD blocks (96 + i) 0
+
+abbrev pub againstAt : List ℕ → ℕ → ℕ
+againstAt blocks i = getD blocks (128 + i) 0
+
+abbrev pub gainAt : List ℕ → ℕ → ℕ
+gainAt blocks i = getD blocks (160 + i) 0
+
+-- A block keeps its limit at a column of prices.
+unfoldable pub keepsAt : ℕ → ℕ → ℕ → List ℕ → Bool
+keepsAt side hours limit prices = testSide (sideFor side) (leb (sumOfHours prices hours) limit) (leb limit (sumOfHours prices hours))
+
+-- Each of the first n blocks that a set of bits holds keeps its limit.
+unfoldable pub allKeep : List ℕ → ℕ → List ℕ → ℕ → Bool
+allKeep blocks set prices zero = true
+allKeep blocks set prices (suc i) =
+    (not (eqb (set / 2 ^ i % 2) 1) || keepsAt (sideAt blocks i) (hoursAt blocks i) (limitAt blocks i) prices) && allKeep blocks set prices i

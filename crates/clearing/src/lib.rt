@@ -1,0 +1,68 @@
+// The clearing: layer 3, above pricing.
+ghost use mathlib.Core.Path.{_≡_};
+ghost use Prim.Native.Nat.{_+_, _*_};
+ghost use lib.ListN.{length};
+ghost use Rattle.book.specs.Records.{recordCount};
+ghost use Rattle.book.specs.Refusals.{Accepted};
+ghost use Rattle.clearing.specs.Promise.{Promise};
+ghost use Rattle.clearing.specs.Result.{resultBytes};
+use book::read;
+use book::record_count;
+use book::Reading;
+use crate::publish::publish;
+use crate::search::find;
+use crate::setup::prepare;
+use orders::blocks_of;
+use orders::steps_of;
+
+mod publish; // the published set as the result
+mod result; // the result's bytes
+mod search; // the published set
+mod setup; // the tables of the search
+
+// What a clearing answers: the outcome is published, or refused with its number.
+pub enum Clearing {
+    Published,
+    Refused(u8),
+}
+
+// The outcome of an accepted book into a result of the right size.
+fn clear_accepted(book: &[u8], result: &mut [u8])
+    requires { ⌜ Accepted (now book) × (length (now result) ≡ 196 + 4 * recordCount (now book)) ⌝ }
+    ensures { λ _. ⌜ now (result .exit) ≡ resultBytes (now (book .entry)) ⌝ }
+{
+    let count = record_count(book) as usize;
+    let steps = steps_of(book);
+    let sides = steps.sides;
+    let prices = steps.prices;
+    let quantities = steps.quantities;
+    let records = steps.records;
+    let ends = steps.ends;
+    let blocks = blocks_of(book);
+    let mut low = [0; 38448];
+    let mut gap = [0; 38448];
+    let prepared = prepare(&sides, &prices, &quantities, ends, blocks, &mut low, &mut gap);
+    let first = prepared.first;
+    let last = prepared.last;
+    let columns = prepared.columns;
+    let best = find(&low, &gap, &first, &last, &columns, blocks.count as u32);
+    publish(count, &sides, &prices, &quantities, &records, ends, blocks, best.set, best.day, result);
+}
+
+// The auction's outcome for a book, written to the result; or the first refusal whose cause holds, and the result as it was.
+pub fn clear(book: &[u8], result: &mut [u8]) -> Clearing
+    ensures { λ r. ⌜ Promise (now (book .entry)) (now (result .entry)) (now (result .exit)) r ⌝ }
+{
+    let reading = read(book);
+    match reading {
+        Reading::Refused(number) => Clearing::Refused(number),
+        Reading::Accepted { steps: _, blocks: _ } => {
+            if result.len() == 196 + 4 * (record_count(book) as usize) {
+                clear_accepted(book, result);
+                Clearing::Published
+            } else {
+                Clearing::Refused(7)
+            }
+        }
+    }
+}

@@ -1,0 +1,273 @@
+// The publication: what the steps of each hour get at its price, what is traded, the welfare, and with them the
+// result's bytes. Assumes nothing.
+ghost use mathlib.Core.Path.{_≡_};
+ghost use Prim.Native.Nat.{_+_, _-_, _*_, _^_, _≤_};
+ghost use lib.ListN.{length, getD};
+ghost use lib.Dec.{eqb};
+ghost use Rattle.book.specs.Records.{hourCount};
+ghost use Rattle.rules.specs.Hour.{bySide, when};
+ghost use Rattle.orders.specs.Columns.{sideFor};
+ghost use Rattle.pricing.specs.Curves.{Columns};
+ghost use Rattle.clearing.specs.Search.{Small, ofHour};
+ghost use Rattle.clearing.specs.Publish.{HourDone, HourPut, PartSized, SumsOf, WorthOf, HoursDone, StepsSized, TradersSized, Priced};
+ghost use Rattle.clearing.specs.Publish.{stepsAt, salesAt, buysAt, Buffer, RowsOf, PublishedFrom, PublishedIn, Publishable};
+use crate::result::block_values;
+use crate::result::with_rows;
+use crate::result::write_result;
+use crate::search::Day;
+use book::hour_count;
+use orders::Blocks;
+use pricing::blocks::trades_of;
+use pricing::execution::amounts_at;
+use pricing::execution::share_out;
+
+// What quantities of steps buy, and what they are worth: the value of the buys and the cost of the sells.
+pub struct Sums {
+    pub bought: u64,
+    pub value: u64,
+    pub cost: u64,
+}
+
+impl Sums {
+    // One quantity more, with what it is worth.
+    fn add(mut self, side: u8, quantity: u64, worth: u64) -> Sums
+        requires { ⌜ (self .bought ≤ 2 ^ 62) × (self .value ≤ 2 ^ 62) × (self .cost ≤ 2 ^ 62) × (quantity ≤ 2 ^ 62) × (worth ≤ 2 ^ 62) ⌝ }
+        ensures { λ r. ⌜ (r .bought ≡ self .bought + bySide (sideFor side) quantity 0) × (r .value ≡ self .value + bySide (sideFor side) worth 0)
+            × (r .cost ≡ self .cost + bySide (sideFor side) 0 worth) ⌝ }
+    {
+        if side == 0 {
+            self.bought += quantity;
+            self.value += worth;
+        } else {
+            self.cost += worth;
+        }
+        self
+    }
+}
+
+// The sums of the columns' steps with a quantity for each.
+fn sums_of(sides: &[u8], prices: &[u32], values: &[u32]) -> Sums
+    requires { ⌜ Columns (now sides) (now prices) (now values) × Small 300000 (now prices) × Small 99999 (now values) ⌝ }
+    ensures { λ r. ⌜ SumsOf (now (sides .entry)) (now (prices .entry)) (now (values .entry)) (r .bought) (r .value) (r .cost) ⌝ }
+{
+    let mut sums = Sums {
+        bought: 0,
+        value: 0,
+        cost: 0,
+    };
+    let mut i: usize = 0;
+    while i < sides.len() {
+        let quantity = values[i] as u64;
+        let worth = quantity * (prices[i] as u64);
+        sums = sums.add(sides[i], quantity, worth);
+        i += 1;
+    }
+    sums
+}
+
+// What the steps of an hour get, into out, and its sums.
+fn fill_hour(
+    sides: &[u8],
+    prices: &[u32],
+    quantities: &[u32],
+    sales: u64,
+    buys: u64,
+    price: u32,
+    out: &mut [u32],
+) -> Sums
+    requires { ⌜ Columns (now sides) (now prices) (now quantities) × (length (now sides) ≡ length (now out)) × (1 ≤ price) × (sales ≤ 1600)
+        × (buys ≤ 1600) × Small 300000 (now prices) × Small 99999 (now quantities) ⌝ }
+    ensures { λ r. ⌜ HourDone (now (sides .entry)) (now (prices .entry)) (now (quantities .entry)) sales buys price (now (out .exit)) (r .bought)
+        (r .value) (r .cost) ⌝ }
+{
+    let net = (2097152 + sales - buys) as u32;
+    let amounts = amounts_at(sides, prices, quantities, net, price);
+    share_out(sides, prices, quantities, price, amounts, out);
+    sums_of(sides, prices, out)
+}
+
+// The same for the steps of the columns from one place to another, into the same places of values.
+fn put_hour(
+    sides: &[u8],
+    prices: &[u32],
+    quantities: &[u32],
+    from: usize,
+    to: usize,
+    sales: u64,
+    buys: u64,
+    price: u32,
+    values: &mut [u32],
+) -> Sums
+    requires { ⌜ PartSized (now sides) (now prices) (now quantities) from to × (to ≤ length (now values)) × (1 ≤ price) × (sales ≤ 1600)
+        × (buys ≤ 1600) ⌝ }
+    ensures { λ r. ⌜ HourPut (now (sides .entry)) (now (prices .entry)) (now (quantities .entry)) from to sales buys price (now (values .entry))
+        (now (values .exit)) (r .bought) (r .value) (r .cost) ⌝ }
+{
+    fill_hour(&sides[from..to], &prices[from..to], &quantities[from..to], sales, buys, price, &mut values[from..to])
+}
+
+// What a block is worth: its quantity times its limit over all its hours, if it is chosen (1 for yes).
+fn block_worth(chosen: u32, hours: u32, price: u32, quantity: u32) -> u64
+    requires { ⌜ (price ≤ 300000) × (quantity ≤ 50) ⌝ }
+    ensures { λ r. ⌜ (r ≡ when (eqb chosen 1) (quantity * (price * hourCount 24 hours))) × (r ≤ 360000000) ⌝ }
+{
+    if chosen == 1 {
+        let limit = price * hour_count(hours);
+        return (quantity * limit) as u64;
+    }
+    0
+}
+
+// The value and the cost of the blocks that the set holds, the lowest bit for the first block.
+fn blocks_worth(sides: &[u8], hours: &[u32], prices: &[u32], quantities: &[u32], set: u32) -> Sums
+    requires { ⌜ TradersSized (now sides) (now hours) (now quantities) × (length (now sides) ≡ length (now prices)) × Small 300000 (now prices) ⌝ }
+    ensures { λ r. ⌜ WorthOf (now (sides .entry)) (now (hours .entry)) (now (prices .entry)) (now (quantities .entry)) set (r .value) (r .cost) ⌝ }
+{
+    let mut sums = Sums {
+        bought: 0,
+        value: 0,
+        cost: 0,
+    };
+    let mut rest = set;
+    let mut i: usize = 0;
+    while i < sides.len() {
+        let worth = block_worth(rest % 2, hours[i], prices[i], quantities[i]);
+        sums = sums.add(sides[i], 0, worth);
+        rest = rest / 2;
+        i += 1;
+    }
+    sums
+}
+
+// What is traded in each hour, and the value and the cost of all steps.
+pub struct Hours {
+    pub traded: [u32; 24],
+    pub value: u64,
+    pub cost: u64,
+}
+
+// What the steps of each hour get, hour after hour, into values.
+fn fill_hours(
+    sides: &[u8],
+    prices: &[u32],
+    quantities: &[u32],
+    ends: [u16; 25],
+    bsides: &[u8],
+    bhours: &[u32],
+    bquantities: &[u32],
+    set: u32,
+    middles: [u32; 24],
+    values: &mut [u32],
+) -> Hours
+    requires { ⌜ StepsSized ends (now sides) (now prices) (now quantities) × TradersSized (now bsides) (now bhours) (now bquantities)
+        × Priced middles × (getD ends 24 0 ≤ length (now values)) ⌝ }
+    ensures { λ r. ⌜ HoursDone ends (stepsAt ends (now (sides .entry)) (now (prices .entry)) (now (quantities .entry)))
+        (salesAt (now (bsides .entry)) (now (bhours .entry)) (now (bquantities .entry)) set)
+        (buysAt (now (bsides .entry)) (now (bhours .entry)) (now (bquantities .entry)) set)
+        (ofHour middles) 24 (now (values .exit)) (r .traded) (r .value) (r .cost) ⌝ }
+{
+    let mut traded = [0u32; 24];
+    let mut value: u64 = 0;
+    let mut cost: u64 = 0;
+    let mut h: usize = 0;
+    while h < 24 {
+        let from = ends[h] as usize;
+        let to = ends[h + 1] as usize;
+        let trades = trades_of(bsides, bhours, bquantities, set, (h + 1) as u32);
+        let sums = put_hour(sides, prices, quantities, from, to, trades.sales, trades.buys, middles[h], values);
+        traded[h] = (sums.bought + trades.buys) as u32;
+        value += sums.value;
+        cost += sums.cost;
+        h += 1;
+    }
+    Hours { traded: traded, value: value, cost: cost }
+}
+
+// The difference, or 0.
+fn less(a: u64, b: u64) -> u64
+    ensures { λ r. ⌜ r ≡ a - b ⌝ }
+{
+    if b <= a { a - b } else { 0 }
+}
+
+// The row of each record: a step's value, a block's quantity if the set holds it, else 0.
+fn rows_of(
+    records: &[u16],
+    values: &[u32],
+    brecords: &[u16],
+    bquantities: &[u32],
+    set: u32,
+) -> [u32; 2048]
+    requires { ⌜ (length (now records) ≡ length (now values)) × (length (now brecords) ≡ length (now bquantities)) × (length (now brecords) ≤ 32) ⌝ }
+    ensures { λ r. ⌜ RowsOf (now (records .entry)) (now (values .entry)) (now (brecords .entry)) (now (bquantities .entry)) set r ⌝ }
+{
+    let m = brecords.len();
+    let bvalues = block_values(m, bquantities, set);
+    let rows = with_rows([0; 2048], brecords, &bvalues[..m]);
+    with_rows(rows, records, values)
+}
+
+// The result out of the columns, the set and its prices.
+fn publish_columns(
+    count: usize,
+    sides: &[u8],
+    prices: &[u32],
+    quantities: &[u32],
+    records: &[u16],
+    ends: [u16; 25],
+    brecords: &[u16],
+    bsides: &[u8],
+    bhours: &[u32],
+    bprices: &[u32],
+    bquantities: &[u32],
+    set: u32,
+    middles: [u32; 24],
+    result: &mut [u8],
+)
+    requires { ⌜ StepsSized ends (now sides) (now prices) (now quantities) × (getD ends 24 0 ≤ length (now records))
+        × TradersSized (now bsides) (now bhours) (now bquantities) × (length (now bsides) ≡ length (now brecords))
+        × (length (now bsides) ≡ length (now bprices)) × Small 300000 (now bprices) × Priced middles × Buffer count (now result) ⌝ }
+    ensures { λ _. ⌜ PublishedFrom count ends (now (records .entry)) (now (sides .entry)) (now (prices .entry)) (now (quantities .entry))
+        (now (brecords .entry)) (now (bsides .entry)) (now (bhours .entry)) (now (bprices .entry))
+        (now (bquantities .entry)) set middles (now (result .exit)) ⌝ }
+{
+    let n = ends[24] as usize;
+    let mut values = [0; 2048];
+    let hours = fill_hours(sides, prices, quantities, ends, bsides, bhours, bquantities, set, middles, &mut values);
+    let worth = blocks_worth(bsides, bhours, bprices, bquantities, set);
+    let welfare = less(hours.value + worth.value, hours.cost + worth.cost);
+    let rows = rows_of(&records[..n], &values[..n], brecords, bquantities, set);
+    let traded = hours.traded;
+    write_result(result, count, welfare, middles, traded, &rows);
+}
+
+// The result of a book of so many records: its steps' columns, its blocks, the published set and its day.
+pub fn publish(
+    count: usize,
+    sides: &[u8],
+    prices: &[u32],
+    quantities: &[u32],
+    records: &[u16],
+    ends: [u16; 25],
+    blocks: Blocks,
+    set: u32,
+    day: Day,
+    result: &mut [u8],
+)
+    requires { ⌜ Publishable count ends (now records) (now sides) (now prices) (now quantities) blocks day (now result) ⌝ }
+    ensures { λ _. ⌜ PublishedIn count ends (now (records .entry)) (now (sides .entry)) (now (prices .entry))
+        (now (quantities .entry)) blocks set day (now (result .exit)) ⌝ }
+{
+    let m = blocks.count;
+    let brecords = blocks.records;
+    let bsides = blocks.sides;
+    let bhours = blocks.hours;
+    let bprices = blocks.prices;
+    let bquantities = blocks.quantities;
+    let middles = day.prices;
+    publish_columns(
+        count, sides, prices, quantities, records, ends,
+        &brecords[..m], &bsides[..m], &bhours[..m], &bprices[..m], &bquantities[..m],
+        set, middles, result,
+    );
+}

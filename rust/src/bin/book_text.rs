@@ -1,0 +1,87 @@
+//! Turns a plain-text list of orders into a book, and a book into text. The form
+//! is documented in `auction_listing::text` and by `book_text --help`.
+
+use auction_listing::text::{refusal_meaning, to_book, to_text};
+use std::io::{self, Read, Write};
+use std::process::ExitCode;
+
+const HELP: &str = "\
+book_text: the plain-text form of an order book
+
+  book_text to-book < orders.txt > day.book    text to book bytes
+  book_text to-text < day.book > orders.txt    book bytes to text
+  book_text --help                             this page
+
+The text has one order a line. `#` begins a comment; empty lines are skipped.
+
+  step buy hour 1 price 5000 quantity 100 portfolio 1
+  step sell hour 1 price 3000 quantity 100 portfolio 2 number 7
+  block sell hours 1,2 price 2900 quantity 50 portfolio 3
+  block buy hours 1-8,21-24 price 4100 quantity 10 portfolio 3
+
+A line begins with `step` or `block` and `buy` or `sell`; the fields follow, each
+a word and its value, in any order:
+
+  hour       of a step, 1 to 24
+  hours      of a block, at least two, as a list of hours and ranges, no spaces
+  price      whole cents per MWh, 1 to 300000
+  quantity   whole tenths of a MW, 1 to 99999 for a step, 1 to 50 for a block
+  portfolio  1 to 255
+  number     1 to 65535; may be left out: one more than the order of its kind on
+             the line before it, and 1 for the first. Steps and blocks are
+             numbered separately, and each number stands once among them.
+
+The first order becomes record 1, the second record 2, and so on; the chains
+follow the numbers. A book has at most 2047 orders, of them at most 32 blocks,
+and at most 5 blocks of one portfolio.
+
+Exit codes: 0 done; 1 the input is wrong (the reason is on standard error and
+nothing is on standard output); 2 a wrong command.
+";
+
+fn main() -> ExitCode {
+    let arguments: Vec<String> = std::env::args().skip(1).collect();
+    let words: Vec<&str> = arguments.iter().map(String::as_str).collect();
+    let done = match words[..] {
+        ["to-book"] => input().and_then(|text| book_from(&text)),
+        ["to-text"] => input().and_then(|book| text_from(&book)),
+        ["--help" | "-h" | "help"] => Ok(HELP.as_bytes().to_vec()),
+        _ => {
+            eprintln!("book_text: expected `to-book`, `to-text` or `--help`");
+            return ExitCode::from(2);
+        }
+    };
+    match done.and_then(|bytes| output(&bytes)) {
+        Ok(()) => ExitCode::SUCCESS,
+        Err(message) => {
+            eprintln!("book_text: {message}");
+            ExitCode::from(1)
+        }
+    }
+}
+
+fn input() -> Result<Vec<u8>, String> {
+    let mut bytes = Vec::new();
+    let read = io::stdin().read_to_end(&mut bytes);
+    read.map_err(|error| format!("cannot read standard input: {error}"))?;
+    Ok(bytes)
+}
+
+fn output(bytes: &[u8]) -> Result<(), String> {
+    let mut out = io::stdout();
+    let written = out.write_all(bytes).and_then(|()| out.flush());
+    written.map_err(|error| format!("cannot write standard output: {error}"))
+}
+
+fn book_from(text: &[u8]) -> Result<Vec<u8>, String> {
+    let text = std::str::from_utf8(text).map_err(|_| {
+        "the input is not text (not UTF-8); expected one order a line, see --help".to_string()
+    })?;
+    to_book(text).map_err(|error| error.to_string())
+}
+
+fn text_from(book: &[u8]) -> Result<Vec<u8>, String> {
+    let refused =
+        |refusal| format!("the book is refused with {refusal}: {}", refusal_meaning(refusal));
+    to_text(book).map(String::into_bytes).map_err(refused)
+}

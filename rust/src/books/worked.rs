@@ -1,0 +1,100 @@
+//! The days of document 01 that are checked by hand. Numbers and portfolios
+//! follow decision 23: the base book's steps are 1 to 4, portfolio 1 buys,
+//! portfolio 2 sells, portfolio 3 owns the blocks.
+
+use super::builder::Orders;
+use crate::paper::Side::{Buy, Sell};
+
+/// The cases S1 to S10 by name.
+pub fn worked_days() -> Vec<(&'static str, Orders)> {
+    let with_block = |price| base().block(Sell, &[1, 2], price, 50, 3);
+    vec![
+        ("S1", base()),
+        ("S2", with_block(3_900)),
+        ("S3", with_block(3_000)),
+        ("S4", with_block(3_001)),
+        ("S5", with_block(2_900)),
+        ("S6", with_block(2_900).block(Sell, &[1, 2], 2_900, 50, 3)),
+        ("S7", Orders::new().step(Buy, 1, 4_001, 10, 1).step(Sell, 1, 3_000, 10, 2)),
+        ("S8", Orders::new().step(Buy, 1, 300_000, 100, 1).step(Sell, 1, 2_000, 60, 2)),
+        ("S9", Orders::new().step(Sell, 1, 1, 100, 2)),
+        ("S10", shared_sells()),
+    ]
+}
+
+fn base() -> Orders {
+    Orders::new()
+        .step(Buy, 1, 5_000, 100, 1)
+        .step(Sell, 1, 3_000, 100, 2)
+        .step(Buy, 2, 5_000, 100, 1)
+        .step(Sell, 2, 3_000, 100, 2)
+}
+
+/// The sell steps have the numbers 1 and 2, so the buy has 3.
+fn shared_sells() -> Orders {
+    Orders::new()
+        .step(Sell, 1, 3_000, 60, 2)
+        .step(Sell, 1, 3_000, 60, 2)
+        .step(Buy, 1, 5_000, 100, 1)
+}
+
+/// A book of the head alone.
+pub fn head_alone() -> Orders {
+    Orders::new()
+}
+
+/// A sell block and a buy block of one size, alone on the same hours.
+pub fn opposite_blocks() -> Orders {
+    Orders::new().block(Sell, &[1, 2], 3_000, 50, 3).block(Buy, &[1, 2], 5_000, 50, 3)
+}
+
+/// The numbers of the blocks taken in [`thirty_two_blocks`].
+pub const THIRTY_TWO_BLOCKS_TAKEN: [u32; 10] = [1, 4, 7, 10, 13, 16, 19, 22, 25, 28];
+
+/// A full set of blocks whose outcome is plain without listing 2^32 sets.
+///
+/// Each hour buys 1000 at 5000 and sells 1000 at 3000, so its price is 3000
+/// with N from 1 to 999, 4000 with N = 0 and 5000 with N from -999 to -1.
+/// Nineteen sell blocks of 50 come to 950 and thirteen buy blocks to 650, so N
+/// stays between these. The buys at 2500 are never within their limit, since no
+/// price is below 3000. Without them N is not below 0 and no price is above
+/// 4000, so the nine sells at 4500 are never within theirs. The ten sells at
+/// 2000 to 3000 are always within theirs, each adds (3000 - price) x 50 in each
+/// of its hours, and the two at 3000, which add nothing, are taken by the equal
+/// rule.
+pub fn thirty_two_blocks() -> Orders {
+    let mut orders = Orders::new();
+    for hour in 1..=24 {
+        orders = orders.step(Buy, hour, 5_000, 1_000, 1).step(Sell, hour, 3_000, 1_000, 2);
+    }
+    let whole_day: Vec<u32> = (1..=24).collect();
+    let peak: Vec<u32> = (9..=20).collect();
+    let night: Vec<u32> = (1..=6).collect();
+    let evening = [18, 19, 20, 21];
+    let two_parts = [1, 2, 3, 22, 23];
+    // No good block has hours 7, 8 and 24, so they stay at 4000.
+    let good: [(&[u32], u32); 10] = [
+        (&peak, 2_000),
+        (&peak, 3_000),
+        (&night, 2_500),
+        (&night, 2_900),
+        (&evening, 2_000),
+        (&evening, 2_100),
+        (&two_parts, 1),
+        (&two_parts, 3_000),
+        (&[1, 2], 2_999),
+        (&[12, 13], 2_000),
+    ];
+    for position in 0..32u32 {
+        let portfolio = 3 + position / 5;
+        orders = match (position % 3, position / 3) {
+            (0, index) if index < 10 => {
+                let (hours, price) = good[index as usize];
+                orders.block(Sell, hours, price, 50, portfolio)
+            }
+            (1, index) if index < 9 => orders.block(Sell, &peak, 4_500, 50, portfolio),
+            _ => orders.block(Buy, &whole_day, 2_500, 50, portfolio),
+        };
+    }
+    orders
+}

@@ -1,0 +1,16 @@
+//! The day-ahead auction of document 01 in plain Rust, written from the paper
+//! alone and by listing: every price, every set of blocks, every contender.
+//!
+//! It is slow on purpose. Its only use is to be compared with the proved code,
+//! so each function is meant to be read beside the sentence it comes from.
+//!
+//! - [`paper`]: reading, pricing, clearing, contenders and the sheet;
+//! - [`books`]: books to try them on: a builder, random books, damaged books;
+//! - [`text`]: a plain-text form of a book for people;
+//! - `proved` (with the feature of that name): calls of the proved library.
+
+pub mod books;
+pub mod paper;
+#[cfg(feature = "proved")]
+pub mod proved;
+pub mod text;

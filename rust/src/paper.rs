@@ -1,0 +1,25 @@
+//! Document 01, implemented by its own words.
+//!
+//! - `read`: any bytes to a book or its first refusal, 1 to 6;
+//! - `hour`: the price of one hour under a set of blocks, or refusal 8;
+//! - `day`: lawful sets, welfare, the published result, or refusal 7;
+//! - `contenders`: demand 3 taken literally, for tiny books;
+//! - `sheet`: what the program auction-print writes.
+
+mod contenders;
+mod day;
+mod hour;
+mod read;
+mod sheet;
+
+pub use contenders::{contenders, for_each_contender, BestContender, Contender};
+pub use day::{
+    clear, is_better, keeps_limit, net_block_sales, outcome, result_bytes, result_length,
+    tie_goes_to, Outcome, Published,
+};
+pub use hour::{
+    beyond_totals, candidates, clears, executed, price_hour, price_hour_by_scan, scan, HourAnswer,
+    HIGHEST_PRICE, LOWEST_PRICE,
+};
+pub use read::{read, Block, Book, Side, Step, HOURS};
+pub use sheet::{sheet, sheet_of};

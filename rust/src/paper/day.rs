@@ -1,0 +1,234 @@
+//! Layer 3: lawful sets, their welfare, and the one that is published.
+
+use super::hour::{executed, middle_price};
+use super::read::{read, Block, Book, Side, Step, HOURS};
+
+/// What a lawful set gives.
+#[derive(Clone, Debug, PartialEq, Eq)]
+pub struct Outcome {
+    /// The lowest bit stands for the first block of the chain.
+    pub set: u32,
+    /// Prices of hours 1 to 24.
+    pub prices: [u32; 24],
+    /// Traded quantities of hours 1 to 24: buy steps and buy blocks.
+    pub traded: [i64; 24],
+    /// The executed quantity of each step, in chain order.
+    pub executed: Vec<i64>,
+    pub welfare: i128,
+}
+
+/// The result buffer's length for a book of R records.
+pub fn result_length(record_count: usize) -> usize {
+    196 + 4 * record_count
+}
+
+/// Clears the day: the bytes of the result, or a refusal.
+///
+/// Every set of blocks is looked at, so the time doubles with each block.
+pub fn clear(book: &[u8], result_len: usize) -> Result<Vec<u8>, u8> {
+    let book = read(book)?;
+    if result_len != result_length(book.record_count) {
+        return Err(7);
+    }
+    Ok(result_bytes(&book, &best_outcome(&book)))
+}
+
+/// The best of all sets, by counting them.
+fn best_outcome(book: &Book) -> Outcome {
+    let hours = steps_by_hour(book);
+    let mut best = outcome_with(book, &hours, 0).expect("the empty set is lawful");
+    for set in 1..1u64 << book.blocks.len() {
+        if let Some(other) = outcome_with(book, &hours, set as u32) {
+            if is_better((other.welfare, other.set), (best.welfare, best.set)) {
+                best = other;
+            }
+        }
+    }
+    best
+}
+
+/// The outcome under a set, or nothing when the set is not lawful.
+pub fn outcome(book: &Book, set: u32) -> Option<Outcome> {
+    outcome_with(book, &steps_by_hour(book), set)
+}
+
+fn steps_by_hour(book: &Book) -> Vec<Vec<Step>> {
+    (1..=HOURS).map(|hour| book.steps_of(hour)).collect()
+}
+
+fn outcome_with(book: &Book, hours: &[Vec<Step>], set: u32) -> Option<Outcome> {
+    let prices = prices_under(book, hours, set)?;
+    let lawful = taken_blocks(&book.blocks, set).all(|block| keeps_limit(block, &prices));
+    if !lawful {
+        return None;
+    }
+    let executed = executed_steps(book, set, &prices);
+    Some(Outcome {
+        set,
+        prices,
+        traded: traded_quantities(book, set, &executed),
+        welfare: welfare(book, set, &executed),
+        executed,
+    })
+}
+
+/// The blocks of a set.
+fn taken_blocks(blocks: &[Block], set: u32) -> impl Iterator<Item = &Block> {
+    let positions = blocks.iter().enumerate();
+    positions.filter(move |(position, _)| (set >> position) & 1 == 1).map(|(_, block)| block)
+}
+
+/// N: block sales less block purchases of a set in an hour.
+pub fn net_block_sales(blocks: &[Block], set: u32, hour: u32) -> i64 {
+    let in_hour = taken_blocks(blocks, set).filter(|block| block.has_hour(hour));
+    let signed = in_hour.map(|block| match block.side {
+        Side::Sell => i64::from(block.quantity),
+        Side::Buy => -i64::from(block.quantity),
+    });
+    signed.sum()
+}
+
+/// The 24 prices under a set, or nothing when some hour does not clear.
+pub(super) fn prices_under(book: &Book, hours: &[Vec<Step>], set: u32) -> Option<[u32; 24]> {
+    let mut prices = [0; 24];
+    for hour in 1..=HOURS {
+        let index = hour as usize - 1;
+        let n = net_block_sales(&book.blocks, set, hour);
+        prices[index] = middle_price(&hours[index], n)?;
+    }
+    Some(prices)
+}
+
+/// Whether a block keeps its limit: the SUM of prices over its hours against
+/// its price times its hour count.
+pub fn keeps_limit(block: &Block, prices: &[u32; 24]) -> bool {
+    let hours = block.hour_list();
+    let sum: u32 = hours.iter().map(|&hour| prices[hour as usize - 1]).sum();
+    let limit = block.price * hours.len() as u32;
+    match block.side {
+        Side::Sell => sum >= limit,
+        Side::Buy => sum <= limit,
+    }
+}
+
+/// The executed quantity of each step of the book, in chain order.
+fn executed_steps(book: &Book, set: u32, prices: &[u32; 24]) -> Vec<i64> {
+    let mut quantities = vec![0; book.steps.len()];
+    for hour in 1..=HOURS {
+        let steps = book.steps_of(hour);
+        let n = net_block_sales(&book.blocks, set, hour);
+        let of_hour = executed(&steps, n, prices[hour as usize - 1]);
+        for (step, quantity) in steps.iter().zip(of_hour) {
+            let place = book.steps.iter().position(|other| other.record == step.record);
+            quantities[place.expect("a step of the book")] = quantity;
+        }
+    }
+    quantities
+}
+
+/// Executed buy steps and taken buy blocks of each hour.
+fn traded_quantities(book: &Book, set: u32, executed: &[i64]) -> [i64; 24] {
+    let mut traded = [0; 24];
+    for (step, quantity) in book.steps.iter().zip(executed) {
+        if step.side == Side::Buy {
+            traded[step.hour as usize - 1] += quantity;
+        }
+    }
+    for block in taken_blocks(&book.blocks, set).filter(|block| block.side == Side::Buy) {
+        for hour in block.hour_list() {
+            traded[hour as usize - 1] += i64::from(block.quantity);
+        }
+    }
+    traded
+}
+
+/// Executed quantity times order price, buys less sells, over the steps and
+/// over the taken blocks in each of their hours.
+pub(super) fn welfare(book: &Book, set: u32, executed: &[i64]) -> i128 {
+    let signed = |side: Side, amount: i128| match side {
+        Side::Buy => amount,
+        Side::Sell => -amount,
+    };
+    let mut sum = 0;
+    for (step, &quantity) in book.steps.iter().zip(executed) {
+        sum += signed(step.side, i128::from(quantity) * i128::from(step.price));
+    }
+    for block in taken_blocks(&book.blocks, set) {
+        let an_hour = i128::from(block.quantity) * i128::from(block.price);
+        sum += signed(block.side, an_hour * block.hour_list().len() as i128);
+    }
+    sum
+}
+
+/// Whether the first of two (welfare, set) is to be published before the second.
+pub fn is_better(one: (i128, u32), other: (i128, u32)) -> bool {
+    one.0 > other.0 || (one.0 == other.0 && tie_goes_to(one.1, other.1))
+}
+
+/// Whether the first set "holds the lowest-numbered block in which they differ".
+/// Positions follow the chain, whose numbers rise.
+pub fn tie_goes_to(one: u32, other: u32) -> bool {
+    let holds = |set: u32, position: &u32| (set >> position) & 1 == 1;
+    let lowest_difference = (0..32).find(|p| holds(one, p) != holds(other, p));
+    lowest_difference.is_some_and(|position| holds(one, &position))
+}
+
+/// The result buffer: welfare, the 24 hours, the records 1 to R - 1.
+pub fn result_bytes(book: &Book, outcome: &Outcome) -> Vec<u8> {
+    let mut rows = vec![0u32; book.record_count];
+    for (step, &quantity) in book.steps.iter().zip(&outcome.executed) {
+        rows[step.record] = u32::try_from(quantity).expect("0 to the step's own quantity");
+    }
+    for block in taken_blocks(&book.blocks, outcome.set) {
+        rows[block.record] = block.quantity;
+    }
+    let welfare = u64::try_from(outcome.welfare).expect("no lawful set loses welfare");
+    let mut bytes = welfare.to_be_bytes().to_vec();
+    for (price, &traded) in outcome.prices.iter().zip(&outcome.traded) {
+        let traded = u32::try_from(traded).expect("an hour's total fits");
+        bytes.extend(price.to_be_bytes());
+        bytes.extend(traded.to_be_bytes());
+    }
+    for row in &rows[1..] {
+        bytes.extend(row.to_be_bytes());
+    }
+    bytes
+}
+
+/// A result buffer, taken apart again.
+#[derive(Clone, Debug, PartialEq, Eq)]
+pub struct Published {
+    pub welfare: u64,
+    /// Hours 1 to 24.
+    pub prices: Vec<u32>,
+    /// Hours 1 to 24.
+    pub traded: Vec<u32>,
+    /// Records 1 to R - 1; the first element is record 1.
+    pub rows: Vec<u32>,
+}
+
+impl Published {
+    /// Takes the bytes of a result apart.
+    pub fn from_bytes(result: &[u8]) -> Published {
+        let number =
+            |at: usize| u32::from_be_bytes(result[at..at + 4].try_into().expect("4 bytes"));
+        Published {
+            welfare: u64::from_be_bytes(result[..8].try_into().expect("8 bytes")),
+            prices: (0..24).map(|hour| number(8 + 8 * hour)).collect(),
+            traded: (0..24).map(|hour| number(12 + 8 * hour)).collect(),
+            rows: (200..result.len()).step_by(4).map(number).collect(),
+        }
+    }
+
+    /// The executed quantity of a record, 1 to R - 1.
+    pub fn row(&self, record: usize) -> u32 {
+        self.rows[record - 1]
+    }
+
+    /// The taken blocks: those whose row holds their quantity.
+    pub fn set(&self, book: &Book) -> u32 {
+        let taken = |block: &Block| self.row(block.record) == block.quantity;
+        let positions = (0..book.blocks.len()).filter(|&position| taken(&book.blocks[position]));
+        positions.map(|position| 1 << position).sum()
+    }
+}

@@ -1,0 +1,144 @@
+//! Layer 2: the price of one hour under a set of blocks, and what its steps
+//! execute at that price.
+
+use super::day::net_block_sales;
+use super::read::{read, Side, Step, HOURS};
+
+/// Lowest price of the auction, in cents per MWh.
+pub const LOWEST_PRICE: u32 = 1;
+/// Highest price of the auction, in cents per MWh.
+pub const HIGHEST_PRICE: u32 = 300_000;
+
+/// The three answers of pricing an hour.
+#[derive(Clone, Copy, Debug, PartialEq, Eq)]
+pub enum HourAnswer {
+    /// L, H and the price between them.
+    Cleared { low: u32, high: u32, price: u32 },
+    /// No price clears the hour under the set.
+    NotClearing,
+    /// Refused with its number.
+    Refused(u8),
+}
+
+/// A way to find the least and the greatest clearing price, if there are any.
+type EndFinder = fn(&[Step], i64) -> Option<(u32, u32)>;
+
+/// Prices hour `hour` of a book under a set of blocks; the lowest bit of the
+/// set stands for the first block of the chain.
+pub fn price_hour(book: &[u8], set: u32, hour: u32) -> HourAnswer {
+    price_hour_with(candidates, book, set, hour)
+}
+
+/// The same as [`price_hour`], but every price from 1 to 300000 is tried.
+pub fn price_hour_by_scan(book: &[u8], set: u32, hour: u32) -> HourAnswer {
+    price_hour_with(scan, book, set, hour)
+}
+
+fn price_hour_with(ends: EndFinder, book: &[u8], set: u32, hour: u32) -> HourAnswer {
+    let book = match read(book) {
+        Ok(book) => book,
+        Err(refusal) => return HourAnswer::Refused(refusal),
+    };
+    if !(1..=HOURS).contains(&hour) || names_a_missing_block(set, book.blocks.len()) {
+        return HourAnswer::Refused(8);
+    }
+    let n = net_block_sales(&book.blocks, set, hour);
+    answer(ends, &book.steps_of(hour), n)
+}
+
+/// Whether the set has a bit that stands for no block.
+fn names_a_missing_block(set: u32, block_count: usize) -> bool {
+    (0..32).any(|position| (set >> position) & 1 == 1 && position >= block_count)
+}
+
+/// The answer for the steps of one hour with `n`, block sales less block
+/// purchases.
+fn answer(ends: EndFinder, steps: &[Step], n: i64) -> HourAnswer {
+    if beyond_totals(steps, n) {
+        return HourAnswer::NotClearing;
+    }
+    let (low, high) = ends(steps, n).expect("some price clears where N is within the totals");
+    let price = (low + high) / 2;
+    HourAnswer::Cleared { low, high, price }
+}
+
+/// The price of an hour, or nothing where the hour does not clear.
+pub(super) fn middle_price(steps: &[Step], n: i64) -> Option<u32> {
+    match answer(candidates, steps, n) {
+        HourAnswer::Cleared { price, .. } => Some(price),
+        _ => None,
+    }
+}
+
+/// "N exceeds all buy steps of the hour together, or -N exceeds all its sell
+/// steps together."
+pub fn beyond_totals(steps: &[Step], n: i64) -> bool {
+    n > total(steps, Side::Buy, |_| true) || -n > total(steps, Side::Sell, |_| true)
+}
+
+/// The least and the greatest clearing price, every price being tried from
+/// below and from above.
+pub fn scan(steps: &[Step], n: i64) -> Option<(u32, u32)> {
+    let low = (LOWEST_PRICE..=HIGHEST_PRICE).find(|&price| clears(steps, n, price))?;
+    let high = (LOWEST_PRICE..=HIGHEST_PRICE).rev().find(|&price| clears(steps, n, price))?;
+    Some((low, high))
+}
+
+/// The same as [`scan`], faster.
+///
+/// Between two neighbouring order prices no total changes, so the prices there
+/// clear all or none: an end is at an order price, next to one, or at 1 or
+/// 300000.
+pub fn candidates(steps: &[Step], n: i64) -> Option<(u32, u32)> {
+    let mut prices = vec![LOWEST_PRICE, HIGHEST_PRICE];
+    for step in steps {
+        prices.extend([step.price - 1, step.price, step.price + 1]);
+    }
+    prices.retain(|&price| {
+        (LOWEST_PRICE..=HIGHEST_PRICE).contains(&price) && clears(steps, n, price)
+    });
+    Some((*prices.iter().min()?, *prices.iter().max()?))
+}
+
+/// Whether a price clears the hour.
+pub fn clears(steps: &[Step], n: i64, price: u32) -> bool {
+    let buys_above = total(steps, Side::Buy, |order| order > price);
+    let buys_from = total(steps, Side::Buy, |order| order >= price);
+    let sells_below = total(steps, Side::Sell, |order| order < price);
+    let sells_to = total(steps, Side::Sell, |order| order <= price);
+    buys_above <= sells_to + n && buys_from >= sells_below + n
+}
+
+/// The executed quantity of each step of an hour at its price.
+pub fn executed(steps: &[Step], n: i64, price: u32) -> Vec<i64> {
+    let buys_above = total(steps, Side::Buy, |order| order > price);
+    let buys_held = total(steps, Side::Buy, |order| order == price);
+    let sells_below = total(steps, Side::Sell, |order| order < price);
+    let sells_to = total(steps, Side::Sell, |order| order <= price);
+    // Buys at the price: what they hold, or what the sells and N allow.
+    let mut buys_left = buys_held.min(sells_to + n - buys_above);
+    // Sells at the price: what then balances the hour.
+    let mut sells_left = buys_above + buys_left - n - sells_below;
+    let share = |step: &Step| match step.side {
+        Side::Buy if step.price > price => i64::from(step.quantity),
+        Side::Sell if step.price < price => i64::from(step.quantity),
+        Side::Buy if step.price == price => fill(step, &mut buys_left),
+        Side::Sell if step.price == price => fill(step, &mut sells_left),
+        _ => 0,
+    };
+    // The steps stand in rising order number, each filled before the next.
+    steps.iter().map(share).collect()
+}
+
+/// Gives a step as much as is left, at most its own quantity.
+fn fill(step: &Step, left: &mut i64) -> i64 {
+    let given = i64::from(step.quantity).min(*left);
+    *left -= given;
+    given
+}
+
+/// The quantity of the steps of a side whose price is wanted.
+fn total(steps: &[Step], side: Side, wanted: impl Fn(u32) -> bool) -> i64 {
+    let counted = steps.iter().filter(|step| step.side == side && wanted(step.price));
+    counted.map(|step| i64::from(step.quantity)).sum()
+}

@@ -1,0 +1,232 @@
+//! Layer 1: the book in bytes, and its own refusals 1 to 6.
+
+/// Hours of a delivery day.
+pub const HOURS: u32 = 24;
+
+const RECORD_LENGTH: usize = 16;
+const MOST_RECORDS: usize = 2_048;
+const MOST_BLOCKS: usize = 32;
+const MOST_BLOCKS_OF_A_PORTFOLIO: usize = 5;
+const KIND_STEP: u32 = 1;
+const KIND_BLOCK: u32 = 2;
+
+/// Buy or sell.
+#[derive(Clone, Copy, Debug, PartialEq, Eq)]
+pub enum Side {
+    Buy,
+    Sell,
+}
+
+/// An hourly step.
+#[derive(Clone, Copy, Debug, PartialEq, Eq)]
+pub struct Step {
+    /// Index of the record the step stands in.
+    pub record: usize,
+    pub number: u32,
+    pub side: Side,
+    /// 1 to 24.
+    pub hour: u32,
+    pub portfolio: u32,
+    /// Cents per MWh.
+    pub price: u32,
+    /// Tenths of a MW.
+    pub quantity: u32,
+}
+
+/// An all-or-none block.
+#[derive(Clone, Copy, Debug, PartialEq, Eq)]
+pub struct Block {
+    /// Index of the record the block stands in.
+    pub record: usize,
+    pub number: u32,
+    pub side: Side,
+    pub portfolio: u32,
+    /// 24 bits; hour h has the weight 2 to the power h - 1.
+    pub hours: u32,
+    pub price: u32,
+    pub quantity: u32,
+}
+
+impl Block {
+    /// Whether the block delivers in this hour, 1 to 24.
+    pub fn has_hour(&self, hour: u32) -> bool {
+        (self.hours >> (hour - 1)) & 1 == 1
+    }
+
+    /// The block's hours, rising.
+    pub fn hour_list(&self) -> Vec<u32> {
+        (1..=HOURS).filter(|&hour| self.has_hour(hour)).collect()
+    }
+}
+
+/// An accepted book. Both lists are in chain order, so in rising order number.
+#[derive(Clone, Debug, PartialEq, Eq)]
+pub struct Book {
+    /// R, the head included.
+    pub record_count: usize,
+    pub steps: Vec<Step>,
+    pub blocks: Vec<Block>,
+}
+
+impl Book {
+    /// The steps of one hour, in rising order number.
+    pub fn steps_of(&self, hour: u32) -> Vec<Step> {
+        let of_hour = self.steps.iter().filter(|step| step.hour == hour);
+        of_hour.copied().collect()
+    }
+}
+
+/// Reads a book, or gives the first of the refusals 1 to 6 whose cause holds.
+pub fn read(book: &[u8]) -> Result<Book, u8> {
+    if length_is_wrong(book) {
+        return Err(1);
+    }
+    if head_is_wrong(book) {
+        return Err(2);
+    }
+    // Both chains are walked before any other field is looked at: 3 before 4.
+    let step_records = chain(book, number(book, 2, 2), KIND_STEP)?;
+    let block_records = chain(book, number(book, 4, 2), KIND_BLOCK)?;
+    let bad_step = step_records.iter().any(|&k| step_is_out_of_range(book, k));
+    let bad_block = block_records.iter().any(|&k| block_is_out_of_range(book, k));
+    if bad_step || bad_block {
+        return Err(4);
+    }
+    let is_on_a_chain = |k: &usize| step_records.contains(k) || block_records.contains(k);
+    if !(1..record_count(book)).all(|k| is_on_a_chain(&k)) {
+        return Err(5);
+    }
+    let blocks: Vec<Block> = block_records.iter().map(|&k| block_at(book, k)).collect();
+    if too_many_blocks(&blocks) {
+        return Err(6);
+    }
+    Ok(Book {
+        record_count: record_count(book),
+        steps: step_records.iter().map(|&k| step_at(book, k)).collect(),
+        blocks,
+    })
+}
+
+/// The number in `count` bytes from byte `at` on, high byte first.
+fn number(book: &[u8], at: usize, count: usize) -> u32 {
+    let bytes = &book[at..at + count];
+    bytes.iter().fold(0, |high, &byte| high * 256 + u32::from(byte))
+}
+
+/// The number in some bytes of record k.
+fn field(book: &[u8], k: usize, at: usize, count: usize) -> u32 {
+    number(book, RECORD_LENGTH * k + at, count)
+}
+
+/// R; asked for only where there are at least 16 bytes.
+fn record_count(book: &[u8]) -> usize {
+    number(book, 0, 2) as usize
+}
+
+/// Refusal 1.
+fn length_is_wrong(book: &[u8]) -> bool {
+    // Below 16 bytes there is no head to read R from.
+    if book.len() < RECORD_LENGTH {
+        return true;
+    }
+    let records = record_count(book);
+    book.len() != RECORD_LENGTH * records || !(1..=MOST_RECORDS).contains(&records)
+}
+
+/// Refusal 2.
+fn head_is_wrong(book: &[u8]) -> bool {
+    let hours = number(book, 6, 1);
+    let edition = number(book, 7, 1);
+    hours != HOURS || edition != 1 || book[8..16].iter().any(|&byte| byte != 0)
+}
+
+/// The records of a chain in its order, or refusal 3.
+///
+/// The walk ends because the numbers rise: it cannot come to a record twice.
+fn chain(book: &[u8], first: u32, kind: u32) -> Result<Vec<usize>, u8> {
+    let mut records = Vec::new();
+    let mut number_before = 0;
+    let mut k = first as usize;
+    while k != 0 {
+        if k >= record_count(book) {
+            return Err(3);
+        }
+        let order_number = field(book, k, 4, 2);
+        if field(book, k, 0, 1) != kind || order_number <= number_before {
+            return Err(3);
+        }
+        records.push(k);
+        number_before = order_number;
+        k = field(book, k, 2, 2) as usize;
+    }
+    Ok(records)
+}
+
+/// Refusal 4 at a step.
+fn step_is_out_of_range(book: &[u8], k: usize) -> bool {
+    let side = field(book, k, 1, 1);
+    let hour = field(book, k, 6, 1);
+    let portfolio = field(book, k, 7, 1);
+    let price = field(book, k, 8, 4);
+    let quantity = field(book, k, 12, 4);
+    side > 1
+        || !(1..=HOURS).contains(&hour)
+        || !(1..=255).contains(&portfolio)
+        || !(1..=300_000).contains(&price)
+        || !(1..=99_999).contains(&quantity)
+}
+
+/// Refusal 4 at a block.
+fn block_is_out_of_range(book: &[u8], k: usize) -> bool {
+    let side = field(book, k, 1, 1);
+    let zero = field(book, k, 6, 1);
+    let portfolio = field(book, k, 7, 1);
+    let hours = field(book, k, 8, 3);
+    let price = field(book, k, 11, 3);
+    let quantity = field(book, k, 14, 2);
+    side > 1
+        || zero != 0
+        || !(1..=255).contains(&portfolio)
+        || hours.count_ones() < 2
+        || !(1..=300_000).contains(&price)
+        || !(1..=50).contains(&quantity)
+}
+
+/// Refusal 6. Both sides of a portfolio count together.
+fn too_many_blocks(blocks: &[Block]) -> bool {
+    let count_of = |portfolio| blocks.iter().filter(|block| block.portfolio == portfolio).count();
+    let crowded = (1..=255).any(|portfolio| count_of(portfolio) > MOST_BLOCKS_OF_A_PORTFOLIO);
+    blocks.len() > MOST_BLOCKS || crowded
+}
+
+fn side_at(book: &[u8], k: usize) -> Side {
+    if field(book, k, 1, 1) == 0 {
+        Side::Buy
+    } else {
+        Side::Sell
+    }
+}
+
+fn step_at(book: &[u8], k: usize) -> Step {
+    Step {
+        record: k,
+        number: field(book, k, 4, 2),
+        side: side_at(book, k),
+        hour: field(book, k, 6, 1),
+        portfolio: field(book, k, 7, 1),
+        price: field(book, k, 8, 4),
+        quantity: field(book, k, 12, 4),
+    }
+}
+
+fn block_at(book: &[u8], k: usize) -> Block {
+    Block {
+        record: k,
+        number: field(book, k, 4, 2),
+        side: side_at(book, k),
+        portfolio: field(book, k, 7, 1),
+        hours: field(book, k, 8, 3),
+        price: field(book, k, 11, 3),
+        quantity: field(book, k, 14, 2),
+    }
+}

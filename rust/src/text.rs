@@ -1,0 +1,343 @@
+//! A plain-text form of a book, for people.
+//!
+//! One order a line; `#` begins a comment; empty lines are skipped:
+//!
+//! ```text
+//! step buy hour 1 price 5000 quantity 100 portfolio 1
+//! step sell hour 1 price 3000 quantity 100 portfolio 2 number 7
+//! block sell hours 1,2 price 2900 quantity 50 portfolio 3
+//! block buy hours 1-8,21-24 price 4100 quantity 10 portfolio 3
+//! ```
+//!
+//! - A line begins with `step` or `block` and `buy` or `sell`. The fields
+//!   follow, each a word and its value, in any order.
+//! - Prices are whole cents per MWh, 1 to 300000. Quantities are whole tenths of
+//!   a MW: 1 to 99999 for a step, 1 to 50 for a block.
+//! - `number` may be left out: an order then gets one more than the order of
+//!   its kind on the line before it; the first gets 1. Steps and blocks are
+//!   numbered separately.
+//! - The first order stands in record 1 of the book, the second in record 2, and
+//!   so on. The chains follow the numbers, whatever the order of the lines.
+//!
+//! So every accepted book has a text that gives back its very bytes. No text
+//! gives a refused book.
+
+use crate::books::{hour_bits, BlockOrder, Orders, StepOrder};
+use crate::paper::{read, Block, Book, Side, Step};
+use std::fmt;
+
+/// What is wrong with a text, and on which line.
+#[derive(Clone, Debug, PartialEq, Eq)]
+pub struct TextError {
+    /// The first line is 1.
+    pub line: usize,
+    pub message: String,
+}
+
+impl fmt::Display for TextError {
+    fn fmt(&self, out: &mut fmt::Formatter) -> fmt::Result {
+        write!(out, "line {}: {}", self.line, self.message)
+    }
+}
+
+/// The cause of a refusal in document 01's words.
+pub fn refusal_meaning(refusal: u8) -> &'static str {
+    match refusal {
+        1 => "the length is not 16 x R, below 16 bytes, or R is outside 1 to 2048",
+        2 => "head: hours not 24, edition not 1, or bytes 8 to 15 not all 0",
+        3 => "on a chain: an index of R or more, a kind not the chain's, or a number that does not rise",
+        4 => "on a chain: a field outside its range",
+        5 => "a record is on no chain",
+        6 => "more than 32 blocks, or more than 5 of one portfolio",
+        7 => "the result buffer is not 196 + 4 x R bytes",
+        8 => "the hour is outside 1 to 24, or the set names a block position not there",
+        _ => "not a refusal of document 01",
+    }
+}
+
+/// An order with the line it stands on.
+struct Line<T> {
+    line: usize,
+    /// The record the order gets.
+    record: usize,
+    order: T,
+}
+
+/// Turns a text into the bytes of a book.
+pub fn to_book(text: &str) -> Result<Vec<u8>, TextError> {
+    let mut steps: Vec<Line<StepOrder>> = Vec::new();
+    let mut blocks: Vec<Line<BlockOrder>> = Vec::new();
+    for (index, full_line) in text.lines().enumerate() {
+        let line = index + 1;
+        let fault = |message| TextError { line, message };
+        let words = words_of(full_line);
+        let Some(&kind) = words.first() else { continue };
+        let record = steps.len() + blocks.len() + 1;
+        match kind {
+            "step" => {
+                let default = 1 + steps.last().map_or(0, |before| before.order.number);
+                let order = step_of(&words[1..], default).map_err(fault)?;
+                steps.push(Line { line, record, order });
+            }
+            "block" => {
+                let default = 1 + blocks.last().map_or(0, |before| before.order.number);
+                let order = block_of(&words[1..], default).map_err(fault)?;
+                blocks.push(Line { line, record, order });
+            }
+            other => {
+                return Err(fault(format!(
+                    "`{other}` where an order begins; expected `step` or `block`"
+                )))
+            }
+        }
+        if record > 2_047 {
+            return Err(fault("order 2048 of the book; expected at most 2047".into()));
+        }
+    }
+    check_blocks(&blocks)?;
+    sort_by_number(&mut steps, "step", |order| order.number)?;
+    sort_by_number(&mut blocks, "block", |order| order.number)?;
+    let step_records = steps.iter().map(|entry| entry.record);
+    let records: Vec<usize> = step_records.chain(blocks.iter().map(|entry| entry.record)).collect();
+    let orders = Orders {
+        steps: steps.iter().map(|entry| entry.order).collect(),
+        blocks: blocks.iter().map(|entry| entry.order).collect(),
+    };
+    Ok(orders.book_at(&records))
+}
+
+/// The words of a line without its comment.
+fn words_of(line: &str) -> Vec<&str> {
+    let content = line.split('#').next().unwrap_or("");
+    content.split_whitespace().collect()
+}
+
+/// The limits of refusal 6, with the line that breaks them.
+fn check_blocks(blocks: &[Line<BlockOrder>]) -> Result<(), TextError> {
+    for (position, entry) in blocks.iter().enumerate() {
+        let fault = |message| Err(TextError { line: entry.line, message });
+        if position >= 32 {
+            return fault("block 33 of the book; expected at most 32 blocks".into());
+        }
+        let portfolio = entry.order.portfolio;
+        let so_far = blocks[..=position].iter();
+        if so_far.filter(|other| other.order.portfolio == portfolio).count() > 5 {
+            return fault(format!(
+                "block 6 of portfolio {portfolio}; expected at most 5 of one portfolio"
+            ));
+        }
+    }
+    Ok(())
+}
+
+/// Brings orders into chain order; a number may be there only once.
+fn sort_by_number<T>(
+    orders: &mut [Line<T>],
+    kind: &str,
+    number: impl Fn(&T) -> u32,
+) -> Result<(), TextError> {
+    // A stable sort: of equal numbers the later line comes second.
+    orders.sort_by_key(|entry| number(&entry.order));
+    for pair in orders.windows(2) {
+        if number(&pair[0].order) == number(&pair[1].order) {
+            let (number, first) = (number(&pair[1].order), pair[0].line);
+            let message = format!(
+                "{kind} number {number} is already on line {first}; expected each number once among the {kind}s"
+            );
+            return Err(TextError { line: pair[1].line, message });
+        }
+    }
+    Ok(())
+}
+
+const STEP_FIELDS: [&str; 5] = ["hour", "price", "quantity", "portfolio", "number"];
+const BLOCK_FIELDS: [&str; 5] = ["hours", "price", "quantity", "portfolio", "number"];
+
+fn step_of(words: &[&str], default_number: u32) -> Result<StepOrder, String> {
+    let (side, rest) = side_of(words)?;
+    let fields = Fields::new(rest, &STEP_FIELDS)?;
+    Ok(StepOrder {
+        number: fields.number_or(default_number)?,
+        side,
+        hour: fields.whole("hour", 24)?,
+        price: fields.whole("price", 300_000)?,
+        quantity: fields.whole("quantity", 99_999)?,
+        portfolio: fields.whole("portfolio", 255)?,
+    })
+}
+
+fn block_of(words: &[&str], default_number: u32) -> Result<BlockOrder, String> {
+    let (side, rest) = side_of(words)?;
+    let fields = Fields::new(rest, &BLOCK_FIELDS)?;
+    Ok(BlockOrder {
+        number: fields.number_or(default_number)?,
+        side,
+        hours: hours_of(fields.required("hours")?)?,
+        price: fields.whole("price", 300_000)?,
+        quantity: fields.whole("quantity", 50)?,
+        portfolio: fields.whole("portfolio", 255)?,
+    })
+}
+
+fn side_of<'a, 'b>(words: &'a [&'b str]) -> Result<(Side, &'a [&'b str]), String> {
+    match words.first() {
+        Some(&"buy") => Ok((Side::Buy, &words[1..])),
+        Some(&"sell") => Ok((Side::Sell, &words[1..])),
+        Some(other) => Err(format!("`{other}` where the side stands; expected `buy` or `sell`")),
+        None => Err("the line ends before the side; expected `buy` or `sell`".into()),
+    }
+}
+
+/// The fields of one line, each a word and its value.
+struct Fields<'a> {
+    values: Vec<(&'a str, &'a str)>,
+}
+
+impl<'a> Fields<'a> {
+    fn new(words: &[&'a str], known: &[&str]) -> Result<Fields<'a>, String> {
+        let mut values: Vec<(&str, &str)> = Vec::new();
+        for pair in words.chunks(2) {
+            let name = pair[0];
+            if !known.contains(&name) {
+                return Err(format!(
+                    "unknown field `{name}`; expected one of: {}",
+                    known.join(", ")
+                ));
+            }
+            if values.iter().any(|&(other, _)| other == name) {
+                return Err(format!("`{name}` stands twice; expected it once"));
+            }
+            let Some(&value) = pair.get(1) else {
+                return Err(format!("`{name}` has no value; expected one after it"));
+            };
+            values.push((name, value));
+        }
+        Ok(Fields { values })
+    }
+
+    fn value(&self, name: &str) -> Option<&'a str> {
+        let found = self.values.iter().find(|&&(other, _)| other == name);
+        found.map(|&(_, value)| value)
+    }
+
+    fn required(&self, name: &str) -> Result<&'a str, String> {
+        self.value(name)
+            .ok_or_else(|| format!("`{name}` is missing; expected `{name}` and its value"))
+    }
+
+    /// A required whole number from 1 to `most`.
+    fn whole(&self, name: &str, most: u32) -> Result<u32, String> {
+        whole_number(name, self.required(name)?, most)
+    }
+
+    /// The order number, or the one that follows when none is given.
+    fn number_or(&self, default: u32) -> Result<u32, String> {
+        match self.value("number") {
+            Some(value) => whole_number("number", value, 65_535),
+            None if default > 65_535 => {
+                Err("no number follows 65535; expected `number` and its value".into())
+            }
+            None => Ok(default),
+        }
+    }
+}
+
+fn whole_number(name: &str, value: &str, most: u32) -> Result<u32, String> {
+    let digits_only = value.bytes().all(|byte| byte.is_ascii_digit());
+    match value.parse() {
+        Ok(number) if digits_only && (1..=most).contains(&number) => Ok(number),
+        _ => Err(format!("`{name} {value}`; expected a whole number from 1 to {most}")),
+    }
+}
+
+/// The bits of an hour list such as `1,2` or `1-8,21-24`.
+fn hours_of(list: &str) -> Result<u32, String> {
+    let mut bits = 0;
+    for part in list.split(',') {
+        let (first, last) = part.split_once('-').unwrap_or((part, part));
+        let first = whole_number("hours", first, 24).map_err(|_| wrong_hours(list))?;
+        let last = whole_number("hours", last, 24).map_err(|_| wrong_hours(list))?;
+        if first > last {
+            return Err(format!(
+                "`hours {list}`: {first}-{last} runs backwards; expected {last}-{first}"
+            ));
+        }
+        for hour in first..=last {
+            if bits & hour_bits(&[hour]) != 0 {
+                return Err(format!("`hours {list}`: hour {hour} stands twice; expected it once"));
+            }
+            bits |= hour_bits(&[hour]);
+        }
+    }
+    if bits.count_ones() < 2 {
+        return Err(format!("`hours {list}` is one hour; expected at least two"));
+    }
+    Ok(bits)
+}
+
+fn wrong_hours(list: &str) -> String {
+    format!("`hours {list}`; expected hours from 1 to 24 without spaces, such as 1,2 or 1-8,21-24")
+}
+
+/// Turns a book into its text, or gives the book's refusal.
+pub fn to_text(book: &[u8]) -> Result<String, u8> {
+    let book = read(book)?;
+    let mut text = format!("# {} steps, {} blocks\n", book.steps.len(), book.blocks.len());
+    for record in 1..book.record_count {
+        text += &line_of(&book, record);
+        text += "\n";
+    }
+    Ok(text)
+}
+
+/// The line of the order that stands in a record.
+fn line_of(book: &Book, record: usize) -> String {
+    let step = book.steps.iter().find(|step| step.record == record);
+    let block = book.blocks.iter().find(|block| block.record == record);
+    match (step, block) {
+        (Some(step), _) => step_line(step),
+        (_, Some(block)) => block_line(block),
+        _ => unreachable!("every record of an accepted book is on a chain"),
+    }
+}
+
+fn step_line(step: &Step) -> String {
+    let Step { number, hour, portfolio, price, quantity, .. } = step;
+    let side = side_word(step.side);
+    format!("step {side} hour {hour} price {price} quantity {quantity} portfolio {portfolio} number {number}")
+}
+
+fn block_line(block: &Block) -> String {
+    let Block { number, portfolio, price, quantity, .. } = block;
+    let side = side_word(block.side);
+    let hours = hours_text(&block.hour_list());
+    format!("block {side} hours {hours} price {price} quantity {quantity} portfolio {portfolio} number {number}")
+}
+
+fn side_word(side: Side) -> &'static str {
+    match side {
+        Side::Buy => "buy",
+        Side::Sell => "sell",
+    }
+}
+
+/// Hours as a list; three and more in a row become a range.
+fn hours_text(hours: &[u32]) -> String {
+    let mut runs: Vec<(u32, u32)> = Vec::new();
+    for &hour in hours {
+        match runs.last_mut() {
+            Some((_, last)) if *last + 1 == hour => *last = hour,
+            _ => runs.push((hour, hour)),
+        }
+    }
+    let parts: Vec<String> = runs.into_iter().map(run_text).collect();
+    parts.join(",")
+}
+
+fn run_text((first, last): (u32, u32)) -> String {
+    match last - first {
+        0 => format!("{first}"),
+        1 => format!("{first},{last}"),
+        _ => format!("{first}-{last}"),
+    }
+}

@@ -1,0 +1,238 @@
+//! The implementation against itself, in slower words, on random books: prices
+//! by scan, "does not clear" by its rule, demand 2 by its properties, and demand
+//! 3 by the list of all contenders.
+
+use auction_listing::books::{pricing_case, small_book, tiny_book};
+use auction_listing::paper::{
+    beyond_totals, candidates, clear, clears, contenders, executed, for_each_contender,
+    keeps_limit, net_block_sales, outcome, price_hour, price_hour_by_scan, read, result_length,
+    scan, tie_goes_to, Book, HourAnswer, Published, Side,
+};
+
+/// How many books a test looks at, raised by an environment variable: SCANS for
+/// the slow scan of all prices, BOOKS for all others.
+fn count(variable: &str, default: u64) -> u64 {
+    match std::env::var(variable) {
+        Ok(count) => default.max(count.parse().expect("a number of books")),
+        Err(_) => default,
+    }
+}
+
+fn cleared(book: &[u8]) -> (Book, Published) {
+    let accepted = read(book).expect("accepted");
+    let result = clear(book, result_length(accepted.record_count)).expect("cleared");
+    (accepted, Published::from_bytes(&result))
+}
+
+/// Every price tried, against the prices next to orders only; and "does not
+/// clear" given exactly where N is beyond the totals.
+#[test]
+fn candidates_agree_with_the_scan() {
+    let mut met = [0; 3];
+    let mut beyond = [0; 2];
+    for seed in 0..count("SCANS", 1_200) {
+        let (book, set, hour) = pricing_case(seed);
+        let answer = price_hour(&book, set, hour);
+        assert_eq!(answer, price_hour_by_scan(&book, set, hour), "pricing_case({seed})");
+        met[match answer {
+            HourAnswer::Cleared { .. } => 0,
+            HourAnswer::NotClearing => 1,
+            HourAnswer::Refused(_) => 2,
+        }] += 1;
+        if let HourAnswer::Refused(refusal) = answer {
+            assert_eq!(refusal, 8);
+            continue;
+        }
+        // Where the totals say that nothing clears, the scan finds nothing; where
+        // they do not, `price_hour_by_scan` has found something.
+        if answer == HourAnswer::NotClearing {
+            let book = read(&book).unwrap();
+            let (steps, n) = (book.steps_of(hour), net_block_sales(&book.blocks, set, hour));
+            assert!(beyond_totals(&steps, n), "pricing_case({seed})");
+            beyond[usize::from(n < 0)] += 1;
+            assert_eq!(scan(&steps, n), None, "pricing_case({seed})");
+            assert_eq!(candidates(&steps, n), None, "pricing_case({seed})");
+        }
+    }
+    println!("cleared, not clearing, refused: {met:?}");
+    println!("of those not clearing, beyond the buys and beyond the sells: {beyond:?}");
+    assert!(met.iter().all(|&answers| answers >= 100), "{met:?}");
+    assert!(beyond.iter().all(|&answers| answers >= 50), "{beyond:?}");
+}
+
+/// Every price from L to H clears and executes the same quantities, so the
+/// middle price does too.
+#[test]
+fn all_prices_between_the_ends_execute_the_same() {
+    for seed in 0..count("BOOKS", 2_000) {
+        let (book, set, hour) = pricing_case(seed);
+        let HourAnswer::Cleared { low, high, price } = price_hour(&book, set, hour) else {
+            continue;
+        };
+        let book = read(&book).unwrap();
+        let (steps, n) = (book.steps_of(hour), net_block_sales(&book.blocks, set, hour));
+        let quantities = executed(&steps, n, price);
+        for other in [low, low + (high - low) / 3, price, high] {
+            assert!(clears(&steps, n, other), "pricing_case({seed})");
+            assert_eq!(executed(&steps, n, other), quantities, "pricing_case({seed})");
+        }
+        assert!(low == 1 || !clears(&steps, n, low - 1), "pricing_case({seed})");
+        assert!(high == 300_000 || !clears(&steps, n, high + 1), "pricing_case({seed})");
+    }
+}
+
+/// Demand 2, read off the result: better steps in full, worse ones not, shares
+/// in rising number, every hour in balance, no block outside its limit.
+#[test]
+fn results_obey_the_outcome_properties() {
+    for seed in 0..count("BOOKS", 1_000) {
+        let (book, published) = cleared(&small_book(seed));
+        let set = published.set(&book);
+        let prices: [u32; 24] = published.prices.clone().try_into().unwrap();
+        for (position, block) in book.blocks.iter().enumerate() {
+            let taken = (set >> position) & 1 == 1;
+            let row = published.row(block.record);
+            assert_eq!(row, if taken { block.quantity } else { 0 });
+            assert!(!taken || keeps_limit(block, &prices), "small_book({seed})");
+        }
+        for hour in 1..=24 {
+            check_hour(&book, &published, set, hour, seed);
+        }
+    }
+}
+
+fn check_hour(book: &Book, published: &Published, set: u32, hour: u32, seed: u64) {
+    let price = published.prices[hour as usize - 1];
+    let mut bought = 0;
+    let mut sold = 0;
+    let mut short = [false, false];
+    for step in book.steps_of(hour) {
+        let row = published.row(step.record);
+        let (better, worse) = match step.side {
+            Side::Buy => (step.price > price, step.price < price),
+            Side::Sell => (step.price < price, step.price > price),
+        };
+        assert!(row <= step.quantity, "small_book({seed})");
+        assert!(!better || row == step.quantity, "small_book({seed})");
+        assert!(!worse || row == 0, "small_book({seed})");
+        if step.price == price {
+            // After a step that got less than it holds, the later ones get none.
+            let short = &mut short[usize::from(step.side == Side::Sell)];
+            assert!(!*short || row == 0, "small_book({seed})");
+            *short = *short || row < step.quantity;
+        }
+        match step.side {
+            Side::Buy => bought += row,
+            Side::Sell => sold += row,
+        }
+    }
+    for (position, block) in book.blocks.iter().enumerate() {
+        if (set >> position) & 1 == 1 && block.has_hour(hour) {
+            match block.side {
+                Side::Buy => bought += block.quantity,
+                Side::Sell => sold += block.quantity,
+            }
+        }
+    }
+    assert_eq!(bought, sold, "small_book({seed}), hour {hour}");
+    assert_eq!(bought, published.traded[hour as usize - 1], "small_book({seed}), hour {hour}");
+}
+
+/// Demand 3 against the list of every contender.
+#[test]
+fn clearing_agrees_with_all_contenders() {
+    let mut ties = 0;
+    let mut taken = 0;
+    for seed in 0..count("BOOKS", 400) {
+        let bytes = tiny_book(seed);
+        let (book, published) = cleared(&bytes);
+        let best = contenders(&bytes).unwrap();
+        let set = published.set(&book);
+        assert_eq!(i128::from(published.welfare), best.welfare, "tiny_book({seed})");
+        assert_eq!(set, best.set, "tiny_book({seed})");
+        // The published one is itself a contender, with this welfare, and wins
+        // every tie.
+        let rows = book.steps.iter().map(|step| i64::from(published.row(step.record)));
+        let rows: Vec<i64> = rows.collect();
+        let mut found = false;
+        let mut tied = false;
+        for_each_contender(&book, &mut |other| {
+            assert!(other.welfare <= best.welfare, "tiny_book({seed})");
+            if other.set == set && other.quantities == rows {
+                assert_eq!(other.welfare, best.welfare, "tiny_book({seed})");
+                found = true;
+            }
+            if other.set != set && other.welfare == best.welfare {
+                assert!(tie_goes_to(set, other.set), "tiny_book({seed})");
+                tied = true;
+            }
+        });
+        assert!(found, "tiny_book({seed}): the published outcome is no contender");
+        ties += u64::from(tied);
+        taken += u64::from(set != 0);
+    }
+    println!("books with blocks taken: {taken}, with a tie between sets: {ties}");
+    assert!(taken >= 40 && ties >= 20, "the books are too plain: {taken} and {ties}");
+}
+
+/// The small books are worth comparing on: blocks taken and left out, ties
+/// between lawful sets, and blocks left out although the prices would pay them.
+#[test]
+fn small_books_are_varied() {
+    let mut met = Variety::default();
+    for seed in 0..count("BOOKS", 1_500) {
+        met.look_at(&small_book(seed));
+    }
+    println!("{met:?}");
+    assert!(met.some_taken >= 200);
+    assert!(met.all_left_out >= 200);
+    assert!(met.tie_between_sets >= 100);
+    assert!(met.paid_but_left_out >= 100);
+    assert!(met.both_sides_taken >= 50);
+    assert!(met.no_blocks >= 50);
+    assert!(met.nine_blocks >= 50);
+}
+
+#[derive(Debug, Default)]
+struct Variety {
+    no_blocks: u32,
+    nine_blocks: u32,
+    some_taken: u32,
+    all_left_out: u32,
+    both_sides_taken: u32,
+    tie_between_sets: u32,
+    paid_but_left_out: u32,
+}
+
+impl Variety {
+    fn look_at(&mut self, bytes: &[u8]) {
+        let (book, published) = cleared(bytes);
+        let set = published.set(&book);
+        let prices: [u32; 24] = published.prices.clone().try_into().unwrap();
+        let blocks = || book.blocks.iter().enumerate();
+        let is_taken = |position: usize| (set >> position) & 1 == 1;
+        let takes = |side| blocks().any(|(p, block)| is_taken(p) && block.side == side);
+        let welfare = i128::from(published.welfare);
+        let ties = |other: u32| outcome(&book, other).is_some_and(|o| o.welfare == welfare);
+        self.no_blocks += u32::from(book.blocks.is_empty());
+        self.nine_blocks += u32::from(book.blocks.len() == 9);
+        self.some_taken += u32::from(set != 0);
+        self.all_left_out += u32::from(set == 0 && !book.blocks.is_empty());
+        self.both_sides_taken += u32::from(takes(Side::Buy) && takes(Side::Sell));
+        self.tie_between_sets +=
+            u32::from((0..1 << book.blocks.len()).any(|other| other != set && ties(other)));
+        self.paid_but_left_out +=
+            u32::from(blocks().any(|(p, block)| !is_taken(p) && keeps_limit(block, &prices)));
+    }
+}
+
+/// The comparison of two sets: the lowest block in which they differ decides.
+#[test]
+fn ties() {
+    assert!(tie_goes_to(0b001, 0b110));
+    assert!(!tie_goes_to(0b110, 0b001));
+    assert!(tie_goes_to(0b011, 0b001));
+    assert!(tie_goes_to(0b101, 0b110));
+    assert!(tie_goes_to(1 << 31, 0));
+    assert!(!tie_goes_to(5, 5));
+}

@@ -1,0 +1,122 @@
+//! The samples: each text gives its book, each book its sheet, and the program
+//! `book_text` does both. They are looked for in `../samples`, else in `samples`.
+
+use auction_listing::books::{
+    head_alone, opposite_blocks, thirty_two_blocks, worked_days, Orders, THIRTY_TWO_BLOCKS_TAKEN,
+};
+use auction_listing::paper::{outcome, read, result_bytes, sheet, sheet_of};
+use auction_listing::text::{to_book, to_text};
+use std::fs;
+use std::io::Write;
+use std::path::{Path, PathBuf};
+use std::process::{Command, Output, Stdio};
+
+fn directory() -> PathBuf {
+    let package = Path::new(env!("CARGO_MANIFEST_DIR"));
+    let beside = package.join("../samples");
+    if beside.is_dir() {
+        beside
+    } else {
+        package.join("samples")
+    }
+}
+
+fn sample(name: &str, ending: &str) -> Vec<u8> {
+    let path = directory().join(format!("{name}.{ending}"));
+    fs::read(&path).unwrap_or_else(|error| panic!("{}: {error}", path.display()))
+}
+
+fn accepted_samples() -> Vec<(&'static str, Orders)> {
+    let mut samples = worked_days();
+    samples.push(("head-alone", head_alone()));
+    samples.push(("opposite-blocks", opposite_blocks()));
+    samples.push(("thirty-two-blocks", thirty_two_blocks()));
+    samples
+}
+
+#[test]
+fn texts_give_the_books() {
+    for (name, orders) in accepted_samples() {
+        let text = String::from_utf8(sample(name, "txt")).unwrap();
+        let book = sample(name, "book");
+        assert_eq!(to_book(&text).unwrap(), book, "{name}");
+        assert_eq!(orders.book(), book, "{name}");
+        assert_eq!(to_book(&to_text(&book).unwrap()).unwrap(), book, "{name}");
+    }
+}
+
+#[test]
+fn books_give_the_sheets() {
+    for (name, _) in accepted_samples() {
+        let book = sample(name, "book");
+        // 2^32 sets are too many to list: its set is known by reasons.
+        let published = if name == "thirty-two-blocks" {
+            let book = read(&book).unwrap();
+            let set = THIRTY_TWO_BLOCKS_TAKEN.iter().map(|number| 1 << (number - 1)).sum();
+            sheet_of(&book, &result_bytes(&book, &outcome(&book, set).unwrap()))
+        } else {
+            sheet(&book)
+        };
+        let (published, expected) = (String::from_utf8(published), sample(name, "sheet"));
+        assert_eq!(published, String::from_utf8(expected), "{name}");
+    }
+}
+
+#[test]
+fn refused_samples() {
+    for refusal in 1..=6u8 {
+        let name = format!("refused-{refusal}");
+        let book = sample(&name, "book");
+        assert_eq!(read(&book).err(), Some(refusal));
+        assert_eq!(sheet(&book), sample(&name, "sheet"));
+        let told = book_text("to-text", &book);
+        assert_eq!((told.status.code(), told.stdout.len()), (Some(1), 0));
+        let message = String::from_utf8(told.stderr).unwrap();
+        assert!(message.contains(&format!("refused with {refusal}: ")), "{message}");
+    }
+}
+
+/// No sample without a test.
+#[test]
+fn all_samples_are_known() {
+    let mut known: Vec<String> =
+        accepted_samples().iter().map(|(name, _)| name.to_string()).collect();
+    known.extend((1..=6).map(|refusal| format!("refused-{refusal}")));
+    for entry in fs::read_dir(directory()).unwrap() {
+        let path = entry.unwrap().path();
+        if path.extension().is_some_and(|ending| ending == "book") {
+            let name = path.file_stem().unwrap().to_str().unwrap().to_string();
+            assert!(known.contains(&name), "{name} is in no test");
+        }
+    }
+}
+
+#[test]
+fn the_program() {
+    let (text, book) = (sample("S5", "txt"), sample("S5", "book"));
+    let made = book_text("to-book", &text);
+    assert_eq!((made.status.code(), made.stdout), (Some(0), book.clone()));
+    let told = book_text("to-text", &book);
+    assert_eq!((told.status.code(), told.stdout), (Some(0), to_text(&book).unwrap().into_bytes()));
+    let wrong = book_text("to-book", b"step buy hour 25 price 1 quantity 1 portfolio 1\n");
+    assert_eq!((wrong.status.code(), wrong.stdout.len()), (Some(1), 0));
+    assert!(String::from_utf8(wrong.stderr).unwrap().starts_with("book_text: line 1: `hour 25`"));
+    assert_eq!(book_text("to-book", &[255]).status.code(), Some(1));
+    assert_eq!(book_text("to-nothing", b"").status.code(), Some(2));
+    let help = book_text("--help", b"");
+    assert!(String::from_utf8(help.stdout).unwrap().contains("block buy hours 1-8,21-24"));
+}
+
+/// Runs the program with this on its standard input.
+fn book_text(command: &str, input: &[u8]) -> Output {
+    let mut child = Command::new(env!("CARGO_BIN_EXE_book_text"))
+        .arg(command)
+        .stdin(Stdio::piped())
+        .stdout(Stdio::piped())
+        .stderr(Stdio::piped())
+        .spawn()
+        .expect("the program starts");
+    // A program that needs no input may be gone before it is written.
+    let _ = child.stdin.take().expect("piped").write_all(input);
+    child.wait_with_output().expect("the program ends")
+}

@@ -1,0 +1,152 @@
+//! The plain-text form: there and back, and its errors.
+
+use auction_listing::books::{book_with_causes, small_book, worked_days, Dice, Orders};
+use auction_listing::paper::read;
+use auction_listing::paper::Side::{Buy, Sell};
+use auction_listing::text::{refusal_meaning, to_book, to_text};
+
+#[test]
+fn a_text_becomes_the_book_it_says() {
+    let text = "
+        # the base book's first hour, with blocks
+        step buy hour 1 price 5000 quantity 100 portfolio 1
+        step sell hour 1 price 3000 quantity 100 portfolio 2   # number 2
+
+        block sell hours 1-8,21-24 price 2900 quantity 50 portfolio 3
+        block portfolio 3
+    ";
+    let wrong = to_book(text).unwrap_err();
+    assert_eq!(wrong.line, 7);
+    let text =
+        text.replace("block portfolio 3", "block buy portfolio 3 hours 2,1 quantity 1 price 7");
+    let hours: Vec<u32> = (1..=8).chain(21..=24).collect();
+    let orders = Orders::new()
+        .step(Buy, 1, 5_000, 100, 1)
+        .step(Sell, 1, 3_000, 100, 2)
+        .block(Sell, &hours, 2_900, 50, 3)
+        .block(Buy, &[1, 2], 7, 1, 3);
+    assert_eq!(to_book(&text).unwrap(), orders.book());
+}
+
+/// Lines in any order: the lines give the records, the numbers the chains.
+#[test]
+fn numbers_and_records() {
+    let text = "step buy hour 1 price 10 quantity 1 portfolio 1 number 9
+                block sell hours 1,2 price 10 quantity 1 portfolio 1
+                step sell hour 1 price 20 quantity 2 portfolio 1 number 4
+                step sell hour 1 price 30 quantity 3 portfolio 1";
+    let book = to_book(text).unwrap();
+    let read = read(&book).unwrap();
+    let steps: Vec<(u32, usize)> =
+        read.steps.iter().map(|step| (step.number, step.record)).collect();
+    assert_eq!(steps, [(4, 3), (5, 4), (9, 1)]);
+    assert_eq!((read.blocks[0].number, read.blocks[0].record), (1, 2));
+}
+
+#[test]
+fn every_accepted_book_comes_back_to_the_byte() {
+    for seed in 0..2_000 {
+        let book = small_book(seed);
+        let text = to_text(&book).unwrap();
+        assert_eq!(to_book(&text).unwrap(), book, "small_book({seed})\n{text}");
+        assert_eq!(to_text(&to_book(&text).unwrap()).unwrap(), text);
+    }
+}
+
+#[test]
+fn the_text_of_s5() {
+    let found = worked_days().into_iter().find(|(name, _)| *name == "S5");
+    let text = to_text(&found.unwrap().1.book()).unwrap();
+    let lines: Vec<&str> = text.lines().collect();
+    assert_eq!(lines[0], "# 4 steps, 1 blocks");
+    assert_eq!(lines[1], "step buy hour 1 price 5000 quantity 100 portfolio 1 number 1");
+    assert_eq!(lines[5], "block sell hours 1,2 price 2900 quantity 50 portfolio 3 number 1");
+}
+
+#[test]
+fn hours_are_printed_as_ranges() {
+    let orders = Orders::new().block(Buy, &[1, 2, 3, 5, 7, 8, 22, 23, 24], 10, 1, 1);
+    let text = to_text(&orders.book()).unwrap();
+    assert!(text.contains(" hours 1-3,5,7,8,22-24 "), "{text}");
+}
+
+#[test]
+fn refused_books_have_no_text() {
+    let mut dice = Dice::new(5);
+    for cause in 1..=6 {
+        assert_eq!(to_text(&book_with_causes(&[cause], &mut dice)), Err(cause));
+        assert!(!refusal_meaning(cause).is_empty());
+    }
+}
+
+/// Each error names its line, what is wrong and what is expected.
+#[test]
+fn errors() {
+    let step = "step buy hour 1 price 10 quantity 1 portfolio 1";
+    let block = "block buy hours 1,2 price 10 quantity 1 portfolio 1";
+    let cases = [
+        ("order buy", "`order` where an order begins; expected `step` or `block`"),
+        ("step", "the line ends before the side; expected `buy` or `sell`"),
+        ("step bid hour 1", "`bid` where the side stands; expected `buy` or `sell`"),
+        ("step buy hour", "`hour` has no value; expected one after it"),
+        ("step buy hour 1 hour 2", "`hour` stands twice; expected it once"),
+        ("step buy hours 1,2", "unknown field `hours`; expected one of: hour, price, quantity"),
+        ("block buy hour 1", "unknown field `hour`; expected one of: hours, price, quantity"),
+        ("step buy hour 1 price 5", "`quantity` is missing; expected `quantity` and its value"),
+        (&step.replace("hour 1", "hour 25"), "`hour 25`; expected a whole number from 1 to 24"),
+        (
+            &step.replace("price 10", "price 0"),
+            "`price 0`; expected a whole number from 1 to 300000",
+        ),
+        (&step.replace("price 10", "price 300001"), "expected a whole number from 1 to 300000"),
+        (&step.replace("price 10", "price +5"), "`price +5`; expected a whole number"),
+        (&step.replace("price 10", "price 5.5"), "`price 5.5`; expected a whole number"),
+        (
+            &step.replace("price 10", "price 99999999999"),
+            "expected a whole number from 1 to 300000",
+        ),
+        (&step.replace("quantity 1", "quantity 100000"), "expected a whole number from 1 to 99999"),
+        (&step.replace("portfolio 1", "portfolio 256"), "expected a whole number from 1 to 255"),
+        (&format!("{step} number 0"), "`number 0`; expected a whole number from 1 to 65535"),
+        (&format!("{step} number 65536"), "expected a whole number from 1 to 65535"),
+        (&format!("{step} number"), "`number` has no value"),
+        (&block.replace("quantity 1", "quantity 51"), "expected a whole number from 1 to 50"),
+        (&block.replace("1,2", "1"), "`hours 1` is one hour; expected at least two"),
+        (&block.replace("1,2", "1,,2"), "expected hours from 1 to 24 without spaces"),
+        (&block.replace("1,2", "1,25"), "expected hours from 1 to 24 without spaces"),
+        (&block.replace("1,2", "1-"), "expected hours from 1 to 24 without spaces"),
+        (&block.replace("1,2", "8-1"), "8-1 runs backwards; expected 1-8"),
+        (&block.replace("1,2", "1-3,2"), "hour 2 stands twice; expected it once"),
+    ];
+    for (line, message) in cases {
+        let error = to_book(&format!("# first\n\n{line}\n{step}\n")).unwrap_err();
+        assert_eq!(error.line, 3, "{line}: {error}");
+        assert!(error.message.contains(message), "{line}: {error}");
+    }
+}
+
+#[test]
+fn errors_across_lines() {
+    let step = "step buy hour 1 price 10 quantity 1 portfolio 1";
+    let block = "block buy hours 1,2 price 10 quantity 1 portfolio";
+    let same = format!("{step} number 4\n{step}\n{step} number 4\n");
+    let error = to_book(&same).unwrap_err();
+    assert_eq!(
+        error.to_string(),
+        "line 3: step number 4 is already on line 1; expected each number once among the steps"
+    );
+    let crowded: String = (0..6).map(|_| format!("{block} 9\n")).collect();
+    assert_eq!(to_book(&crowded).unwrap_err().line, 6);
+    let many = |count: u32| (0..count).map(|n| format!("{block} {}\n", n + 1)).collect::<String>();
+    assert!(to_book(&many(32)).is_ok());
+    assert_eq!(to_book(&many(33)).unwrap_err().line, 33);
+    assert!(to_book(&format!("{step}\n").repeat(2_047)).is_ok());
+    assert_eq!(to_book(&format!("{step}\n").repeat(2_048)).unwrap_err().line, 2_048);
+    let after_the_last = format!("{step} number 65535\n{step}\n");
+    assert_eq!(to_book(&after_the_last).unwrap_err().line, 2);
+}
+
+#[test]
+fn no_orders_is_the_head_alone() {
+    assert_eq!(to_book("# nothing today\n").unwrap(), Orders::new().book());
+}
