@@ -17,8 +17,26 @@ use Rattle.orders.specs.Columns.{sideFor}
 use Rattle.rules.specs.Orders.{Side, buy, sell, Block}
 use Rattle.rules.specs.Hour.{bySide, when, middle}
 use Rattle.rules.specs.Execution.{testSide}
-use Rattle.rules.specs.Day.{Day, weight, sumTo, daySum, taken, decisions, overBlocks, sells, buys, hourOf, stepsIn, setPrices, hourCount, priceSum, keepsLimit,
-    everyBlock, allowed, lawful}
+use Rattle.rules.specs.Day.{
+  Day,
+  weight,
+  sumTo,
+  daySum,
+  taken,
+  decisions,
+  overBlocks,
+  sells,
+  buys,
+  hourOf,
+  stepsIn,
+  setPrices,
+  hourCount,
+  priceSum,
+  keepsLimit,
+  everyBlock,
+  allowed,
+  lawful,
+}
 use Rattle.rules.specs.Contender.{Counts}
 use Rattle.rules.proofs.Tests.{by-test, both, clash}
 use Rattle.rules.proofs.CurveLaws.{when-zero, when-le}
@@ -28,13 +46,54 @@ use Rattle.rules.proofs.NeighbourLaws.{slack}
 use Rattle.rules.proofs.LossLaws.{losses, lossOf, gaps, losses-taken, losses-left, bound-with}
 use Rattle.rules.proofs.LossSearchLaws as by-loss
 use Rattle.rules.proofs.SetBits.{bits-length, bits-at, bits-taken, bits-left, bits-room}
-use Rattle.rules.proofs.PlaceLaws.{place, hourAt, pricesAt, gapsAt, place-is, place-taken, place-left, gaps-by-place, price-at-place, lawful-by-places,
-    lawful-clears, lawful-limits, slack-at-place}
+use Rattle.rules.proofs.PlaceLaws.{
+  place,
+  hourAt,
+  pricesAt,
+  gapsAt,
+  place-is,
+  place-taken,
+  place-left,
+  gaps-by-place,
+  price-at-place,
+  lawful-by-places,
+  lawful-clears,
+  lawful-limits,
+  slack-at-place,
+}
 use Rattle.rules.proofs.LawCutLaws.{taken-passes}
-use Rattle.clearing.specs.Search.{Small, sumOfHours, cell, ofHour, InRange, GapsOf, PricesOf, sideAt, hoursAt, quantityAt, limitAt, againstAt,
-    gainAt, keepsAt, allKeep}
-use Rattle.clearing.specs.Meaning.{BlocksSized, Fits, Shown, Known, Branch, lossAbove, bestAs, DayOf, Outcome, Decided,
-    ExploredFrom, TakenTo, LeftTo}
+use Rattle.clearing.specs.Search.{
+  Small,
+  sumOfHours,
+  cell,
+  ofHour,
+  InRange,
+  GapsOf,
+  PricesOf,
+  sideAt,
+  hoursAt,
+  quantityAt,
+  limitAt,
+  againstAt,
+  gainAt,
+  keepsAt,
+  allKeep,
+}
+use Rattle.clearing.specs.Meaning.{
+  BlocksSized,
+  Fits,
+  Shown,
+  Known,
+  Branch,
+  lossAbove,
+  bestAs,
+  DayOf,
+  Outcome,
+  Decided,
+  ExploredFrom,
+  TakenTo,
+  LeftTo,
+}
 use Rattle.clearing.specs.declared.search.Best.{Best}
 use Rattle.clearing.specs.declared.search.Node.{Node}
 
@@ -135,8 +194,8 @@ module _ (day : Day) (p rest : ℕ → ℕ) (low gap first last blocks : List �
     unfolding lossOf gapsAt
     loss-is sum e =
         let gap-at : (h : ℕ) → 1 ≤ h → h ≤ 24 → gapsAt day p (place (day .blocks) d) h ≡ cell gap h (ofHour places h) + rest h = λ h a b.
-              let r = inside h a b in
-              rw (branch .placesAre h a b) (known .gapIs h (place (day .blocks) d h) a b (rw (branch .placesAre h a b) at (r .0)) (rw (branch .placesAre h a b) at (r .1))) in
+        let r = inside h a b in
+        rw (branch .placesAre h a b) (known .gapIs h (place (day .blocks) d h) a b (rw (branch .placesAre h a b) at (r .0)) (rw (branch .placesAre h a b) at (r .1))) in
         omega (
           arith,
           branch .lossIs,
@@ -177,8 +236,8 @@ module _ (day : Day) (p rest : ℕ → ℕ) (low gap first last blocks : List �
       unfolding keepsLimit keepsAt priceSum sumOfHours
       keeps-same j s =
           let sum : daySum (day .hours) (λ h. when (s .block .runs h) (pricesAt day (place (day .blocks) d) h))
-                ≡ sumTo 24 (λ h. when (holdsHour (hoursAt blocks j) h) (getD prices (h - 1) 0)) =
-                daySum-plain (day .hours) _ ∙ sumTo-in 24 _ _ (λ h a b. rw (s .runsIs h, ← (price-at h a b))) in
+          ≡ sumTo 24 (λ h. when (holdsHour (hoursAt blocks j) h) (getD prices (h - 1) 0)) =
+          daySum-plain (day .hours) _ ∙ sumTo-in 24 _ _ (λ h a b. rw (s .runsIs h, ← (price-at h a b))) in
           same-test _ _ _ _ _ _ (s .sideIs) sum (s .limitIs)
 
       bit-is : (j : ℕ) → j < count → getD d j false ≡ eqb (set / 2 ^ j % 2) 1
@@ -202,7 +261,7 @@ module _ (day : Day) (p rest : ℕ → ℕ) (low gap first last blocks : List �
           clash (all-keep blocks set prices count (λ j k c.
           let s = known .shown j k in
           let t = taken-passes _ (day .blocks) d (lawful-limits day d size (known .prices) (known .hours) law) j other
-                (omega (arith, known .counted)) (bit-is j k ∙ eq-eqb _ 1 c) in
+          (omega (arith, known .counted)) (bit-is j k ∙ eq-eqb _ 1 c) in
           sym (keeps-same j s) ∙ rw (block-at (day .blocks) j (s .block) _ other (s .next)) at t)) e
 
 -- WHAT COMES BACK
@@ -323,8 +382,8 @@ module _ (blocks : List ℕ) (at : ℕ) (node : Node) (further chosen : List ℕ
       × TakenTo blocks at node record { set = node .set + b; loss = node .loss + againstAt blocks at; places = chosen }
   node-taken b eb small e =
       let placed : (h : ℕ) → 1 ≤ h → h ≤ 24 →
-            ofHour chosen h ≡ ofHour (node .places) h + when (holdsHour (hoursAt blocks at) h) (bySide (sideFor (sideAt blocks at)) 0 (quantityAt blocks at)) =
-            rw e (taken-places (sideAt blocks at) (hoursAt blocks at) (quantityAt blocks at) (node .places) further moved) in
+      ofHour chosen h ≡ ofHour (node .places) h + when (holdsHour (hoursAt blocks at) h) (bySide (sideFor (sideAt blocks at)) 0 (quantityAt blocks at)) =
+      rw e (taken-places (sideAt blocks at) (hoursAt blocks at) (quantityAt blocks at) (node .places) further moved) in
       let size : length chosen ≡ 24 = rw e (cond-length (not (eqb (sideAt blocks at) 0)) further (node .places) 24 ef ep) in (
         record {
           setFits = rw (eb, add-one) (bits-room at (node .set) (fits .setFits) .0);
@@ -341,8 +400,8 @@ module _ (blocks : List ℕ) (at : ℕ) (node : Node) (further chosen : List ℕ
       × LeftTo blocks at node record { set = node .set; loss = node .loss + gainAt blocks at; places = chosen }
   node-left small e =
       let placed : (h : ℕ) → 1 ≤ h → h ≤ 24 →
-            ofHour chosen h ≡ ofHour (node .places) h + when (holdsHour (hoursAt blocks at) h) (bySide (sideFor (sideAt blocks at)) (quantityAt blocks at) 0) =
-            rw e (left-places (sideAt blocks at) (hoursAt blocks at) (quantityAt blocks at) (node .places) further moved) in
+      ofHour chosen h ≡ ofHour (node .places) h + when (holdsHour (hoursAt blocks at) h) (bySide (sideFor (sideAt blocks at)) (quantityAt blocks at) 0) =
+      rw e (left-places (sideAt blocks at) (hoursAt blocks at) (quantityAt blocks at) (node .places) further moved) in
       let size : length chosen ≡ 24 = rw e (cond-length (eqb (sideAt blocks at) 0) further (node .places) 24 ef ep) in (
         record {
           setFits = rw add-one (bits-room at (node .set) (fits .setFits) .1);

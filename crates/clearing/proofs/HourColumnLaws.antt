@@ -89,7 +89,7 @@ pub sum-next : (column : List ℕ) (hours h rest sum : ℕ) → Small 300000 col
 unfolding sumTo
 sum-next column hours h rest sum small m k =
     let e : rest % 2 * getD column h 0 ≡ when (holdsHour hours (suc h)) (getD column h 0) =
-          rw (bit-times rest (getD column h 0), m .bits, hour-bit hours h) in
+    rw (bit-times rest (getD column h 0), m .bits, hour-bit hours h) in
     record {
       bits = rw (m .bits) (halved hours h);
       inside = omega arith;

@@ -51,9 +51,9 @@ module _ (gap first last places : List ℕ) where
   unfolding sumTo
   gaps-next h sum g k t small =
       let here : At h = (
-            ltb-false _ _ (or-left _ (ltb (getD last h 0) (getD places h 0)) t),
-            ltb-false _ _ (or-right (ltb (getD places h 0) (getD first h 0)) _ t),
-          ) in
+        ltb-false _ _ (or-left _ (ltb (getD last h 0) (getD places h 0)) t),
+        ltb-false _ _ (or-right (ltb (getD places h 0) (getD first h 0)) _ t),
+      ) in
       record {
         inside = omega arith;
         ranges = λ j a. below-next At h j (g .ranges j) here (rw add-one at a);
@@ -141,7 +141,7 @@ module _ (blocks : List ℕ) (chosen : ℕ) (prices : List ℕ) where
   keep-more : (i : ℕ) → 0 < i →
       allKeep blocks chosen prices i
       ≡ ((not (eqb (chosen / 2 ^ (i - 1) % 2) 1) || keepsAt (sideAt blocks (i - 1)) (hoursAt blocks (i - 1)) (limitAt blocks (i - 1)) prices)
-        && allKeep blocks chosen prices (i - 1))
+      && allKeep blocks chosen prices (i - 1))
   unfolding allKeep
   keep-more zero k = absurd (omega arith)
   keep-more (suc i) k = rw sub-one

@@ -96,7 +96,7 @@ module _ (low gap first last blocks : List ℕ) (count : ℕ) (few : count ≤ 3
     pass-is less =
         let o = outcome-of in
         let e : decisions count (r .set) ≡ outcome day =
-              by-loss.pass-outcome day (known .prices) (known .hours) (lossAbove day p rest) _ adds _ _ whole-pass less in
+        by-loss.pass-outcome day (known .prices) (known .hours) (lossAbove day p rest) _ adds _ _ whole-pass less in
         (e, o .found less .0, rw e at (o .found less .1))
 
     pub pass-found : 549755813888 ≤ best .limit → r .limit < best .limit

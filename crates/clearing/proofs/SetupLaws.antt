@@ -127,7 +127,7 @@ module _ (b ends stepRecords sides prices quantities : List ℕ) (count : ℕ) (
       let lp : length (take count blockPrices) ≡ count = ap length (bc .pricesAre) ∙ length-map l (blockPriceAt b) ∙ n in
       let lq : length (take count blockQuantities) ≡ count = ap length (bc .quantitiesAre) ∙ length-map l (blockQuantityAt b) ∙ n in
       let t = blocks-at b (take count records) (take count blockSides) (take count hours) (take count blockPrices) (take count blockQuantities) j
-            (omega arith) (omega arith) (omega arith) (omega arith) (omega arith) in
+      (omega arith) (omega arith) (omega arith) (omega arith) (omega arith) in
       rw (blocks-from-columns b count records blockSides hours blockPrices blockQuantities bc a)
       (rw (
         getD-take count records j 0 k,
@@ -181,14 +181,14 @@ module _ (b ends stepRecords sides prices quantities : List ℕ) (count : ℕ) (
     against-is : against (dayFrom b .hours) priceOf (blockHere j)
         ≡ getD blockQuantities j 0
         * bySide (sideFor (getD blockSides j 0)) (sumOfHours root (getD hours j 0) - getD blockPrices j 0 * hourCount 24 (getD hours j 0))
-          (getD blockPrices j 0 * hourCount 24 (getD hours j 0) - sumOfHours root (getD hours j 0))
+        (getD blockPrices j 0 * hourCount 24 (getD hours j 0) - sumOfHours root (getD hours j 0))
     unfolding against
     against-is = rw (sum-is, limit-is)
 
     gain-is : gain (dayFrom b .hours) priceOf (blockHere j)
         ≡ getD blockQuantities j 0
         * bySide (sideFor (getD blockSides j 0)) (getD blockPrices j 0 * hourCount 24 (getD hours j 0) - sumOfHours root (getD hours j 0))
-          (sumOfHours root (getD hours j 0) - getD blockPrices j 0 * hourCount 24 (getD hours j 0))
+        (sumOfHours root (getD hours j 0) - getD blockPrices j 0 * hourCount 24 (getD hours j 0))
     unfolding gain
     gain-is = rw (sum-is, limit-is)
 

@@ -45,8 +45,10 @@ module _ (table row : List ℕ) (h k : ℕ) (size : length table ≡ 38448) (her
   pub row-put : rowOf (putMid (h * 1602) k table row) h ≡ row
   row-put =
       let n : h * 1602 ≤ length table = omega arith in
-      rw (drop-at (take (h * 1602) table) (row ++ drop k (drop (h * 1602) table)) (h * 1602) (length-take-le (h * 1602) table n),
-      take-at row (drop k (drop (h * 1602) table)) 1602 full)
+      rw (
+        drop-at (take (h * 1602) table) (row ++ drop k (drop (h * 1602) table)) (h * 1602) (length-take-le (h * 1602) table n),
+        take-at row (drop k (drop (h * 1602) table)) 1602 full,
+      )
 
   pub row-before : (j : ℕ) → j < h → rowOf (putMid (h * 1602) k table row) j ≡ rowOf table j
   row-before j a =
@@ -145,23 +147,25 @@ module _ (sides prices quantities : List ℕ) (off price : ℕ) (row : List ℕ)
   pub hour-room : (buys sells first last : ℕ) (gap : List ℕ) → length gap ≡ 1602 → ClearRange buys sells off 1600 first last →
       GapsFor row price first last gap × NotRising row
   hour-room buys sells first last gap e r =
-      let l = stepsFrom 0 sides prices quantities in
-      (record {
-        ordered = omega (arith, range-holds buys sells off first last r small);
-        inside = omega (arith, r .inside);
-        asMany = size ∙ sym e;
-        few = omega arith;
-        inRange = table-in-range l off row (table 0);
-        priceInRange = top;
-      },
-      table-not-rising l off row (table 0))
+      let l = stepsFrom 0 sides prices quantities in (
+        record {
+          ordered = omega (arith, range-holds buys sells off first last r small);
+          inside = omega (arith, r .inside);
+          asMany = size ∙ sym e;
+          few = omega arith;
+          inRange = table-in-range l off row (table 0);
+          priceInRange = top;
+        },
+        table-not-rising l off row (table 0),
+      )
 
   pub hour-ranged : (buys sells first last best : ℕ) (gap : List ℕ) → AllOf sides prices quantities buys sells →
       ClearRange buys sells off 1600 first last → GapTable row price first last best gap →
       ((first ≤ 1600) × (last ≤ 1600)) × Ranged sides prices quantities off price first last row gap
-  hour-ranged buys sells first last best gap a r g =
-      ((omega (arith, range-holds buys sells off first last r small), r .inside),
-      record { bought = buys; sold = sells; best = best; all = a; range = r; gaps = g })
+  hour-ranged buys sells first last best gap a r g = (
+    (omega (arith, range-holds buys sells off first last r small), r .inside),
+    record { bought = buys; sold = sells; best = best; all = a; range = r; gaps = g },
+  )
 
 -- THE RANGES AND THE GAP TABLES
 module _ (sides prices quantities ends off root low : List ℕ) where

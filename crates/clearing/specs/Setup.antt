@@ -106,10 +106,10 @@ pub record Written (sides hours prices quantities root columns : List ℕ) (i : 
   pub limitIs : limitAt columns i ≡ getD prices i 0 * hourCount 24 (getD hours i 0)
   pub againstIs : againstAt columns i ≡ getD quantities i 0
       * bySide (sideFor (getD sides i 0)) (sumOfHours root (getD hours i 0) - getD prices i 0 * hourCount 24 (getD hours i 0))
-        (getD prices i 0 * hourCount 24 (getD hours i 0) - sumOfHours root (getD hours i 0))
+      (getD prices i 0 * hourCount 24 (getD hours i 0) - sumOfHours root (getD hours i 0))
   pub gainIs : gainAt columns i ≡ getD quantities i 0
       * bySide (sideFor (getD sides i 0)) (getD prices i 0 * hourCount 24 (getD hours i 0) - sumOfHours root (getD hours i 0))
-        (sumOfHours root (getD hours i 0) - getD prices i 0 * hourCount 24 (getD hours i 0))
+      (sumOfHours root (getD hours i 0) - getD prices i 0 * hourCount 24 (getD hours i 0))
 
 -- WHAT IS READY: the day of an accepted book behind the tables, at some prices.
 pub record Ready (b low gap first last columns : List ℕ) (count : ℕ) : Type 0 where

@@ -6,12 +6,12 @@ ghost use Rattle.book.specs.Records.{recordCount};
 ghost use Rattle.book.specs.Refusals.{Accepted};
 ghost use Rattle.clearing.specs.Promise.{Promise};
 ghost use Rattle.clearing.specs.Result.{resultBytes};
-use book::read;
-use book::record_count;
-use book::Reading;
 use crate::publish::publish;
 use crate::search::find;
 use crate::setup::prepare;
+use book::Reading;
+use book::read;
+use book::record_count;
 use orders::blocks_of;
 use orders::steps_of;
 
@@ -41,12 +41,31 @@ fn clear_accepted(book: &[u8], result: &mut [u8])
     let blocks = blocks_of(book);
     let mut low = [0; 38448];
     let mut gap = [0; 38448];
-    let prepared = prepare(&sides, &prices, &quantities, ends, blocks, &mut low, &mut gap);
+    let prepared = prepare(
+        &sides,
+        &prices,
+        &quantities,
+        ends,
+        blocks,
+        &mut low,
+        &mut gap,
+    );
     let first = prepared.first;
     let last = prepared.last;
     let columns = prepared.columns;
     let best = find(&low, &gap, &first, &last, &columns, blocks.count as u32);
-    publish(count, &sides, &prices, &quantities, &records, ends, blocks, best.set, best.day, result);
+    publish(
+        count,
+        &sides,
+        &prices,
+        &quantities,
+        &records,
+        ends,
+        blocks,
+        best.set,
+        best.day,
+        result,
+    );
 }
 
 // The auction's outcome for a book, written to the result; or the first refusal whose cause holds, and the result as it was.
@@ -56,7 +75,10 @@ pub fn clear(book: &[u8], result: &mut [u8]) -> Clearing
     let reading = read(book);
     match reading {
         Reading::Refused(number) => Clearing::Refused(number),
-        Reading::Accepted { steps: _, blocks: _ } => {
+        Reading::Accepted {
+            steps: _,
+            blocks: _,
+        } => {
             if result.len() == 196 + 4 * (record_count(book) as usize) {
                 clear_accepted(book, result);
                 Clearing::Published

@@ -103,7 +103,15 @@ fn put_hour(
     ensures { λ r. ⌜ HourPut (now (sides .entry)) (now (prices .entry)) (now (quantities .entry)) from to sales buys price (now (values .entry))
         (now (values .exit)) (r .bought) (r .value) (r .cost) ⌝ }
 {
-    fill_hour(&sides[from..to], &prices[from..to], &quantities[from..to], sales, buys, price, &mut values[from..to])
+    fill_hour(
+        &sides[from..to],
+        &prices[from..to],
+        &quantities[from..to],
+        sales,
+        buys,
+        price,
+        &mut values[from..to],
+    )
 }
 
 // What a block is worth: its quantity times its limit over all its hours, if it is chosen (1 for yes).
@@ -174,13 +182,27 @@ fn fill_hours(
         let from = ends[h] as usize;
         let to = ends[h + 1] as usize;
         let trades = trades_of(bsides, bhours, bquantities, set, (h + 1) as u32);
-        let sums = put_hour(sides, prices, quantities, from, to, trades.sales, trades.buys, middles[h], values);
+        let sums = put_hour(
+            sides,
+            prices,
+            quantities,
+            from,
+            to,
+            trades.sales,
+            trades.buys,
+            middles[h],
+            values,
+        );
         traded[h] = (sums.bought + trades.buys) as u32;
         value += sums.value;
         cost += sums.cost;
         h += 1;
     }
-    Hours { traded: traded, value: value, cost: cost }
+    Hours {
+        traded: traded,
+        value: value,
+        cost: cost,
+    }
 }
 
 // The difference, or 0.
@@ -233,7 +255,18 @@ fn publish_columns(
 {
     let n = ends[24] as usize;
     let mut values = [0; 2048];
-    let hours = fill_hours(sides, prices, quantities, ends, bsides, bhours, bquantities, set, middles, &mut values);
+    let hours = fill_hours(
+        sides,
+        prices,
+        quantities,
+        ends,
+        bsides,
+        bhours,
+        bquantities,
+        set,
+        middles,
+        &mut values,
+    );
     let worth = blocks_worth(bsides, bhours, bprices, bquantities, set);
     let welfare = less(hours.value + worth.value, hours.cost + worth.cost);
     let rows = rows_of(&records[..n], &values[..n], brecords, bquantities, set);
@@ -266,8 +299,19 @@ pub fn publish(
     let bquantities = blocks.quantities;
     let middles = day.prices;
     publish_columns(
-        count, sides, prices, quantities, records, ends,
-        &brecords[..m], &bsides[..m], &bhours[..m], &bprices[..m], &bquantities[..m],
-        set, middles, result,
+        count,
+        sides,
+        prices,
+        quantities,
+        records,
+        ends,
+        &brecords[..m],
+        &bsides[..m],
+        &bhours[..m],
+        &bprices[..m],
+        &bquantities[..m],
+        set,
+        middles,
+        result,
     );
 }

@@ -76,13 +76,19 @@ fn gaps_at(gap: &[u32], first: &[u32], last: &[u32], places: [u32; 24]) -> Gaps
     while h < 24 {
         let place = places[h];
         if (place < first[h]) | (last[h] < place) {
-            return Gaps { clears: false, sum: 0 };
+            return Gaps {
+                clears: false,
+                sum: 0,
+            };
         }
         let cell = gap[h * 1602 + (place as usize)];
         sum += cell as u64;
         h += 1;
     }
-    Gaps { clears: true, sum: sum }
+    Gaps {
+        clears: true,
+        sum: sum,
+    }
 }
 
 // The price of each hour at its place.
@@ -106,7 +112,11 @@ pub fn keeps_limit(side: u32, hours: u32, limit: u32, prices: [u32; 24]) -> bool
     ensures { λ r. ⌜ r ≡ keepsAt side hours limit prices ⌝ }
 {
     let sum = price_sum(prices, hours);
-    if side == 0 { sum <= limit } else { limit <= sum }
+    if side == 0 {
+        sum <= limit
+    } else {
+        limit <= sum
+    }
 }
 
 // Whether each of the first count blocks that the set holds keeps its limit at the prices.
@@ -135,7 +145,18 @@ fn pick(test: bool, a: [u32; 24], b: [u32; 24]) -> [u32; 24]
 }
 
 // All blocks are decided: the set becomes the best where it is lawful and loses less.
-fn decide(low: &[u32], gap: &[u32], first: &[u32], last: &[u32], blocks: &[u32], count: u32, set: u32, loss: u64, places: [u32; 24], best: Best) -> Best
+fn decide(
+    low: &[u32],
+    gap: &[u32],
+    first: &[u32],
+    last: &[u32],
+    blocks: &[u32],
+    count: u32,
+    set: u32,
+    loss: u64,
+    places: [u32; 24],
+    best: Best,
+) -> Best
     requires { ⌜ Sized (now low) (now gap) (now first) (now last) (now blocks) × (count ≤ 32) × (loss ≤ 32 * 2 ^ 32) ⌝ }
     ensures { λ r. ⌜ Decided (now (low .entry)) (now (gap .entry)) (now (first .entry)) (now (last .entry)) (now (blocks .entry)) count set loss places best r ⌝ }
 {
@@ -151,8 +172,15 @@ fn decide(low: &[u32], gap: &[u32], first: &[u32], last: &[u32], blocks: &[u32],
     if !keeps_limits(blocks, count as usize, set, prices) {
         return best;
     }
-    let day = Day { prices: prices, quantities: places };
-    Best { limit: total, set: set, day: day }
+    let day = Day {
+        prices: prices,
+        quantities: places,
+    };
+    Best {
+        limit: total,
+        set: set,
+        day: day,
+    }
 }
 
 // What is decided in a branch: its set, what that loses, and the hours' places.
@@ -171,7 +199,11 @@ fn take(blocks: &[u32], at: u32, node: Node) -> Node
     let places = node.places;
     let further = moved(places, blocks[32 + i], blocks[64 + i]);
     let chosen = pick(blocks[i] != 0, further, places);
-    Node { set: node.set + bit(at), loss: node.loss + (blocks[128 + i] as u64), places: chosen }
+    Node {
+        set: node.set + bit(at),
+        loss: node.loss + (blocks[128 + i] as u64),
+        places: chosen,
+    }
 }
 
 // The node with block number at left out: a buy moves the places on in its hours.
@@ -183,11 +215,25 @@ fn leave(blocks: &[u32], at: u32, node: Node) -> Node
     let places = node.places;
     let further = moved(places, blocks[32 + i], blocks[64 + i]);
     let chosen = pick(blocks[i] == 0, further, places);
-    Node { set: node.set, loss: node.loss + (blocks[160 + i] as u64), places: chosen }
+    Node {
+        set: node.set,
+        loss: node.loss + (blocks[160 + i] as u64),
+        places: chosen,
+    }
 }
 
 // Every way to decide the blocks that are left, each first taken and then left out. Each branch has its own node by value, so nothing is released.
-fn explore(low: &[u32], gap: &[u32], first: &[u32], last: &[u32], blocks: &[u32], count: u32, left: u32, node: Node, best: Best) -> Best
+fn explore(
+    low: &[u32],
+    gap: &[u32],
+    first: &[u32],
+    last: &[u32],
+    blocks: &[u32],
+    count: u32,
+    left: u32,
+    node: Node,
+    best: Best,
+) -> Best
     requires { ⌜ Sized (now low) (now gap) (now first) (now last) (now blocks) × (count ≤ 32) × (left ≤ count) × Fits (count - left) (node .set) (node .loss) (node .places) ⌝ }
     ensures { λ r. ⌜ ExploredFrom (now (low .entry)) (now (gap .entry)) (now (first .entry)) (now (last .entry)) (now (blocks .entry)) count left node best r ⌝ }
 {
@@ -196,28 +242,81 @@ fn explore(low: &[u32], gap: &[u32], first: &[u32], last: &[u32], blocks: &[u32]
     }
     if left == 0 {
         let places = node.places;
-        return decide(low, gap, first, last, blocks, count, node.set, node.loss, places, best);
+        return decide(
+            low,
+            gap,
+            first,
+            last,
+            blocks,
+            count,
+            node.set,
+            node.loss,
+            places,
+            best,
+        );
     }
-    let taken = explore(low, gap, first, last, blocks, count, left - 1, take(blocks, count - left, node), best);
-    explore(low, gap, first, last, blocks, count, left - 1, leave(blocks, count - left, node), taken)
+    let taken = explore(
+        low,
+        gap,
+        first,
+        last,
+        blocks,
+        count,
+        left - 1,
+        take(blocks, count - left, node),
+        best,
+    );
+    explore(
+        low,
+        gap,
+        first,
+        last,
+        blocks,
+        count,
+        left - 1,
+        leave(blocks, count - left, node),
+        taken,
+    )
 }
 
 // The published set: a pass with a small threshold first, doubled until a pass finds a set. A pass that finds one has found the published one.
-pub fn find(low: &[u32], gap: &[u32], first: &[u32], last: &[u32], blocks: &[u32], count: u32) -> Best
+pub fn find(
+    low: &[u32],
+    gap: &[u32],
+    first: &[u32],
+    last: &[u32],
+    blocks: &[u32],
+    count: u32,
+) -> Best
     requires { ⌜ Sized (now low) (now gap) (now first) (now last) (now blocks) × (count ≤ 32) ⌝ }
     ensures { λ r. ⌜ FoundIn (now (low .entry)) (now (gap .entry)) (now (first .entry)) (now (last .entry)) (now (blocks .entry)) count r ⌝ }
 {
-    let day = Day { prices: [0; 24], quantities: [0; 24] };
-    let root = Node { set: 0, loss: 0, places: [0; 24] };
+    let day = Day {
+        prices: [0; 24],
+        quantities: [0; 24],
+    };
+    let root = Node {
+        set: 0,
+        loss: 0,
+        places: [0; 24],
+    };
     let mut limit: u64 = 1024;
     while limit < 549755813888 {
-        let start = Best { limit: limit, set: 0, day: day };
+        let start = Best {
+            limit: limit,
+            set: 0,
+            day: day,
+        };
         let found = explore(low, gap, first, last, blocks, count, count, root, start);
         if found.limit < limit {
             return found;
         }
         limit = limit * 2;
     }
-    let start = Best { limit: limit, set: 0, day: day };
+    let start = Best {
+        limit: limit,
+        set: 0,
+        day: day,
+    };
     explore(low, gap, first, last, blocks, count, count, root, start)
 }

@@ -14,11 +14,11 @@ use crate::search::price_sum;
 use crate::search::prices_at;
 use book::hour_count;
 use orders::Blocks;
+use pricing::table::Places;
 use pricing::table::all_totals;
 use pricing::table::clear_range;
 use pricing::table::fill_gaps;
 use pricing::table::fill_prices;
-use pricing::table::Places;
 
 // The first and the last place at which each hour clears.
 pub struct Ranges {
@@ -34,7 +34,15 @@ pub struct Prepared {
 }
 
 // The price table of an hour, whose steps stand from a up to e.
-fn fill_row(sides: &[u8], prices: &[u32], quantities: &[u32], a: usize, e: usize, off: u32, row: &mut [u32])
+fn fill_row(
+    sides: &[u8],
+    prices: &[u32],
+    quantities: &[u32],
+    a: usize,
+    e: usize,
+    off: u32,
+    row: &mut [u32],
+)
     requires { ⌜ PartHeld (now sides) (now prices) (now quantities) a e × (off ≤ 1600) × (length (now row) ≡ 1602) ⌝ }
     ensures { λ _. ⌜ TableOf (now (sides .entry)) (now (prices .entry)) (now (quantities .entry)) a e off (now (row .exit)) ⌝ }
 {
@@ -42,7 +50,14 @@ fn fill_row(sides: &[u8], prices: &[u32], quantities: &[u32], a: usize, e: usize
 }
 
 // The price tables of the hours, row after row.
-fn fill_tables(sides: &[u8], prices: &[u32], quantities: &[u32], ends: [u16; 25], off: [u32; 24], low: &mut [u32])
+fn fill_tables(
+    sides: &[u8],
+    prices: &[u32],
+    quantities: &[u32],
+    ends: [u16; 25],
+    off: [u32; 24],
+    low: &mut [u32],
+)
     requires { ⌜ StepsHeld (now sides) (now prices) (now quantities) ends × Small 1600 off × (length (now low) ≡ 38448) ⌝ }
     ensures { λ _. ⌜ RowsAre (now (sides .entry)) (now (prices .entry)) (now (quantities .entry)) ends off (now (low .exit)) ⌝ }
 {
@@ -50,20 +65,36 @@ fn fill_tables(sides: &[u8], prices: &[u32], quantities: &[u32], ends: [u16; 25]
     while h < 24 {
         let from = h * 1602;
         let to = from + 1602;
-        fill_row(sides, prices, quantities, ends[h] as usize, ends[h + 1] as usize, off[h], &mut low[from..to]);
+        fill_row(
+            sides,
+            prices,
+            quantities,
+            ends[h] as usize,
+            ends[h + 1] as usize,
+            off[h],
+            &mut low[from..to],
+        );
         h += 1;
     }
 }
 
 // The places at which an hour clears, whose steps stand from a up to e, and its gaps there at a price. The range has the place off: N is 0.
-fn fill_hour(sides: &[u8], prices: &[u32], quantities: &[u32], a: usize, e: usize, off: u32, price: u32, row: &[u32], gap: &mut [u32]) -> Places
+fn fill_hour(
+    sides: &[u8],
+    prices: &[u32],
+    quantities: &[u32],
+    a: usize,
+    e: usize,
+    off: u32,
+    price: u32,
+    row: &[u32],
+    gap: &mut [u32],
+) -> Places
     requires held { ⌜ PartHeld (now sides) (now prices) (now quantities) a e × (off ≤ 1600) × (price ≤ 300000) × (length (now gap) ≡ 1602) ⌝ }
     requires table { ⌜ (length (now row) ≡ 1602) × TableOf (now sides) (now prices) (now quantities) a e off (now row) ⌝ }
     ensures fits { λ r. ⌜ (r .first ≤ 1600) × (r .last ≤ 1600) ⌝ }
-    ensures ranged {
-        λ r. ⌜ RangedOf (now (sides .entry)) (now (prices .entry)) (now (quantities .entry)) a e off price
-            (r .first) (r .last) (now (row .entry)) (now (gap .exit)) ⌝
-    }
+    ensures ranged { λ r. ⌜ RangedOf (now (sides .entry)) (now (prices .entry)) (now (quantities .entry)) a e off price
+        (r .first) (r .last) (now (row .entry)) (now (gap .exit)) ⌝ }
 {
     let all = all_totals(&sides[a..e], &prices[a..e], &quantities[a..e]);
     let range = clear_range(all.buys, all.sells, off, 1600);
@@ -72,14 +103,21 @@ fn fill_hour(sides: &[u8], prices: &[u32], quantities: &[u32], a: usize, e: usiz
 }
 
 // The hours' ranges, and their gaps at the prices root, row after row.
-fn fill_ranges(sides: &[u8], prices: &[u32], quantities: &[u32], ends: [u16; 25], off: [u32; 24], root: [u32; 24], low: &[u32], gap: &mut [u32]) -> Ranges
+fn fill_ranges(
+    sides: &[u8],
+    prices: &[u32],
+    quantities: &[u32],
+    ends: [u16; 25],
+    off: [u32; 24],
+    root: [u32; 24],
+    low: &[u32],
+    gap: &mut [u32],
+) -> Ranges
     requires held { ⌜ StepsHeld (now sides) (now prices) (now quantities) ends × Small 1600 off × Small 300000 root × (length (now gap) ≡ 38448) ⌝ }
     requires tables { ⌜ (length (now low) ≡ 38448) × RowsAre (now sides) (now prices) (now quantities) ends off (now low) ⌝ }
     ensures small { λ r. ⌜ (length (r .first) ≡ 24) × (length (r .last) ≡ 24) × Small 1600 (r .last) ⌝ }
-    ensures ranges {
-        λ r. ⌜ RangesAre (now (sides .entry)) (now (prices .entry)) (now (quantities .entry)) ends off root
-            (now (low .entry)) (now (gap .exit)) (r .first) (r .last) ⌝
-    }
+    ensures ranges { λ r. ⌜ RangesAre (now (sides .entry)) (now (prices .entry)) (now (quantities .entry)) ends off root
+        (now (low .entry)) (now (gap .exit)) (r .first) (r .last) ⌝ }
 {
     let mut first = [0; 24];
     let mut last = [0; 24];
@@ -120,7 +158,12 @@ fn by_side(side: u8, a: u32, b: u32) -> u32
 }
 
 // What the buy blocks buy in each hour.
-fn bought_by_hour(count: usize, sides: [u8; 32], hours: [u32; 32], quantities: [u32; 32]) -> [u32; 24]
+fn bought_by_hour(
+    count: usize,
+    sides: [u8; 32],
+    hours: [u32; 32],
+    quantities: [u32; 32],
+) -> [u32; 24]
     requires { ⌜ (count ≤ 32) × ((i : ℕ) → i < count → getD quantities i 0 ≤ 50) ⌝ }
     ensures { λ r. ⌜ Small 1600 r × ((h : ℕ) → 1 ≤ h → h ≤ 24 → getD r (h - 1) 0 ≡ boughtIn count sides hours quantities h) ⌝ }
 {
@@ -135,7 +178,15 @@ fn bought_by_hour(count: usize, sides: [u8; 32], hours: [u32; 32], quantities: [
 }
 
 // The columns with block i written: its side, hours, quantity, limit, and what it loses if taken and if left out.
-fn with_block(columns: [u32; 192], i: usize, side: u8, hours: u32, quantity: u32, limit: u32, sum: u32) -> [u32; 192]
+fn with_block(
+    columns: [u32; 192],
+    i: usize,
+    side: u8,
+    hours: u32,
+    quantity: u32,
+    limit: u32,
+    sum: u32,
+) -> [u32; 192]
     requires { ⌜ (i < 32) × (quantity ≤ 50) × (limit ≤ 7200000) × (sum ≤ 7200000) ⌝ }
     ensures { λ r. ⌜ r ≡ written columns i side hours quantity limit sum ⌝ }
 {
@@ -152,7 +203,14 @@ fn with_block(columns: [u32; 192], i: usize, side: u8, hours: u32, quantity: u32
 }
 
 // The blocks' six columns, at the prices root.
-fn block_columns(count: usize, sides: [u8; 32], hours: [u32; 32], prices: [u32; 32], quantities: [u32; 32], root: [u32; 24]) -> [u32; 192]
+fn block_columns(
+    count: usize,
+    sides: [u8; 32],
+    hours: [u32; 32],
+    prices: [u32; 32],
+    quantities: [u32; 32],
+    root: [u32; 24],
+) -> [u32; 192]
     requires { ⌜ BlocksHeld count prices quantities × Small 300000 root ⌝ }
     ensures sized { λ r. ⌜ BlocksSized r ⌝ }
     ensures blocks { λ r. ⌜ ((i : ℕ) → i < count → Written sides hours prices quantities root r i) ⌝ }
@@ -161,7 +219,15 @@ fn block_columns(count: usize, sides: [u8; 32], hours: [u32; 32], prices: [u32; 
     let mut i: usize = 0;
     while i < count {
         let limit = prices[i] * hour_count(hours[i]);
-        let more = with_block(columns, i, sides[i], hours[i], quantities[i], limit, price_sum(root, hours[i]));
+        let more = with_block(
+            columns,
+            i,
+            sides[i],
+            hours[i],
+            quantities[i],
+            limit,
+            price_sum(root, hours[i]),
+        );
         columns = more;
         i += 1;
     }
@@ -169,14 +235,26 @@ fn block_columns(count: usize, sides: [u8; 32], hours: [u32; 32], prices: [u32; 
 }
 
 // The places where each block that gains at the prices is taken, and no other.
-fn places_at(count: usize, sides: [u8; 32], hours: [u32; 32], prices: [u32; 32], quantities: [u32; 32], root: [u32; 24]) -> [u32; 24]
+fn places_at(
+    count: usize,
+    sides: [u8; 32],
+    hours: [u32; 32],
+    prices: [u32; 32],
+    quantities: [u32; 32],
+    root: [u32; 24],
+) -> [u32; 24]
     requires { ⌜ BlocksHeld count prices quantities × Small 300000 root ⌝ }
     ensures { λ r. ⌜ Small 1600 r ⌝ }
 {
     let mut places = [0; 24];
     let mut i: usize = 0;
     while i < count {
-        let gains = keeps_limit(sides[i] as u32, hours[i], prices[i] * hour_count(hours[i]), root);
+        let gains = keeps_limit(
+            sides[i] as u32,
+            hours[i],
+            prices[i] * hour_count(hours[i]),
+            root,
+        );
         let mut quantity = 0;
         if gains == (sides[i] != 0) {
             quantity = quantities[i];
@@ -232,7 +310,15 @@ fn closer(a: [u32; 24], b: [u32; 24]) -> [u32; 24]
 
 // The prices that the search goes by: those of the empty set, moved 200 times towards those at the average of the places so far at which the blocks
 // that gain are taken. Any prices are right; at these the losses of good sets are small.
-fn root_prices(low: &[u32], off: [u32; 24], count: usize, sides: [u8; 32], hours: [u32; 32], prices: [u32; 32], quantities: [u32; 32]) -> [u32; 24]
+fn root_prices(
+    low: &[u32],
+    off: [u32; 24],
+    count: usize,
+    sides: [u8; 32],
+    hours: [u32; 32],
+    prices: [u32; 32],
+    quantities: [u32; 32],
+) -> [u32; 24]
     requires tables { ⌜ (length (now low) ≡ 38448) × Small 300000 (now low) × Small 1600 off ⌝ }
     requires blocks { ⌜ BlocksHeld count prices quantities ⌝ }
     ensures { λ r. ⌜ Small 300000 r ⌝ }
@@ -254,16 +340,22 @@ fn root_prices(low: &[u32], off: [u32; 24], count: usize, sides: [u8; 32], hours
 }
 
 // All that the search is given, from the columns of a book's steps and blocks; low and gap are its two tables, 24 rows of 1,602 places.
-pub fn prepare(sides: &[u8], prices: &[u32], quantities: &[u32], ends: [u16; 25], blocks: Blocks, low: &mut [u32], gap: &mut [u32]) -> Prepared
+pub fn prepare(
+    sides: &[u8],
+    prices: &[u32],
+    quantities: &[u32],
+    ends: [u16; 25],
+    blocks: Blocks,
+    low: &mut [u32],
+    gap: &mut [u32],
+) -> Prepared
     requires steps { ⌜ StepsHeld (now sides) (now prices) (now quantities) ends ⌝ }
     requires blocks { ⌜ BlocksHeld (blocks .count) (blocks .prices) (blocks .quantities) ⌝ }
     requires tables { ⌜ (length (now low) ≡ 38448) × (length (now gap) ≡ 38448) ⌝ }
     ensures sized { λ r. ⌜ Sized (now (low .exit)) (now (gap .exit)) (r .first) (r .last) (r .columns) ⌝ }
-    ensures ready {
-        λ r. ⌜ ReadyFor (now (sides .entry)) (now (prices .entry)) (now (quantities .entry)) ends
-            (blocks .count) (blocks .records) (blocks .sides) (blocks .hours) (blocks .prices) (blocks .quantities)
-            (now (low .exit)) (now (gap .exit)) (r .first) (r .last) (r .columns) ⌝
-    }
+    ensures ready { λ r. ⌜ ReadyFor (now (sides .entry)) (now (prices .entry)) (now (quantities .entry)) ends
+        (blocks .count) (blocks .records) (blocks .sides) (blocks .hours) (blocks .prices) (blocks .quantities)
+        (now (low .exit)) (now (gap .exit)) (r .first) (r .last) (r .columns) ⌝ }
 {
     let count = blocks.count;
     let block_sides = blocks.sides;
@@ -277,5 +369,9 @@ pub fn prepare(sides: &[u8], prices: &[u32], quantities: &[u32], ends: [u16; 25]
     let columns = block_columns(count, block_sides, hours, limits, amounts, root);
     let first = ranges.first;
     let last = ranges.last;
-    Prepared { first, last, columns }
+    Prepared {
+        first,
+        last,
+        columns,
+    }
 }

@@ -6,9 +6,9 @@ ghost use Rattle.exports.specs.Parts.{answerPart};
 use book::Reading;
 ghost use Rattle.clearing.specs.Promise.{clearRefusal, resultAfter};
 use book::read;
-use pricing::HourAnswer;
-use clearing::clear;
 use clearing::Clearing;
+use clearing::clear;
+use pricing::HourAnswer;
 use pricing::price;
 
 // The book's refusal, 0 for an accepted book.

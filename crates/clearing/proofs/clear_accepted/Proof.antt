@@ -56,9 +56,10 @@ slice-aggregate-prepare-5 c = search needs
 prepare-requires : tie.Need-prepare-requires
 prepare-requires c κs =
     let k = c .before .before .before .before .before in
-    let f = k .before .before .before .before .before .before in
-    (steps-held _ _ _ _ _ _ (f .steps-of .ensures) (size-sides f) (size-prices f) (size-quantities f),
-    (blocks-held _ _ _ _ _ _ _ (k .blocks-of .ensures) (f .before .before .before .before .pre .0), (search needs, search needs)))
+    let f = k .before .before .before .before .before .before in (
+      steps-held _ _ _ _ _ _ (f .steps-of .ensures) (size-sides f) (size-prices f) (size-quantities f),
+      (blocks-held _ _ _ _ _ _ _ (k .blocks-of .ensures) (f .before .before .before .before .pre .0), (search needs, search needs)),
+    )
 
 slice-aggregate-find : tie.Need-slice-aggregate-find
 slice-aggregate-find c = search needs

@@ -29,7 +29,7 @@ returns c =
     let l = c .before .before .before .before .before in
     let a = l .before .before .before .before .before in
     λ day p rest known. pass-is _ _ _ _ _ _ (a .pre .1) (λ i. omega (arith, l .shared-slice-known5 .given i))
-        (λ i. omega (arith, l .before .before .before .shared-slice-known2 .given i)) day p rest known _ _ (c .before .before .explore .ensures) (c .if1 .taken)
+    (λ i. omega (arith, l .before .before .before .shared-slice-known2 .given i)) day p rest known _ _ (c .before .before .explore .ensures) (c .if1 .taken)
 
 mul-limit : tie.Need-mul-limit Inv-loop μ-loop
 mul-limit c = search needs
@@ -51,10 +51,10 @@ returns-2 c =
     let l = c .before .before .before in
     let a = l .before .before .before .before .before in
     λ day p rest known.
-        pass-is _ _ _ _ _ _ (a .pre .1) (λ i. omega (arith, l .shared-slice-known5 .given i))
-        (λ i. omega (arith, l .before .before .before .shared-slice-known2 .given i)) day p rest known _ _ (c .explore2 .ensures)
-        (pass-found _ _ _ _ _ _ (a .pre .1) (λ i. omega (arith, l .shared-slice-known5 .given i))
-        (λ i. omega (arith, l .before .before .before .shared-slice-known2 .given i)) day p rest known _ _ (c .explore2 .ensures) (c .before .loop-test .left))
+    pass-is _ _ _ _ _ _ (a .pre .1) (λ i. omega (arith, l .shared-slice-known5 .given i))
+    (λ i. omega (arith, l .before .before .before .shared-slice-known2 .given i)) day p rest known _ _ (c .explore2 .ensures)
+    (pass-found _ _ _ _ _ _ (a .pre .1) (λ i. omega (arith, l .shared-slice-known5 .given i))
+    (λ i. omega (arith, l .before .before .before .shared-slice-known2 .given i)) day p rest known _ _ (c .explore2 .ensures) (c .before .loop-test .left))
 
 pub find-spec : {M : Type 1} → statement M
 find-spec =

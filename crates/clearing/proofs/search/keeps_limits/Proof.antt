@@ -67,10 +67,11 @@ loop-less c = search needs
 
 loop-again : tie.Need-loop-again Inv-loop μ-loop
 loop-again c =
-    let v = c .before .before .before .before .before .before in
-    (omega (arith, v .before .loop .inv .0),
-    v .before .loop .inv .1 ∙ keep-passes _ _ _ _ (v .loop-test .taken) (c .before .before .before .before .before .if1 .taken)
-    (sym (c .before .keeps-limit .ensures) ∙ not-false _ (c .if2 .left)))
+    let v = c .before .before .before .before .before .before in (
+      omega (arith, v .before .loop .inv .0),
+      v .before .loop .inv .1 ∙ keep-passes _ _ _ _ (v .loop-test .taken) (c .before .before .before .before .before .if1 .taken)
+          (sym (c .before .keeps-limit .ensures) ∙ not-false _ (c .if2 .left)),
+    )
 
 loop-less-2 : tie.Need-loop-less-2 Inv-loop μ-loop
 loop-less-2 c = search needs

@@ -74,10 +74,12 @@ with-block-requires c κs =
     let v = b .before .before .loop in
     let s = b .before .before .before in
     let k = b .before .loop-test .taken in
-    let h = s .pre .0 in
-    (omega (arith, h .few, k), h .quantitiesFit (v .i) k,
-    rw (b .hour-count .ensures) (limit-fits (getD (s .args .t4) (v .i) 0) (getD (s .args .t3) (v .i) 0) (h .pricesFit (v .i) k)),
-    c .price-sum .ensures .1)
+    let h = s .pre .0 in (
+      omega (arith, h .few, k),
+      h .quantitiesFit (v .i) k,
+      rw (b .hour-count .ensures) (limit-fits (getD (s .args .t4) (v .i) 0) (getD (s .args .t3) (v .i) 0) (h .pricesFit (v .i) k)),
+      c .price-sum .ensures .1,
+    )
 
 add-i : tie.Need-add-i Inv-loop μ-loop
 add-i c = search needs

@@ -43,9 +43,10 @@ moved-requires : tie.Need-moved-requires Inv-loop μ-loop
 moved-requires c κs =
     let v = c .before .before .loop in
     let s = c .before .before .before in
-    let k = c .before .loop-test .taken in
-    (λ j. omega (arith, v .inv .1 .small j, s .pre .0),
-    omega (arith, c .by-side .ensures, side-le (sideFor (getD (s .args .t2) (v .i) 0)) (getD (s .args .t4) (v .i) 0) 0 50 (s .pre .1 (v .i) k) (omega arith)))
+    let k = c .before .loop-test .taken in (
+      λ j. omega (arith, v .inv .1 .small j, s .pre .0),
+      omega (arith, c .by-side .ensures, side-le (sideFor (getD (s .args .t2) (v .i) 0)) (getD (s .args .t4) (v .i) 0) 0 50 (s .pre .1 (v .i) k) (omega arith)),
+    )
 
 add-i : tie.Need-add-i Inv-loop μ-loop
 add-i c = search needs

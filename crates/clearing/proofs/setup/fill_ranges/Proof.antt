@@ -88,9 +88,10 @@ fill-hour-requires c κs =
     let s = c .before .before .before .before .before .before .before .before .before in
     let k = c .before .before .loop-test .taken in
     let q = s .pre .0 in
-    let t = s .pre .1 in
-    ((part-held _ _ _ _ (q .0) (v .h) k, q .1 (v .h), q .2 (v .h), part-length (v .gap) (v .h) (v .inv .size) k),
-    (part-length (s .args .low .now) (v .h) (t .0) k, rw (part-row (s .args .low .now) (v .h)) (t .1 (v .h) k)))
+    let t = s .pre .1 in (
+      (part-held _ _ _ _ (q .0) (v .h) k, q .1 (v .h), q .2 (v .h), part-length (v .gap) (v .h) (v .inv .size) k),
+      (part-length (s .args .low .now) (v .h) (t .0) k, rw (part-row (s .args .low .now) (v .h)) (t .1 (v .h) k)),
+    )
 
 cast-first : tie.Need-cast-first Inv-loop μ-loop
 cast-first c = search needs

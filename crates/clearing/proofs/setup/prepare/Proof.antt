@@ -24,18 +24,23 @@ root-prices-requires c κs =
     let s = f .before .before .before .before .before .before .before .before .before .before .before .before in
     let size = f .fill-tables .kept .1 .1 .1 .1 .1 .0 ∙ s .pre .1 .1 .0 in
     let o = f .before .before .bought-by-hour in
-    let low = f .fill-tables .last .1 .1 .1 .1 .1 .0 in
-    ((size,
-    low-small (s .args .sides .now) (s .args .prices .now) (s .args .quantities .now) (s .args .ends) (o .result) low size (f .fill-tables .ensures),
-    o .ensures .0), s .pre .1 .0)
+    let low = f .fill-tables .last .1 .1 .1 .1 .1 .0 in (
+      (
+        size,
+        low-small (s .args .sides .now) (s .args .prices .now) (s .args .quantities .now) (s .args .ends) (o .result) low size (f .fill-tables .ensures),
+        o .ensures .0,
+      ),
+      s .pre .1 .0,
+    )
 
 fill-ranges-requires : tie.Need-fill-ranges-requires
 fill-ranges-requires c κs =
     let p = c .before .before in
     let f = p .before .before .before .before in
-    let s = f .before .before .before .before .before .before .before .before .before .before .before .before in
-    ((s .pre .0, f .before .before .bought-by-hour .ensures .0, p .root-prices .ensures, s .pre .1 .1 .1),
-    (f .fill-tables .kept .1 .1 .1 .1 .1 .0 ∙ s .pre .1 .1 .0, f .fill-tables .ensures))
+    let s = f .before .before .before .before .before .before .before .before .before .before .before .before in (
+      (s .pre .0, f .before .before .bought-by-hour .ensures .0, p .root-prices .ensures, s .pre .1 .1 .1),
+      (f .fill-tables .kept .1 .1 .1 .1 .1 .0 ∙ s .pre .1 .1 .0, f .fill-tables .ensures),
+    )
 
 block-columns-requires : tie.Need-block-columns-requires
 block-columns-requires c κs =
@@ -61,10 +66,11 @@ returns c =
     let size = f .fill-tables .kept .1 .1 .1 .1 .1 .0 ∙ s .pre .1 .1 .0 in
     let gapSize = g .kept .1 .1 .1 .1 .1 .1 .1 .0 ∙ s .pre .1 .1 .1 in
     let a = s .args in
-    let small = low-small (a .sides .now) (a .prices .now) (a .quantities .now) (a .ends) (o .result) low size (f .fill-tables .ensures) in
-    (set-up _ _ _ _ _ size gapSize (g .ensures .0 .0) (g .ensures .0 .1) (g .ensures .0 .2) small (k .ensures .0),
-    ready _ _ _ _ _ _ _ _ _ _ (o .result) (p .root-prices .result) low _ _ _ _ size (o .ensures .0) (o .ensures .1) (f .fill-tables .ensures) (g .ensures .1)
-    (k .ensures .1))
+    let small = low-small (a .sides .now) (a .prices .now) (a .quantities .now) (a .ends) (o .result) low size (f .fill-tables .ensures) in (
+      set-up _ _ _ _ _ size gapSize (g .ensures .0 .0) (g .ensures .0 .1) (g .ensures .0 .2) small (k .ensures .0),
+      ready _ _ _ _ _ _ _ _ _ _ (o .result) (p .root-prices .result) low _ _ _ _ size (o .ensures .0) (o .ensures .1) (f .fill-tables .ensures) (g .ensures .1)
+          (k .ensures .1),
+    )
 
 pub prepare-spec : {M : Type 1} → statement M
 prepare-spec =
