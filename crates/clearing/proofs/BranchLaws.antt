@@ -38,7 +38,7 @@ use Rattle.rules.specs.Day.{
   lawful,
 }
 use Rattle.rules.specs.Contender.{Counts}
-use Rattle.rules.proofs.Tests.{by-test, both, clash}
+use Rattle.rules.proofs.Tests.{by-test, by-eq, both, clash}
 use Rattle.rules.proofs.CurveLaws.{when-zero, when-le}
 use Rattle.rules.proofs.PricingLaws.{Clearable, net}
 use Rattle.rules.proofs.TableLaws.{unitPrice, unit-net, tablePrice}
@@ -62,6 +62,7 @@ use Rattle.rules.proofs.PlaceLaws.{
   slack-at-place,
 }
 use Rattle.rules.proofs.LawCutLaws.{taken-passes}
+use Rattle.clearing.proofs.LeafLaws.{keepsHere}
 use Rattle.clearing.specs.Search.{
   Small,
   sumOfHours,
@@ -90,6 +91,7 @@ use Rattle.clearing.specs.Meaning.{
   DayOf,
   Outcome,
   Decided,
+  DroppedFrom,
   ExploredFrom,
   TakenTo,
   LeftTo,
@@ -132,41 +134,59 @@ passes-taken t other (b ∷ l) (true ∷ s) f = rw (f 0 (omega arith) refl, pass
 passes-taken t other (b ∷ l) (false ∷ s) f = passes-taken t other l s (λ j k e. f (suc j) (omega arith) e)
 
 -- the block at a number
-block-at : (l : List Block) (j : ℕ) (b : Block) (after : List Block) (other : Block) → drop j l ≡ b ∷ after → getD l j other ≡ b
+pub block-at : (l : List Block) (j : ℕ) (b : Block) (after : List Block) (other : Block) → drop j l ≡ b ∷ after → getD l j other ≡ b
 block-at [] zero b after other e = let z : _≡_ {A = ℕ} 0 1 = cc in absurd (omega arith)
 block-at [] (suc j) b after other e = let z : _≡_ {A = ℕ} 0 1 = cc in absurd (omega arith)
 block-at (x ∷ l) zero b after other e = cc
 block-at (x ∷ l) (suc j) b after other e = block-at l j b after other e
 
 -- ALL LIMITS, by the columns
-all-keep-at : (blocks : List ℕ) (set : ℕ) (prices : List ℕ) (n j : ℕ) → allKeep blocks set prices n ≡ true → j < n → set / 2 ^ j % 2 ≡ 1 →
-    keepsAt (sideAt blocks j) (hoursAt blocks j) (limitAt blocks j) prices ≡ true
-unfolding allKeep
-all-keep-at blocks set prices zero j e k c = absurd (omega arith)
-all-keep-at blocks set prices (suc n) j e k c =
-    let t = both (not (eqb (set / 2 ^ n % 2) 1) || keepsAt (sideAt blocks n) (hoursAt blocks n) (limitAt blocks n) prices) (allKeep blocks set prices n) e in
-    elim (native.Mathlib.Decide.decLe n j) [
-      | yes a ↦
-          let z : j ≡ n = omega arith in
-          let c′ : set / 2 ^ n % 2 ≡ 1 = rw (sym z) c in
-          rw z (rw (eq-eqb (set / 2 ^ n % 2) 1 c′) at (t .0))
-      | no a ↦ all-keep-at blocks set prices n j (t .1) (native.Mathlib.Nat.lt-of-not-le a) c
-    ]
+module _ (blocks : List ℕ) (set : ℕ) (high low : List ℕ) where
+  all-keep-at : (n j : ℕ) → allKeep blocks set high low n ≡ true → j < n → set / 2 ^ j % 2 ≡ 1 → keepsHere blocks set high low j ≡ true
+  unfolding allKeep
+  all-keep-at zero j e k c = absurd (omega arith)
+  all-keep-at (suc n) j e k c =
+      let t = both (not (eqb (set / 2 ^ n % 2) 1) || keepsHere blocks set high low n) (allKeep blocks set high low n) e in
+      elim (native.Mathlib.Decide.decLe n j) [
+        | yes a ↦
+            let z : j ≡ n = omega arith in
+            let c′ : set / 2 ^ n % 2 ≡ 1 = rw (sym z) c in
+            rw z (rw (eq-eqb (set / 2 ^ n % 2) 1 c′) at (t .0))
+        | no a ↦ all-keep-at n j (t .1) (native.Mathlib.Nat.lt-of-not-le a) c
+      ]
 
-all-keep : (blocks : List ℕ) (set : ℕ) (prices : List ℕ) (n : ℕ) →
-    ((j : ℕ) → j < n → set / 2 ^ j % 2 ≡ 1 → keepsAt (sideAt blocks j) (hoursAt blocks j) (limitAt blocks j) prices ≡ true) → allKeep blocks set prices n ≡ true
-unfolding allKeep
-all-keep blocks set prices zero f = refl
-all-keep blocks set prices (suc n) f =
-    rw (all-keep blocks set prices n (λ j k c. f j (omega arith) c))
-    (Rattle.rules.proofs.Tests.by-eq (λ t. ((not t || keepsAt (sideAt blocks n) (hoursAt blocks n) (limitAt blocks n) prices) && true) ≡ true) (set / 2 ^ n % 2) 1
-    (λ c. rw (f n (omega arith) c)) (λ c. refl))
+  pub all-keep : (n : ℕ) → ((j : ℕ) → j < n → set / 2 ^ j % 2 ≡ 1 → keepsHere blocks set high low j ≡ true) → allKeep blocks set high low n ≡ true
+  unfolding allKeep
+  all-keep zero f = refl
+  all-keep (suc n) f =
+      rw (all-keep n (λ j k c. f j (omega arith) c))
+      (by-eq (λ t. ((not t || keepsHere blocks set high low n) && true) ≡ true) (set / 2 ^ n % 2) 1 (λ c. rw (f n (omega arith) c)) (λ c. refl))
+
+either-way : (t : Bool) (l : List ℕ) → cond t l l ≡ l
+either-way true l = refl
+either-way false l = refl
 
 same-test : (side side′ : Side) (sum sum′ limit limit′ : ℕ) → side ≡ side′ → sum ≡ sum′ → limit ≡ limit′ →
     testSide side (leb sum limit) (leb limit sum) ≡ testSide side′ (leb sum′ limit′) (leb limit′ sum′)
 same-test side side′ sum sum′ limit limit′ a b c = rw (a, b, c)
 
 -- THE DAY AT ITS TABLES
+-- the price at a place, by the price table
+pub price-at-table : (day : Day) (p rest : ℕ → ℕ) (low gap first last blocks : List ℕ) (count : ℕ) → Known day p rest low gap first last blocks count →
+    (places prices : List ℕ) → PricesOf low places prices → (h : ℕ) → 1 ≤ h → h ≤ 24 → ofHour places h ≤ 1600 →
+    ofHour prices h ≡ pricesAt day (ofHour places) h
+unfolding pricesAt tablePrice
+price-at-table day p rest low gap first last blocks count known places prices priced h a b fits =
+    let i = ofHour places h in
+    let off = overBlocks (buys h) (day .blocks) in
+    omega (
+      arith,
+      priced .are h a b,
+      known .lowIs h i a b (omega arith),
+      known .lowIs h (i + 1) a b (omega arith),
+      unit-net (stepsIn h (day .steps)) (i + 1) (suc off) i off (omega arith),
+    )
+
 module _ (day : Day) (p rest : ℕ → ℕ) (low gap first last blocks : List ℕ) (count : ℕ) (known : Known day p rest low gap first last blocks count)
     (set loss : ℕ) (places : List ℕ) (d : List Bool) (branch : Branch day p d set loss places) (whole : length d ≡ count) where
   size : length d ≡ length (day .blocks)
@@ -209,20 +229,11 @@ module _ (day : Day) (p rest : ℕ → ℕ) (low gap first last blocks : List �
     -- the prices by the price table
     module _ (prices : List ℕ) (priced : PricesOf low places prices) where
       price-at : (h : ℕ) → 1 ≤ h → h ≤ 24 → ofHour prices h ≡ pricesAt day (place (day .blocks) d) h
-      unfolding pricesAt tablePrice
+      unfolding pricesAt
       price-at h a b =
-          let i = place (day .blocks) d h in
-          let off = overBlocks (buys h) (day .blocks) in
-          let l = stepsIn h (day .steps) in
-          let e : ofHour places h ≡ i = branch .placesAre h a b in
-          let at = rw e at (priced .are h a b) in
-          omega (
-            arith,
-            at,
-            known .lowIs h i a b (omega (arith, place-fits h a b)),
-            known .lowIs h (i + 1) a b (omega (arith, place-fits h a b)),
-            unit-net l (i + 1) (suc off) i off (omega arith),
-          )
+          let e = branch .placesAre h a b in
+          let fits : ofHour places h ≤ 1600 = omega (arith, place-fits h a b) in
+          rw e at (price-at-table day p rest low gap first last blocks count known places prices priced h a b fits)
 
       pub day-of : DayOf day d record { prices = prices; quantities = places }
       day-of = record {
@@ -232,13 +243,13 @@ module _ (day : Day) (p rest : ℕ → ℕ) (low gap first last blocks : List �
 
       -- a block's limit by the columns
       keeps-same : (j : ℕ) (s : Shown day p blocks j) →
-          keepsLimit (day .hours) (pricesAt day (place (day .blocks) d)) (s .block) ≡ keepsAt (sideAt blocks j) (hoursAt blocks j) (limitAt blocks j) prices
+          keepsLimit (day .hours) (pricesAt day (place (day .blocks) d)) (s .block) ≡ keepsHere blocks set prices prices j
       unfolding keepsLimit keepsAt priceSum sumOfHours
       keeps-same j s =
           let sum : daySum (day .hours) (λ h. when (s .block .runs h) (pricesAt day (place (day .blocks) d) h))
           ≡ sumTo 24 (λ h. when (holdsHour (hoursAt blocks j) h) (getD prices (h - 1) 0)) =
           daySum-plain (day .hours) _ ∙ sumTo-in 24 _ _ (λ h a b. rw (s .runsIs h, ← (price-at h a b))) in
-          same-test _ _ _ _ _ _ (s .sideIs) sum (s .limitIs)
+          rw (either-way (eqb (sideAt blocks j) 0) prices) (same-test _ _ _ _ _ _ (s .sideIs) sum (s .limitIs))
 
       bit-is : (j : ℕ) → j < count → getD d j false ≡ eqb (set / 2 ^ j % 2) 1
       bit-is j k = rw (← (branch .setIs)) (bits-at (length d) set j (omega arith))
@@ -246,7 +257,7 @@ module _ (day : Day) (p rest : ℕ → ℕ) (low gap first last blocks : List �
       other : Block
       other = record { number = 0; side = buy; price = 0; quantity = 0; runs = λ h. false }
 
-      pub limits-kept : allKeep blocks set prices count ≡ true → lawful day d ≡ true
+      pub limits-kept : allKeep blocks set prices prices count ≡ true → lawful day d ≡ true
       unfolding allowed
       limits-kept e =
           lawful-by-places day d size (known .prices) (known .hours) refl (λ h c. clear-at h (c .first) (c .last))
@@ -254,11 +265,11 @@ module _ (day : Day) (p rest : ℕ → ℕ) (low gap first last blocks : List �
           let kc : j < count = omega (arith, known .counted) in
           let s = known .shown j kc in
           rw (block-at (day .blocks) j (s .block) _ other (s .next))
-          (keeps-same j s ∙ all-keep-at blocks set prices count j e kc (borrow.Author.Tests.eqb-true _ _ (sym (bit-is j kc) ∙ t)))))
+          (keeps-same j s ∙ all-keep-at blocks set prices prices count j e kc (borrow.Author.Tests.eqb-true _ _ (sym (bit-is j kc) ∙ t)))))
 
-      pub limits-broken : allKeep blocks set prices count ≡ false → lawful day d ≡ true → ⊥
+      pub limits-broken : allKeep blocks set prices prices count ≡ false → lawful day d ≡ true → ⊥
       limits-broken e law =
-          clash (all-keep blocks set prices count (λ j k c.
+          clash (all-keep blocks set prices prices count (λ j k c.
           let s = known .shown j k in
           let t = taken-passes _ (day .blocks) d (lawful-limits day d size (known .prices) (known .hours) law) j other
           (omega (arith, known .counted)) (bit-is j k ∙ eq-eqb _ 1 c) in
@@ -318,13 +329,13 @@ module _ (low gap first last blocks : List ℕ) (count set loss : ℕ) (places :
 
     module _ (prices : List ℕ) (priced : PricesOf low places prices) where
       -- a block misses its limit
-      pub decided-broken : allKeep blocks set prices count ≡ false → Decided low gap first last blocks count set loss places best best
+      pub decided-broken : allKeep blocks set prices prices count ≡ false → Decided low gap first last blocks count set loss places best best
       decided-broken k day p rest d known branch whole room =
           leaf-as-it-was day p rest d (λ law. absurd (limits-broken day p rest low gap first last blocks count known set loss places d branch whole
           (gapped .inRange e) prices priced k law))
 
       -- it is lawful and loses less
-      pub decided-better : allKeep blocks set prices count ≡ true → loss + sum < best .limit →
+      pub decided-better : allKeep blocks set prices prices count ≡ true → loss + sum < best .limit →
           Decided low gap first last blocks count set loss places best
           record { limit = loss + sum; set = set; day = record { prices = prices; quantities = places } }
       decided-better k less day p rest d known branch whole room =
@@ -451,66 +462,68 @@ set-room at set b k room e = rw e (omega (arith, bits-room at set room, pow-mono
 
 -- A BRANCH, one law for each way out
 module _ (low gap first last blocks : List ℕ) (count : ℕ) where
-  -- a lawful set's gaps by the table
+  -- a lawful set's places are in range
+  pub lawful-place : (day : Day) (p rest : ℕ → ℕ) → Known day p rest low gap first last blocks count → (s : List Bool) → length s ≡ count →
+      lawful day s ≡ true → (h : ℕ) → 1 ≤ h → h ≤ 24 → (ofHour first h ≤ place (day .blocks) s h) × (place (day .blocks) s h ≤ ofHour last h)
+  lawful-place day p rest known s size law h a b =
+      let n : length s ≡ length (day .blocks) = size ∙ sym (known .counted) in
+      let i = place (day .blocks) s h in
+      let f : i ≤ 1600 = omega (arith, place-is (day .blocks) s h n, taken-le (sells h) (day .blocks) s, known .fits h a b) in
+      known .clearsOnly h i a b f (lawful-clears day s n (known .prices) (known .hours) law h (counts (day .hours) h a b))
+
+  -- and its gaps by the table
   pub gap-of-lawful : (day : Day) (p rest : ℕ → ℕ) → Known day p rest low gap first last blocks count → (s : List Bool) → length s ≡ count →
       lawful day s ≡ true → (h : ℕ) → Counts (day .hours) h →
       slack (p h) (hourOf day (taken (day .blocks) s) h) ≡ cell gap h (place (day .blocks) s h) + rest h
   gap-of-lawful day p rest known s size law h c =
-      let n : length s ≡ length (day .blocks) = size ∙ sym (known .counted) in
-      let i = place (day .blocks) s h in
-      let f : i ≤ 1600 = omega (arith, place-is (day .blocks) s h n, taken-le (sells h) (day .blocks) s, known .fits h (c .first) (c .last)) in
-      let r = known .clearsOnly h i (c .first) (c .last) f (lawful-clears day s n (known .prices) (known .hours) law h c) in
-      slack-at-place day s n h (p h) ∙ known .gapIs h i (c .first) (c .last) (r .0) (r .1)
+      let r = lawful-place day p rest known s size law h (c .first) (c .last) in
+      slack-at-place day s (size ∙ sym (known .counted)) h (p h)
+      ∙ known .gapIs h (place (day .blocks) s h) (c .first) (c .last) (r .0) (r .1)
 
   -- what the tables leave off is no more
   pub rest-below : (day : Day) (p rest : ℕ → ℕ) → Known day p rest low gap first last blocks count → (s : List Bool) → length s ≡ count →
       lawful day s ≡ true → (h : ℕ) → Counts (day .hours) h → rest h ≤ slack (p h) (hourOf day (taken (day .blocks) s) h)
   rest-below day p rest known s size law h c = omega (arith, gap-of-lawful day p rest known s size law h c)
 
-  -- the decided blocks lose as much as the best already
-  pub explored-cut : (left : ℕ) (node : Node) (best : Best) → best .limit ≤ node .loss → ExploredFrom low gap first last blocks count left node best best
-  unfolding lossAbove
-  explored-cut left node best k day p rest d known branch size =
-      as-it-was day p rest count left d best (λ t l law.
-      omega (
-        arith,
-        branch .lossIs,
-        bound-with day p d t 0 rest (omega arith)
-            (rest-below day p rest known (d ++ t) (length-append d t ∙ rw l size) law),
-      ))
+  module _ (turn : List ℕ) where
+    -- the branch is dropped
+    pub explored-dropped : (left : ℕ) (node : Node) (best : Best) → DroppedFrom low gap first last turn blocks count left node (best .limit) →
+        ExploredFrom low gap first last turn blocks count left node best best
+    explored-dropped left node best dropped day p rest d known turning branch size =
+        as-it-was day p rest count left d best (λ t l law. dropped day p rest d t known turning branch size l law)
 
-  -- no block is left
-  pub explored-decided : (left : ℕ) (node : Node) (best r : Best) → left ≡ 0 → node .set < 2 ^ count →
-      Decided low gap first last blocks count (node .set) (node .loss) (node .places) best r →
-      ExploredFrom low gap first last blocks count left node best r
-  explored-decided left node best r e room f day p rest d known branch size =
-      rw e (f day p rest d known branch (omega arith) room)
+    -- no block is left
+    pub explored-decided : (left : ℕ) (node : Node) (best r : Best) → left ≡ 0 → node .set < 2 ^ count →
+        Decided low gap first last blocks count (node .set) (node .loss) (node .places) best r →
+        ExploredFrom low gap first last turn blocks count left node best r
+    explored-decided left node best r e room f day p rest d known turning branch size =
+        rw e (f day p rest d known branch (omega arith) room)
 
-  -- a block is taken and then left out
-  pub explored-both : (left : ℕ) (node taken-node left-node : Node) (best m r : Best) → 0 < left → left ≤ count →
-      node .set < 2 ^ (count - left) → TakenTo blocks (count - left) node taken-node → LeftTo blocks (count - left) node left-node →
-      ExploredFrom low gap first last blocks count (left - 1) taken-node best m →
-      ExploredFrom low gap first last blocks count (left - 1) left-node m r →
-      ExploredFrom low gap first last blocks count left node best r
-  explored-both left node nt nl best m r pos le room t l f g day p rest d known branch size =
-      let at : count - left ≡ length d = omega arith in
-      let k : length d < count = omega arith in
-      let room′ : node .set < 2 ^ length d = rw (← at) room in
-      let bt = branch-taken day p rest low gap first last blocks count known d node nt branch room′ k (rw at at t) in
-      let bl = branch-left day p rest low gap first last blocks count known d node nl branch room′ k (rw at at l) in
-      let a = f day p rest (d ++ (true ∷ [])) known bt (omega (arith, length-append d (true ∷ []))) in
-      let b = g day p rest (d ++ (false ∷ [])) known bl (omega (arith, length-append d (false ∷ []))) in
-      let one : suc (left - 1) ≡ left = omega arith in
-      let lower₁ : m .limit ≤ best .limit = a .explored .noMore in
-      let lower₂ : r .limit ≤ m .limit = b .explored .noMore in
-      record {
-        explored = rw one at (by-loss.joined day (lossAbove day p rest) (left - 1) d _ _ _ (a .explored) (b .explored));
-        same = λ e. b .same (omega arith) ∙ a .same (omega arith);
-        found = λ less. by-which less a b lower₂ (eq-or-lt-of-le lower₂);
-      }
-    where
-      by-which : {day : Day} {p rest : ℕ → ℕ} {dt dl : List Bool} → r .limit < best .limit →
-          Outcome day p rest count (left - 1) dt best m → Outcome day p rest count (left - 1) dl m r → r .limit ≤ m .limit →
-          (r .limit ≡ m .limit) ⊎ (r .limit < m .limit) → (r .set < 2 ^ count) × DayOf day (decisions count (r .set)) (r .day)
-      by-which less a b le (inl e) = rw (b .same e) (a .found (omega arith))
-      by-which less a b le (inr e) = b .found e
+    -- a block is taken and then left out
+    pub explored-both : (left : ℕ) (node taken-node left-node : Node) (best m r : Best) → 0 < left → left ≤ count →
+        node .set < 2 ^ (count - left) → TakenTo blocks (count - left) node taken-node → LeftTo blocks (count - left) node left-node →
+        ExploredFrom low gap first last turn blocks count (left - 1) taken-node best m →
+        ExploredFrom low gap first last turn blocks count (left - 1) left-node m r →
+        ExploredFrom low gap first last turn blocks count left node best r
+    explored-both left node nt nl best m r pos le room t l f g day p rest d known turning branch size =
+        let at : count - left ≡ length d = omega arith in
+        let k : length d < count = omega arith in
+        let room′ : node .set < 2 ^ length d = rw (← at) room in
+        let bt = branch-taken day p rest low gap first last blocks count known d node nt branch room′ k (rw at at t) in
+        let bl = branch-left day p rest low gap first last blocks count known d node nl branch room′ k (rw at at l) in
+        let a = f day p rest (d ++ (true ∷ [])) known turning bt (omega (arith, length-append d (true ∷ []))) in
+        let b = g day p rest (d ++ (false ∷ [])) known turning bl (omega (arith, length-append d (false ∷ []))) in
+        let one : suc (left - 1) ≡ left = omega arith in
+        let lower₁ : m .limit ≤ best .limit = a .explored .noMore in
+        let lower₂ : r .limit ≤ m .limit = b .explored .noMore in
+        record {
+          explored = rw one at (by-loss.joined day (lossAbove day p rest) (left - 1) d _ _ _ (a .explored) (b .explored));
+          same = λ e. b .same (omega arith) ∙ a .same (omega arith);
+          found = λ less. by-which less a b lower₂ (eq-or-lt-of-le lower₂);
+        }
+      where
+        by-which : {day : Day} {p rest : ℕ → ℕ} {dt dl : List Bool} → r .limit < best .limit →
+            Outcome day p rest count (left - 1) dt best m → Outcome day p rest count (left - 1) dl m r → r .limit ≤ m .limit →
+            (r .limit ≡ m .limit) ⊎ (r .limit < m .limit) → (r .set < 2 ^ count) × DayOf day (decisions count (r .set)) (r .day)
+        by-which less a b le (inl e) = rw (b .same e) (a .found (omega arith))
+        by-which less a b le (inr e) = b .found e

@@ -2,7 +2,7 @@
 use Prim.Native.Nat.{ℕ, zero, suc, _+_, _-_, _*_, _/_, _%_, _^_, _≤_, _<_}
 use mathlib.Core.Path.{_≡_, refl, sym, ap, _∙_}
 use mathlib.Core.List.{List}
-use mathlib.Core.Bool.{Bool, true, false, not, _&&_, _||_}
+use mathlib.Core.Bool.{Bool, true, false, cond, not, _&&_, _||_}
 use mathlib.Core.Logic.{_⊎_, inl, inr}
 use native.Mathlib.Omega.{arith}
 use native.Mathlib.Nat.{le-suc-iff}
@@ -19,7 +19,7 @@ use Rattle.book.proofs.Laws.{or-left, or-right}
 use Rattle.clearing.specs.Search.{Small, cell, ofHour, InRange, GapsOf, PricesOf, sideAt, hoursAt, limitAt, keepsAt, allKeep}
 
 -- what holds below h and at h holds below h + 1
-below-next : (P : ℕ → Type 0) (h k : ℕ) → (k < h → P k) → P h → k < suc h → P k
+pub below-next : (P : ℕ → Type 0) (h k : ℕ) → (k < h → P k) → P h → k < suc h → P k
 below-next P h k f p a = go (le-suc-iff .0 a)
   where
     go : (suc k ≤ h) ⊎ (suc k ≡ suc h) → P k
@@ -137,31 +137,34 @@ module _ (low places : List ℕ) where
           )
 
 -- LIMITS
-module _ (blocks : List ℕ) (chosen : ℕ) (prices : List ℕ) where
+module _ (blocks : List ℕ) (chosen : ℕ) (high low : List ℕ) where
+  abbrev pub keepsHere : ℕ → Bool
+  keepsHere i = keepsAt (sideAt blocks i) (hoursAt blocks i) (limitAt blocks i) (cond (eqb (sideAt blocks i) 0) low high)
+
   keep-more : (i : ℕ) → 0 < i →
-      allKeep blocks chosen prices i
-      ≡ ((not (eqb (chosen / 2 ^ (i - 1) % 2) 1) || keepsAt (sideAt blocks (i - 1)) (hoursAt blocks (i - 1)) (limitAt blocks (i - 1)) prices)
-      && allKeep blocks chosen prices (i - 1))
+      allKeep blocks chosen high low i ≡ ((not (eqb (chosen / 2 ^ (i - 1) % 2) 1) || keepsHere (i - 1)) && allKeep blocks chosen high low (i - 1))
   unfolding allKeep
   keep-more zero k = absurd (omega arith)
   keep-more (suc i) k = rw sub-one
 
-  pub keep-none : (i : ℕ) → i ≤ 0 → allKeep blocks chosen prices i ≡ true
+  pub keep-none : (i : ℕ) → i ≤ 0 → allKeep blocks chosen high low i ≡ true
   unfolding allKeep
   keep-none zero k = refl
   keep-none (suc i) k = absurd (omega arith)
 
   module _ (i : ℕ) (k : 0 < i) where
-    pub keep-fails : chosen / 2 ^ (i - 1) % 2 ≡ 1 → keepsAt (sideAt blocks (i - 1)) (hoursAt blocks (i - 1)) (limitAt blocks (i - 1)) prices ≡ false →
-        allKeep blocks chosen prices i ≡ false
+    pub keep-fails : chosen / 2 ^ (i - 1) % 2 ≡ 1 → keepsHere (i - 1) ≡ false → allKeep blocks chosen high low i ≡ false
     keep-fails c f = rw (keep-more i k, eq-eqb _ 1 c, f)
 
-    pub keep-passes : chosen / 2 ^ (i - 1) % 2 ≡ 1 → keepsAt (sideAt blocks (i - 1)) (hoursAt blocks (i - 1)) (limitAt blocks (i - 1)) prices ≡ true →
-        allKeep blocks chosen prices i ≡ allKeep blocks chosen prices (i - 1)
+    pub keep-passes : chosen / 2 ^ (i - 1) % 2 ≡ 1 → keepsHere (i - 1) ≡ true → allKeep blocks chosen high low i ≡ allKeep blocks chosen high low (i - 1)
     keep-passes c f = rw (keep-more i k, eq-eqb _ 1 c, f)
 
-    pub keep-skips : (chosen / 2 ^ (i - 1) % 2 ≡ 1 → ⊥) → allKeep blocks chosen prices i ≡ allKeep blocks chosen prices (i - 1)
+    pub keep-skips : (chosen / 2 ^ (i - 1) % 2 ≡ 1 → ⊥) → allKeep blocks chosen high low i ≡ allKeep blocks chosen high low (i - 1)
     keep-skips c = rw (keep-more i k, ne-eqb _ 1 c)
+
+pub either-small : (m : ℕ) (t : Bool) (a b : List ℕ) → Small m a → Small m b → Small m (cond t a b)
+either-small m true a b x y = x
+either-small m false a b x y = y
 
 -- places in range are small
 pub places-small : (first last places : List ℕ) → InRange first last places → Small 1600 last → length places ≡ 24 → Small 1600 places

@@ -8,6 +8,7 @@ pub mod PromiseLaws
 pub mod HourColumnLaws
 pub mod LeafLaws
 pub mod BranchLaws
+pub mod ReachLaws
 pub mod PassLaws
 pub mod SetupTableLaws
 pub mod SetupBlockLaws

@@ -18,7 +18,7 @@ use Rattle.rules.proofs.LossLaws.{losses, gaps, wholeOf, lossOf, losses-none, l
 use Rattle.rules.proofs.LossSearchLaws as by-loss
 use Rattle.rules.proofs.PlaceLaws.{place, place-none}
 use Rattle.clearing.specs.Search.{Small, cell, ofHour, InRange, gainAt}
-use Rattle.clearing.specs.Meaning.{Sized, Fits, Shown, Known, Branch, lossAbove, bestAs, DayOf, Outcome, ExploredFrom, FoundIn}
+use Rattle.clearing.specs.Meaning.{Sized, Fits, Shown, Known, Turning, Branch, lossAbove, bestAs, DayOf, Outcome, ExploredFrom, FoundIn}
 use Rattle.clearing.specs.declared.search.Best.{Best}
 use Rattle.clearing.specs.declared.search.Node.{Node}
 use Rattle.clearing.proofs.LeafLaws.{zeros}
@@ -84,9 +84,10 @@ module _ (low gap first last blocks : List ℕ) (count : ℕ) (few : count ≤ 3
       by-loss.adds-less day (lossOf day p) (lossAbove day p rest) _ (daySum (day .hours) rest) (by-loss.loss-adds day (known .prices) (known .hours) p)
       (λ set size law. omega (arith, bound-with day p [] set 0 rest (omega arith) (rest-below low gap first last blocks count day p rest known set (size ∙ known .counted) law)))
 
-  module _ (best r : Best) (pass : ExploredFrom low gap first last blocks count count root best r) where
+  module _ (turn : List ℕ) (turning : Turning gap first last turn) (best r : Best)
+      (pass : ExploredFrom low gap first last turn blocks count count root best r) where
     outcome-of : Outcome day p rest count count [] best r
-    outcome-of = pass day p rest [] known (root-branch day p) (omega arith)
+    outcome-of = pass day p rest [] known turning (root-branch day p) (omega arith)
 
     whole-pass : by-loss.Pass day (lossAbove day p rest) (bestAs count best) (bestAs count r)
     whole-pass =

@@ -30,11 +30,11 @@ use Rattle.rules.proofs.NeighbourLaws.{slack}
 use Rattle.rules.proofs.BoundLaws.{gain}
 use Rattle.rules.proofs.LossLaws.{against}
 use Rattle.rules.proofs.PlaceLaws.{hourAt}
-use Rattle.pricing.specs.Tables.{UnitPrices}
-use Rattle.pricing.proofs.LevelLaws.{table-in-range}
-use Rattle.pricing.proofs.GapLaws.{gap-table}
+use Rattle.pricing.specs.Tables.{UnitPrices, NotRising}
+use Rattle.pricing.proofs.LevelLaws.{table-in-range, table-not-rising}
+use Rattle.pricing.proofs.GapLaws.{gap-table, gap-falls, gap-rises}
 use Rattle.clearing.specs.Search.{Small, cell, ofHour, sumOfHours}
-use Rattle.clearing.specs.Meaning.{BlocksSized, Sized, Shown, Known}
+use Rattle.clearing.specs.Meaning.{BlocksSized, Sized, Shown, Known, Turning}
 use Rattle.clearing.specs.Setup.{
   StepsHeld,
   BlocksHeld,
@@ -205,9 +205,9 @@ module _ (b ends stepRecords sides prices quantities : List ℕ) (count : ℕ) (
     }
 
   -- THE HOURS
-  module _ (off root low gap first last columns : List ℕ) (lowSize : length low ≡ 38448) (offFits : Small 1600 off)
+  module _ (off root low gap first last turn columns : List ℕ) (lowSize : length low ≡ 38448) (offFits : Small 1600 off)
       (offIs : (h : ℕ) → 1 ≤ h → h ≤ 24 → getD off (h - 1) 0 ≡ boughtIn count blockSides hours blockQuantities h)
-      (rows : RowsAre sides prices quantities ends off low) (ranges : RangesAre sides prices quantities ends off root low gap first last)
+      (rows : RowsAre sides prices quantities ends off low) (ranges : RangesAre sides prices quantities ends off root low gap first last turn)
       (blocks : (j : ℕ) → j < count → Written blockSides hours blockPrices blockQuantities root columns j) where
     abbrev rootOf : ℕ → ℕ
     rootOf h = getD root (h - 1) 0
@@ -229,7 +229,7 @@ module _ (b ends stepRecords sides prices quantities : List ℕ) (count : ℕ) (
       abbrev offHere : ℕ
       offHere = getD off (h - 1) 0
 
-      range : RangedAt sides prices quantities ends off root low gap first last (h - 1)
+      range : RangedAt sides prices quantities ends off root low gap first last turn (h - 1)
       range = ranges (h - 1) inside
 
       unit-prices : UnitPrices steps offHere (rowOf low (h - 1))
@@ -254,6 +254,12 @@ module _ (b ends stepRecords sides prices quantities : List ℕ) (count : ℕ) (
       low-is i k =
           rw (← off-is) (sym (cell-is low i k) ∙ unit-prices i (omega (arith, row-length low (h - 1) lowSize inside)))
 
+      row-falls : NotRising (rowOf low (h - 1))
+      row-falls = table-not-rising steps offHere (rowOf low (h - 1)) unit-prices
+
+      row-inside : ofHour last h < length (rowOf low (h - 1))
+      row-inside = omega (arith, range .range .inside, row-length low (h - 1) lowSize inside)
+
       clears-at : (i : ℕ) → i ≤ 1600 → ofHour first h ≤ i → i ≤ ofHour last h → Clearable (hourAt (dayFrom b) h i)
       clears-at i k x y = rw (← off-is) (clearing-at i k .0 (x, y))
 
@@ -265,11 +271,11 @@ module _ (b ends stepRecords sides prices quantities : List ℕ) (count : ℕ) (
       ordered = range-holds (range .bought) (range .sold) offHere (ofHour first h) (ofHour last h) (range .range) (offFits (h - 1))
 
       gap-here : (i : ℕ) → ofHour first h ≤ i → i ≤ ofHour last h →
-          slack (rootOf h) (net steps i offHere) ≡ getD (rowOf gap (h - 1)) i 0 + slack (rootOf h) (net steps (range .best) offHere)
+          slack (rootOf h) (net steps i offHere) ≡ getD (rowOf gap (h - 1)) i 0 + slack (rootOf h) (net steps (ofHour turn h) offHere)
       gap-here =
           let o = ordered in
           let top = range .range .inside in
-          gap-table steps prices-here offHere (rowOf low (h - 1)) unit-prices (rootOf h) (ofHour first h) (ofHour last h) (range .best)
+          gap-table steps prices-here offHere (rowOf low (h - 1)) unit-prices (rootOf h) (ofHour first h) (ofHour last h) (ofHour turn h)
           (rowOf gap (h - 1)) (range .gaps) (omega (arith, row-length low (h - 1) lowSize inside))
           (clearing-at (ofHour first h) (omega arith) .0 (omega arith, omega arith))
           (clearing-at (ofHour last h) (omega arith) .0 (omega arith, omega arith))
@@ -300,6 +306,18 @@ module _ (b ends stepRecords sides prices quantities : List ℕ) (count : ℕ) (
       shown = λ j k. block-shown root columns j k (blocks j k);
     }
 
+    pub turning : Turning gap first last turn
+    turning = record {
+      falls = λ h i j from to x y z t.
+          let o = range h from to .range .inside in
+          let g = gap-falls _ _ _ _ _ _ (row-falls h from to) (row-inside h from to) (range h from to .gaps) i j x y z t in
+          rw (cell-is h from to gap i (omega arith), cell-is h from to gap j (omega arith)) at g;
+      rises = λ h i j from to x y z t.
+          let o = range h from to .range .inside in
+          let g = gap-rises _ _ _ _ _ _ (row-falls h from to) (row-inside h from to) (range h from to .gaps) i j x y z t in
+          rw (cell-is h from to gap i (omega arith), cell-is h from to gap j (omega arith)) at g;
+    }
+
 -- WHAT IS PREPARED
 pub set-up : (low gap first last columns : List ℕ) → length low ≡ 38448 → length gap ≡ 38448 → length first ≡ 24 → length last ≡ 24 →
     Small 1600 last → Small 300000 low → BlocksSized columns → Sized low gap first last columns
@@ -307,18 +325,20 @@ set-up low gap first last columns l g f t s m c =
     record { lowRows = l; gapRows = g; firstHours = f; lastHours = t; lastFits = s; lowFits = m; blocksFit = c }
 
 pub ready : (sides prices quantities ends : List ℕ) (count : ℕ) (records blockSides hours blockPrices blockQuantities : List ℕ)
-    (off root low gap first last columns : List ℕ) → length low ≡ 38448 → Small 1600 off →
+    (off root low gap first last turn columns : List ℕ) → length low ≡ 38448 → Small 1600 off →
     ((h : ℕ) → 1 ≤ h → h ≤ 24 → getD off (h - 1) 0 ≡ boughtIn count blockSides hours blockQuantities h) →
-    RowsAre sides prices quantities ends off low → RangesAre sides prices quantities ends off root low gap first last →
+    RowsAre sides prices quantities ends off low → RangesAre sides prices quantities ends off root low gap first last turn →
     ((j : ℕ) → j < count → Written blockSides hours blockPrices blockQuantities root columns j) →
-    ReadyFor sides prices quantities ends count records blockSides hours blockPrices blockQuantities low gap first last columns
-ready sides prices quantities ends count records blockSides hours blockPrices blockQuantities off root low gap first last columns l s o rows ranges w
-    b stepRecords a sc bc =
+    ReadyFor sides prices quantities ends count records blockSides hours blockPrices blockQuantities low gap first last turn columns
+ready sides prices quantities ends count records blockSides hours blockPrices blockQuantities off root low gap first last turn columns l s o rows
+    ranges w b stepRecords a sc bc =
     record {
       p = _;
       rest = _;
       known = known b ends stepRecords sides prices quantities count records blockSides hours blockPrices blockQuantities a sc bc off root low gap
-          first last columns l s o rows ranges w;
+          first last turn columns l s o rows ranges w;
+      turning = turning b ends stepRecords sides prices quantities count records blockSides hours blockPrices blockQuantities a sc bc off root low gap
+          first last turn columns l s o rows ranges w;
     }
 
 -- WHAT SAFETY ASKS holds of an accepted book's columns, where the steps' are arrays of 2,048

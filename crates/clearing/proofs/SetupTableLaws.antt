@@ -159,56 +159,67 @@ module _ (sides prices quantities : List ℕ) (off price : ℕ) (row : List ℕ)
         table-not-rising l off row (table 0),
       )
 
-  pub hour-ranged : (buys sells first last best : ℕ) (gap : List ℕ) → AllOf sides prices quantities buys sells →
-      ClearRange buys sells off 1600 first last → GapTable row price first last best gap →
-      ((first ≤ 1600) × (last ≤ 1600)) × Ranged sides prices quantities off price first last row gap
-  hour-ranged buys sells first last best gap a r g = (
-    (omega (arith, range-holds buys sells off first last r small), r .inside),
-    record { bought = buys; sold = sells; best = best; all = a; range = r; gaps = g },
+  pub hour-ranged : (buys sells first last turn : ℕ) (gap : List ℕ) → AllOf sides prices quantities buys sells →
+      ClearRange buys sells off 1600 first last → GapTable row price first last turn gap →
+      ((first ≤ 1600) × (last ≤ 1600) × (turn ≤ 1600)) × Ranged sides prices quantities off price first last turn row gap
+  hour-ranged buys sells first last turn gap a r g = (
+    (omega (arith, range-holds buys sells off first last r small), r .inside, omega (arith, g .to, r .inside)),
+    record { bought = buys; sold = sells; all = a; range = r; gaps = g },
   )
 
 -- THE RANGES AND THE GAP TABLES
 module _ (sides prices quantities ends off root low : List ℕ) where
-  pub record RangesTo (gap first last : List ℕ) (h : ℕ) : Type 0 where
+  pub record RangesTo (gap first last turn : List ℕ) (h : ℕ) : Type 0 where
     pub inside : h ≤ 24
     pub size : length gap ≡ 38448
     pub firstSize : length first ≡ 24
     pub lastSize : length last ≡ 24
+    pub turnSize : length turn ≡ 24
     pub small : (j : ℕ) → getD last j 0 ≤ 1600
-    pub done : (j : ℕ) → j < h → RangedAt sides prices quantities ends off root low gap first last j
+    pub done : (j : ℕ) → j < h → RangedAt sides prices quantities ends off root low gap first last turn j
 
-  pub ranges-start : (gap : List ℕ) → length gap ≡ 38448 → RangesTo gap (replicate 24 0) (replicate 24 0) 0
+  pub ranges-start : (gap : List ℕ) → length gap ≡ 38448 → RangesTo gap (replicate 24 0) (replicate 24 0) (replicate 24 0) 0
   ranges-start gap e = record {
     inside = omega arith;
     size = e;
     firstSize = refl;
     lastSize = refl;
+    turnSize = refl;
     small = λ j. omega (arith, zeros 24 j);
     done = λ j a. absurd (omega arith);
   }
 
-  pub ranges-next : (gap first last row : List ℕ) (h k f l : ℕ) → RangesTo gap first last h → h < 24 → length row ≡ 1602 → k ≡ 1602 → l ≤ 1600 →
-      Ranged (partOf ends h sides) (partOf ends h prices) (partOf ends h quantities) (getD off h 0) (getD root h 0) f l (rowOf low h) row →
-      RangesTo (putMid (h * 1602) k gap row) (set first h f) (set last h l) (h + 1)
-  ranges-next gap first last row h k f l r a full wide small t =
+  pub ranges-next : (gap first last turn row : List ℕ) (h k f l m : ℕ) → RangesTo gap first last turn h → h < 24 → length row ≡ 1602 → k ≡ 1602 → l ≤ 1600 →
+      Ranged (partOf ends h sides) (partOf ends h prices) (partOf ends h quantities) (getD off h 0) (getD root h 0) f l m (rowOf low h) row →
+      RangesTo (putMid (h * 1602) k gap row) (set first h f) (set last h l) (set turn h m) (h + 1)
+  ranges-next gap first last turn row h k f l m r a full wide small t =
       let inF : h < length first = omega (arith, r .firstSize) in
       let inL : h < length last = omega (arith, r .lastSize) in
+      let inT : h < length turn = omega (arith, r .turnSize) in
       let new = putMid (h * 1602) k gap row in
       record {
         inside = omega arith;
         size = put-size gap row h k (r .size) a full wide;
         firstSize = rw length-set (r .firstSize);
         lastSize = rw length-set (r .lastSize);
+        turnSize = rw length-set (r .turnSize);
         small = set-small 1600 last h l inL small (r .small);
-        done = λ j b. below-next (RangedAt sides prices quantities ends off root low new (set first h f) (set last h l)) h j
+        done = λ j b. below-next (RangedAt sides prices quantities ends off root low new (set first h f) (set last h l) (set turn h m)) h j
             (λ c. rw (
               row-before gap row h k (r .size) a full wide j c,
               getD-set-other first h j f 0 (λ e. omega arith),
               getD-set-other last h j l 0 (λ e. omega arith),
+              getD-set-other turn h j m 0 (λ e. omega arith),
             ) (r .done j c))
-            (rw (row-put gap row h k (r .size) a full wide, getD-set-same first h f 0 inF, getD-set-same last h l 0 inL) t) b;
+            (rw (
+              row-put gap row h k (r .size) a full wide,
+              getD-set-same first h f 0 inF,
+              getD-set-same last h l 0 inL,
+              getD-set-same turn h m 0 inT,
+            ) t) b;
       }
 
-  pub ranges-all : (gap first last : List ℕ) (h : ℕ) → RangesTo gap first last h → 24 ≤ h →
-      ((length first ≡ 24) × (length last ≡ 24) × Small 1600 last) × RangesAre sides prices quantities ends off root low gap first last
-  ranges-all gap first last h r k = ((r .firstSize, r .lastSize, r .small), λ j a. r .done j (omega arith))
+  pub ranges-all : (gap first last turn : List ℕ) (h : ℕ) → RangesTo gap first last turn h → 24 ≤ h →
+      ((length first ≡ 24) × (length last ≡ 24) × (length turn ≡ 24) × Small 1600 last)
+      × RangesAre sides prices quantities ends off root low gap first last turn
+  ranges-all gap first last turn h r k = ((r .firstSize, r .lastSize, r .turnSize, r .small), λ j a. r .done j (omega arith))

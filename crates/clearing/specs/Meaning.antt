@@ -1,14 +1,14 @@
 -- WHAT THE SEARCH MEANS: the day behind its tables, the branch behind its state, and what it promises of the best it gives back. These are the
 -- contracts of private functions; the promise of the clearing itself is in Promise. Definitions only. Assumes nothing.
 use Prim.Native.Nat.{ℕ, suc, _+_, _-_, _*_, _^_, _≤_, _<_}
-use mathlib.Core.Bool.{Bool}
-use mathlib.Core.List.{List, _∷_}
+use mathlib.Core.Bool.{Bool, true}
+use mathlib.Core.List.{List, _∷_, _++_}
 use mathlib.Core.Path.{_≡_}
 use lib.ListN.{length, drop, getD}
 use Rattle.book.specs.Records.{holdsHour}
 use Rattle.orders.specs.Columns.{sideFor}
 use Rattle.rules.specs.Orders.{Block}
-use Rattle.rules.specs.Day.{Day, daySum, taken, decisions, overBlocks, sells, buys, stepsIn, setPrices, hourCount}
+use Rattle.rules.specs.Day.{Day, daySum, taken, decisions, overBlocks, sells, buys, stepsIn, setPrices, hourCount, lawful}
 use Rattle.rules.specs.Outcome.{outcome}
 use Rattle.rules.specs.Contender.{PricesInRange, HoursInRange}
 use Rattle.rules.proofs.PricingLaws.{Clearable, net}
@@ -73,6 +73,11 @@ pub record Known (day : Day) (p rest : ℕ → ℕ) (low gap first last blocks :
   pub gapIs : (h i : ℕ) → 1 ≤ h → h ≤ 24 → ofHour first h ≤ i → i ≤ ofHour last h → slack (p h) (hourAt day h i) ≡ cell gap h i + rest h
   pub shown : (j : ℕ) → j < count → Shown day p blocks j
 
+-- Each hour's gaps fall to the place where they turn, and rise from it.
+pub record Turning (gap first last turn : List ℕ) : Type 0 where
+  pub falls : (h i j : ℕ) → 1 ≤ h → h ≤ 24 → ofHour first h ≤ i → i ≤ j → j ≤ ofHour last h → j ≤ ofHour turn h → cell gap h j ≤ cell gap h i
+  pub rises : (h i j : ℕ) → 1 ≤ h → h ≤ 24 → ofHour first h ≤ i → i ≤ j → j ≤ ofHour last h → ofHour turn h ≤ i → cell gap h i ≤ cell gap h j
+
 -- THE BRANCH of the decided blocks d
 pub record Branch (day : Day) (p : ℕ → ℕ) (d : List Bool) (set loss : ℕ) (places : List ℕ) : Type 0 where
   pub setIs : decisions (length d) set ≡ d
@@ -103,10 +108,18 @@ Decided low gap first last blocks count set loss places best r =
     (day : _) (p rest : ℕ → ℕ) (d : List Bool) → Known day p rest low gap first last blocks count → Branch day p d set loss places →
     length d ≡ count → set < 2 ^ count → Outcome day p rest count 0 d best r
 
-abbrev pub ExploredFrom : (low gap first last blocks : List ℕ) (count left : ℕ) (node : Node) (best r : Best) → Type 0
-ExploredFrom low gap first last blocks count left node best r =
+abbrev pub ExploredFrom : (low gap first last turn blocks : List ℕ) (count left : ℕ) (node : Node) (best r : Best) → Type 0
+ExploredFrom low gap first last turn blocks count left node best r =
     (day : _) (p rest : ℕ → ℕ) (d : List Bool) → Known day p rest low gap first last blocks count →
-    Branch day p d (node .set) (node .loss) (node .places) → length d + left ≡ count → Outcome day p rest count left d best r
+    Turning gap first last turn → Branch day p d (node .set) (node .loss) (node .places) → length d + left ≡ count →
+    Outcome day p rest count left d best r
+
+-- A BRANCH TO DROP: no lawful completion loses less than the limit.
+abbrev pub DroppedFrom : (low gap first last turn blocks : List ℕ) (count left : ℕ) (node : Node) (limit : ℕ) → Type 0
+DroppedFrom low gap first last turn blocks count left node limit =
+    (day : _) (p rest : ℕ → ℕ) (d t : List Bool) → Known day p rest low gap first last blocks count →
+    Turning gap first last turn → Branch day p d (node .set) (node .loss) (node .places) → length d + left ≡ count →
+    length t ≡ left → lawful day (d ++ t) ≡ true → limit ≤ lossAbove day p rest (d ++ t)
 
 -- ONE MORE BLOCK decided: the set, the loss, and the places moved on by what a sell sells if taken, a buy buys if left out
 pub record TakenTo (blocks : List ℕ) (at : ℕ) (node r : Node) : Type 0 where
@@ -122,7 +135,7 @@ pub record LeftTo (blocks : List ℕ) (at : ℕ) (node r : Node) : Type 0 where
       ofHour (r .places) h ≡ ofHour (node .places) h + when (holdsHour (hoursAt blocks at) h) (bySide (sideFor (sideAt blocks at)) (quantityAt blocks at) 0)
 
 -- THE PUBLISHED SET, with its day
-abbrev pub FoundIn : (low gap first last blocks : List ℕ) (count : ℕ) (r : Best) → Type 0
-FoundIn low gap first last blocks count r =
-    (day : _) (p rest : ℕ → ℕ) → Known day p rest low gap first last blocks count →
+abbrev pub FoundIn : (low gap first last turn blocks : List ℕ) (count : ℕ) (r : Best) → Type 0
+FoundIn low gap first last turn blocks count r =
+    (day : _) (p rest : ℕ → ℕ) → Known day p rest low gap first last blocks count → Turning gap first last turn →
     (decisions count (r .set) ≡ outcome day) × (r .set < 2 ^ count) × DayOf day (outcome day) (r .day)

@@ -1,13 +1,13 @@
 -- What the search works on, and what it gives back. Definitions only. Assumes nothing.
 use Prim.Native.Nat.{ℕ, zero, suc, _+_, _-_, _*_, _/_, _%_, _^_, _≤_, _<_}
-use mathlib.Core.Bool.{Bool, true, false, not, _&&_, _||_}
+use mathlib.Core.Bool.{Bool, true, false, cond, not, _&&_, _||_}
 use mathlib.Core.List.{List, [], _∷_}
 use mathlib.Core.Path.{_≡_}
 use lib.Dec.{eqb, leb}
 use lib.ListN.{length, getD}
 use Rattle.rules.specs.Execution.{testSide}
 use Rattle.orders.specs.Columns.{sideFor}
-use Rattle.rules.specs.Hour.{when}
+use Rattle.rules.specs.Hour.{bySide, when}
 use Rattle.rules.specs.Day.{sumTo}
 use Rattle.book.specs.Records.{holdsHour}
 
@@ -67,8 +67,55 @@ gainAt blocks i = getD blocks (160 + i) 0
 unfoldable pub keepsAt : ℕ → ℕ → ℕ → List ℕ → Bool
 keepsAt side hours limit prices = testSide (sideFor side) (leb (sumOfHours prices hours) limit) (leb limit (sumOfHours prices hours))
 
--- Each of the first n blocks that a set of bits holds keeps its limit.
-unfoldable pub allKeep : List ℕ → ℕ → List ℕ → ℕ → Bool
-allKeep blocks set prices zero = true
-allKeep blocks set prices (suc i) =
-    (not (eqb (set / 2 ^ i % 2) 1) || keepsAt (sideAt blocks i) (hoursAt blocks i) (limitAt blocks i) prices) && allKeep blocks set prices i
+-- Each of the first n blocks that a set of bits holds keeps its limit, a buy at the low prices, a sell at the high ones.
+unfoldable pub allKeep : (blocks : List ℕ) (set : ℕ) (high low : List ℕ) → ℕ → Bool
+allKeep blocks set high low zero = true
+allKeep blocks set high low (suc i) =
+    (not (eqb (set / 2 ^ i % 2) 1)
+    || keepsAt (sideAt blocks i) (hoursAt blocks i) (limitAt blocks i) (cond (eqb (sideAt blocks i) 0) low high))
+    && allKeep blocks set high low i
+
+-- THE REACH: the places that a branch can still come to, hour by hour. With so much lost, a decision that loses up to the limit is not made.
+-- What block i must add to the places of its hours: as a buy that is left out for certain, as a sell that is taken for certain.
+unfoldable pub mustAdd : (blocks : List ℕ) (loss limit i : ℕ) → ℕ
+mustAdd blocks loss limit i =
+    cond (leb limit (loss + againstAt blocks i)) (bySide (sideFor (sideAt blocks i)) (quantityAt blocks i) 0)
+    (cond (leb limit (loss + gainAt blocks i)) (bySide (sideFor (sideAt blocks i)) 0 (quantityAt blocks i)) 0)
+
+-- What it may add: its quantity where neither is certain.
+unfoldable pub mayAdd : (blocks : List ℕ) (loss limit i : ℕ) → ℕ
+mayAdd blocks loss limit i =
+    cond (leb limit (loss + againstAt blocks i)) 0 (cond (leb limit (loss + gainAt blocks i)) 0 (quantityAt blocks i))
+
+-- The sum over the next n blocks from number i on of what each adds in hour h.
+unfoldable pub addedIn : (blocks : List ℕ) → (ℕ → ℕ) → ℕ → ℕ → ℕ → ℕ
+addedIn blocks add h zero i = 0
+addedIn blocks add h (suc n) i = when (holdsHour (hoursAt blocks i) h) (add i) + addedIn blocks add h n (suc i)
+
+-- The least places of the hours, and what the blocks from number j on are free to add.
+pub record RestOf (blocks : List ℕ) (count j loss limit : ℕ) (places least free : List ℕ) : Type 0 where
+  pub leastIs : (h : ℕ) → 1 ≤ h → h ≤ 24 → ofHour least h ≡ ofHour places h + addedIn blocks (mustAdd blocks loss limit) h (count - j) j
+  pub freeIs : (h : ℕ) → 1 ≤ h → h ≤ 24 → ofHour free h ≡ addedIn blocks (mayAdd blocks loss limit) h (count - j) j
+  pub leastFits : Small 1600000 least
+  pub freeFits : Small 1600000 free
+
+-- The larger and the smaller of two numbers; the number from a to b that is nearest to n.
+unfoldable pub larger : ℕ → ℕ → ℕ
+larger a b = cond (leb a b) b a
+
+unfoldable pub smaller : ℕ → ℕ → ℕ
+smaller a b = cond (leb a b) a b
+
+abbrev pub nearest : ℕ → ℕ → ℕ → ℕ
+nearest n a b = smaller (larger n a) b
+
+-- From its least place, with so much free to add, an hour reaches the places from..to at which it clears; it can balance where there are any.
+pub record ReachOf (first last least free : List ℕ) (balances : Bool) (from to : List ℕ) : Type 0 where
+  pub fromIs : (h : ℕ) → 1 ≤ h → h ≤ 24 → ofHour from h ≡ larger (ofHour least h) (ofHour first h)
+  pub toIs : (h : ℕ) → 1 ≤ h → h ≤ 24 → ofHour to h ≡ smaller (ofHour least h + ofHour free h) (ofHour last h)
+  pub balanced : balances ≡ true → (h : ℕ) → 1 ≤ h → h ≤ 24 → ofHour from h ≤ ofHour to h
+  pub unbalanced : balances ≡ false → ((h : ℕ) → 1 ≤ h → h ≤ 24 → ofHour from h ≤ ofHour to h) → ⊥
+
+-- The sum of the hours' gaps at the places from `from` to `to` that are nearest to where the gaps turn.
+unfoldable pub leastGaps : (gap turn from to : List ℕ) → ℕ
+leastGaps gap turn from to = sumTo 24 (λ h. cell gap h (nearest (ofHour turn h) (ofHour from h) (ofHour to h)))

@@ -10,7 +10,7 @@ use Rattle.orders.specs.Columns.{StepColumns, BlockColumns, sideFor}
 use Rattle.rules.specs.Hour.{bySide, when}
 use Rattle.pricing.specs.Tables.{PriceTable, AllOf, ClearRange, GapTable}
 use Rattle.clearing.specs.Search.{Small, sideAt, hoursAt, quantityAt, limitAt, againstAt, gainAt, sumOfHours}
-use Rattle.clearing.specs.Meaning.{Known}
+use Rattle.clearing.specs.Meaning.{Known, Turning}
 
 -- WHAT SAFETY ASKS of the columns
 -- The steps' columns have one length, at most 2,048; the hours' ends rise and stay within it.
@@ -58,27 +58,26 @@ RowIs sides prices quantities ends off low h =
 abbrev pub RowsAre : (sides prices quantities ends off low : List ℕ) → Type 0
 RowsAre sides prices quantities ends off low = (h : ℕ) → h < 24 → RowIs sides prices quantities ends off low h
 
--- The places at which an hour clears, and its gaps there at a price.
-pub record Ranged (sides prices quantities : List ℕ) (off price first last : ℕ) (low gap : List ℕ) : Type 0 where
+-- The places at which an hour clears, and its gaps there at a price, the least at turn.
+pub record Ranged (sides prices quantities : List ℕ) (off price first last turn : ℕ) (low gap : List ℕ) : Type 0 where
   pub bought : ℕ
   pub sold : ℕ
-  pub best : ℕ
   pub all : AllOf sides prices quantities bought sold
   pub range : ClearRange bought sold off 1600 first last
-  pub gaps : GapTable low price first last best gap
+  pub gaps : GapTable low price first last turn gap
 
-abbrev pub RangedOf : (sides prices quantities : List ℕ) (a e off price first last : ℕ) (low gap : List ℕ) → Type 0
-RangedOf sides prices quantities a e off price first last low gap =
-    Ranged (between a e sides) (between a e prices) (between a e quantities) off price first last low gap
+abbrev pub RangedOf : (sides prices quantities : List ℕ) (a e off price first last turn : ℕ) (low gap : List ℕ) → Type 0
+RangedOf sides prices quantities a e off price first last turn low gap =
+    Ranged (between a e sides) (between a e prices) (between a e quantities) off price first last turn low gap
 
-abbrev pub RangedAt : (sides prices quantities ends off root low gap first last : List ℕ) → ℕ → Type 0
-RangedAt sides prices quantities ends off root low gap first last h =
+abbrev pub RangedAt : (sides prices quantities ends off root low gap first last turn : List ℕ) → ℕ → Type 0
+RangedAt sides prices quantities ends off root low gap first last turn h =
     Ranged (partOf ends h sides) (partOf ends h prices) (partOf ends h quantities) (getD off h 0) (getD root h 0) (getD first h 0) (getD last h 0)
-    (rowOf low h) (rowOf gap h)
+    (getD turn h 0) (rowOf low h) (rowOf gap h)
 
-abbrev pub RangesAre : (sides prices quantities ends off root low gap first last : List ℕ) → Type 0
-RangesAre sides prices quantities ends off root low gap first last =
-    (h : ℕ) → h < 24 → RangedAt sides prices quantities ends off root low gap first last h
+abbrev pub RangesAre : (sides prices quantities ends off root low gap first last turn : List ℕ) → Type 0
+RangesAre sides prices quantities ends off root low gap first last turn =
+    (h : ℕ) → h < 24 → RangedAt sides prices quantities ends off root low gap first last turn h
 
 -- THE BLOCKS
 -- The sum of a number of each of the first n places.
@@ -112,13 +111,14 @@ pub record Written (sides hours prices quantities root columns : List ℕ) (i : 
       (sumOfHours root (getD hours i 0) - getD prices i 0 * hourCount 24 (getD hours i 0))
 
 -- WHAT IS READY: the day of an accepted book behind the tables, at some prices.
-pub record Ready (b low gap first last columns : List ℕ) (count : ℕ) : Type 0 where
+pub record Ready (b low gap first last turn columns : List ℕ) (count : ℕ) : Type 0 where
   pub p : ℕ → ℕ
   pub rest : ℕ → ℕ
   pub known : Known (dayFrom b) p rest low gap first last columns count
+  pub turning : Turning gap first last turn
 
 abbrev pub ReadyFor : (sides prices quantities ends : List ℕ) (count : ℕ) (records blockSides hours blockPrices blockQuantities : List ℕ)
-    (low gap first last columns : List ℕ) → Type 0
-ReadyFor sides prices quantities ends count records blockSides hours blockPrices blockQuantities low gap first last columns =
+    (low gap first last turn columns : List ℕ) → Type 0
+ReadyFor sides prices quantities ends count records blockSides hours blockPrices blockQuantities low gap first last turn columns =
     (b stepRecords : List ℕ) → Accepted b → StepColumns b ends stepRecords sides prices quantities →
-    BlockColumns b count records blockSides hours blockPrices blockQuantities → Ready b low gap first last columns count
+    BlockColumns b count records blockSides hours blockPrices blockQuantities → Ready b low gap first last turn columns count

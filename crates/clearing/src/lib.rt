@@ -52,8 +52,17 @@ fn clear_accepted(book: &[u8], result: &mut [u8])
     );
     let first = prepared.first;
     let last = prepared.last;
+    let turn = prepared.turn;
     let columns = prepared.columns;
-    let best = find(&low, &gap, &first, &last, &columns, blocks.count as u32);
+    let best = find(
+        &low,
+        &gap,
+        &first,
+        &last,
+        &turn,
+        &columns,
+        blocks.count as u32,
+    );
     publish(
         count,
         &sides,

@@ -3,11 +3,13 @@
 ghost use mathlib.Core.Path.{_≡_};
 ghost use Prim.Native.Nat.{ℕ, _+_, _-_, _*_, _^_, _≤_, _<_};
 ghost use lib.ListN.{length, getD};
-ghost use Rattle.rules.specs.Hour.{when};
+ghost use Rattle.rules.specs.Hour.{bySide, when};
+ghost use Rattle.orders.specs.Columns.{sideFor};
 ghost use Rattle.book.specs.Records.{holdsHour};
-ghost use mathlib.Core.Bool.{cond};
-ghost use Rattle.clearing.specs.Search.{Small, sumOfHours, GapsOf, PricesOf, keepsAt, allKeep};
-ghost use Rattle.clearing.specs.Meaning.{BlocksSized, Sized, Fits, Decided, TakenTo, LeftTo, ExploredFrom, FoundIn};
+ghost use mathlib.Core.Bool.{false, cond};
+ghost use Rattle.clearing.specs.Search.{Small, sumOfHours, ofHour, GapsOf, PricesOf, keepsAt, allKeep, mustAdd, mayAdd, RestOf, ReachOf, leastGaps};
+ghost use Rattle.clearing.specs.Search as numbers;
+ghost use Rattle.clearing.specs.Meaning.{BlocksSized, Sized, Fits, Decided, TakenTo, LeftTo, DroppedFrom, ExploredFrom, FoundIn};
 
 // The price of each hour, and the quantity at which its blocks stand (its place).
 pub struct Day {
@@ -119,29 +121,30 @@ pub fn keeps_limit(side: u32, hours: u32, limit: u32, prices: [u32; 24]) -> bool
     }
 }
 
-// Whether each of the first count blocks that the set holds keeps its limit at the prices.
-fn keeps_limits(blocks: &[u32], count: usize, set: u32, prices: [u32; 24]) -> bool
-    requires { ⌜ (length (now blocks) ≡ 192) × (count ≤ 32) × Small 300000 prices ⌝ }
-    ensures { λ r. ⌜ r ≡ allKeep (now (blocks .entry)) set prices count ⌝ }
+// The first list where the test passes, else the second.
+fn pick(test: bool, a: [u32; 24], b: [u32; 24]) -> [u32; 24]
+    ensures { λ r. ⌜ r ≡ cond test a b ⌝ }
+{
+    if test { a } else { b }
+}
+
+// Whether each of the first count blocks that the set holds keeps its limit: a buy at the low prices, a sell at the high ones.
+fn keeps_limits(blocks: &[u32], count: usize, set: u32, high: [u32; 24], low: [u32; 24]) -> bool
+    requires { ⌜ (length (now blocks) ≡ 192) × (count ≤ 32) × Small 300000 high × Small 300000 low ⌝ }
+    ensures { λ r. ⌜ r ≡ allKeep (now (blocks .entry)) set high low count ⌝ }
 {
     let mut i = count;
     while 0 < i {
         i -= 1;
         let chosen = (set >> (i as u32)) % 2;
         if chosen == 1 {
+            let prices = pick(blocks[i] == 0, low, high);
             if !keeps_limit(blocks[i], blocks[32 + i], blocks[96 + i], prices) {
                 return false;
             }
         }
     }
     true
-}
-
-// The first list where the test passes, else the second.
-fn pick(test: bool, a: [u32; 24], b: [u32; 24]) -> [u32; 24]
-    ensures { λ r. ⌜ r ≡ cond test a b ⌝ }
-{
-    if test { a } else { b }
 }
 
 // All blocks are decided: the set becomes the best where it is lawful and loses less.
@@ -169,7 +172,7 @@ fn decide(
         return best;
     }
     let prices = prices_at(low, places);
-    if !keeps_limits(blocks, count as usize, set, prices) {
+    if !keeps_limits(blocks, count as usize, set, prices, prices) {
         return best;
     }
     let day = Day {
@@ -222,22 +225,198 @@ fn leave(blocks: &[u32], at: u32, node: Node) -> Node
     }
 }
 
+// The larger of two numbers.
+fn larger(a: u32, b: u32) -> u32
+    ensures { λ r. ⌜ r ≡ numbers.larger a b ⌝ }
+{
+    if a <= b { b } else { a }
+}
+
+// The smaller of two numbers.
+fn smaller(a: u32, b: u32) -> u32
+    ensures { λ r. ⌜ r ≡ numbers.smaller a b ⌝ }
+{
+    if a <= b { a } else { b }
+}
+
+// The first number for a buy, the second for a sell.
+fn for_side(side: u32, a: u32, b: u32) -> u32
+    ensures { λ r. ⌜ r ≡ bySide (sideFor side) a b ⌝ }
+{
+    if side == 0 { a } else { b }
+}
+
+// What an undecided block must add to the places of its hours, and what it may.
+pub struct Adds {
+    pub must: u32,
+    pub may: u32,
+}
+
+fn adds_of(blocks: &[u32], i: usize, loss: u64, limit: u64) -> Adds
+    requires { ⌜ BlocksSized (now blocks) × (i < 32) × (loss ≤ 32 * 2 ^ 32) ⌝ }
+    ensures { λ r. ⌜ (r .must ≡ mustAdd (now (blocks .entry)) loss limit i) × (r .may ≡ mayAdd (now (blocks .entry)) loss limit i) ⌝ }
+{
+    let side = blocks[i];
+    let quantity = blocks[64 + i];
+    if limit <= loss + (blocks[128 + i] as u64) {
+        return Adds {
+            must: for_side(side, quantity, 0),
+            may: 0,
+        };
+    }
+    if limit <= loss + (blocks[160 + i] as u64) {
+        return Adds {
+            must: for_side(side, 0, quantity),
+            may: 0,
+        };
+    }
+    Adds {
+        must: 0,
+        may: quantity,
+    }
+}
+
+// The least place of each hour, and what its undecided blocks are free to add.
+pub struct Rest {
+    pub least: [u32; 24],
+    pub free: [u32; 24],
+}
+
+// The undecided blocks, from number at on, added to the places.
+fn rest_of(
+    blocks: &[u32],
+    count: usize,
+    at: usize,
+    loss: u64,
+    limit: u64,
+    places: [u32; 24],
+) -> Rest
+    requires { ⌜ BlocksSized (now blocks) × (count ≤ 32) × (at ≤ count) × (loss ≤ 32 * 2 ^ 32) × Small (at * 50000) places ⌝ }
+    ensures { λ r. ⌜ RestOf (now (blocks .entry)) count at loss limit places (r .least) (r .free) ⌝ }
+{
+    let mut least = places;
+    let mut free = [0; 24];
+    let mut i = count;
+    while at < i {
+        i -= 1;
+        let adds = adds_of(blocks, i, loss, limit);
+        let more = moved(least, blocks[32 + i], adds.must);
+        let freer = moved(free, blocks[32 + i], adds.may);
+        least = more;
+        free = freer;
+    }
+    Rest { least, free }
+}
+
+// The places that a branch can still reach and at which its hours clear, from and to; an hour that has none can no longer balance.
+pub struct Reach {
+    pub balances: bool,
+    pub from: [u32; 24],
+    pub to: [u32; 24],
+}
+
+fn reach_of(first: &[u32], last: &[u32], least: [u32; 24], free: [u32; 24]) -> Reach
+    requires { ⌜ (length (now first) ≡ 24) × (length (now last) ≡ 24) × Small 1600000 least × Small 1600000 free ⌝ }
+    ensures { λ r. ⌜ ReachOf (now (first .entry)) (now (last .entry)) least free (r .balances) (r .from) (r .to) ⌝ }
+{
+    let mut balances = true;
+    let mut from = [0; 24];
+    let mut to = [0; 24];
+    let mut h: usize = 0;
+    while h < 24 {
+        let lowest = larger(least[h], first[h]);
+        let highest = smaller(least[h] + free[h], last[h]);
+        from[h] = lowest;
+        to[h] = highest;
+        balances = balances & (lowest <= highest);
+        h += 1;
+    }
+    Reach { balances, from, to }
+}
+
+// The sum of the hours' least gaps over the places from `from` to `to`.
+fn least_gaps(gap: &[u32], turn: &[u32], from: [u32; 24], to: [u32; 24]) -> u64
+    requires { ⌜ (length (now gap) ≡ 38448) × (length (now turn) ≡ 24) × ((h : ℕ) → h < 24 → getD to h 0 ≤ 1600) ⌝ }
+    ensures { λ r. ⌜ (r ≡ leastGaps (now (gap .entry)) (now (turn .entry)) from to) × (r ≤ 24 * 2 ^ 32) ⌝ }
+{
+    let mut sum: u64 = 0;
+    let mut h: usize = 0;
+    while h < 24 {
+        let place = smaller(larger(turn[h], from[h]), to[h]);
+        sum += gap[h * 1602 + (place as usize)] as u64;
+        h += 1;
+    }
+    sum
+}
+
+// Whether a completion of the node may be lawful and lose less than the limit. None does where the decided blocks lose as much already, where an hour can
+// no longer balance, where the least gaps within reach come to as much, or where a taken block misses its limit at the best prices within reach.
+fn is_open(
+    low: &[u32],
+    gap: &[u32],
+    first: &[u32],
+    last: &[u32],
+    turn: &[u32],
+    blocks: &[u32],
+    count: u32,
+    left: u32,
+    node: Node,
+    limit: u64,
+) -> bool
+    requires { ⌜ Sized (now low) (now gap) (now first) (now last) (now blocks) × (length (now turn) ≡ 24) × (count ≤ 32) × (left ≤ count) × Fits (count - left) (node .set) (node .loss) (node .places) ⌝ }
+    ensures { λ r. ⌜ (r ≡ false → DroppedFrom (now (low .entry)) (now (gap .entry)) (now (first .entry)) (now (last .entry)) (now (turn .entry))
+        (now (blocks .entry)) count left node limit) ⌝ }
+{
+    if limit <= node.loss {
+        return false;
+    }
+    let at = (count - left) as usize;
+    let places = node.places;
+    let rest = rest_of(blocks, count as usize, at, node.loss, limit, places);
+    let least = rest.least;
+    let free = rest.free;
+    let reach = reach_of(first, last, least, free);
+    if !reach.balances {
+        return false;
+    }
+    let from = reach.from;
+    let to = reach.to;
+    if limit <= node.loss + least_gaps(gap, turn, from, to) {
+        return false;
+    }
+    let high = prices_at(low, from);
+    let lowest = prices_at(low, to);
+    keeps_limits(blocks, at, node.set, high, lowest)
+}
+
 // Every way to decide the blocks that are left, each first taken and then left out. Each branch has its own node by value, so nothing is released.
 fn explore(
     low: &[u32],
     gap: &[u32],
     first: &[u32],
     last: &[u32],
+    turn: &[u32],
     blocks: &[u32],
     count: u32,
     left: u32,
     node: Node,
     best: Best,
 ) -> Best
-    requires { ⌜ Sized (now low) (now gap) (now first) (now last) (now blocks) × (count ≤ 32) × (left ≤ count) × Fits (count - left) (node .set) (node .loss) (node .places) ⌝ }
-    ensures { λ r. ⌜ ExploredFrom (now (low .entry)) (now (gap .entry)) (now (first .entry)) (now (last .entry)) (now (blocks .entry)) count left node best r ⌝ }
+    requires { ⌜ Sized (now low) (now gap) (now first) (now last) (now blocks) × (length (now turn) ≡ 24) × (count ≤ 32) × (left ≤ count) × Fits (count - left) (node .set) (node .loss) (node .places) ⌝ }
+    ensures { λ r. ⌜ ExploredFrom (now (low .entry)) (now (gap .entry)) (now (first .entry)) (now (last .entry)) (now (turn .entry)) (now (blocks .entry)) count left node best r ⌝ }
 {
-    if best.limit <= node.loss {
+    if !is_open(
+        low,
+        gap,
+        first,
+        last,
+        turn,
+        blocks,
+        count,
+        left,
+        node,
+        best.limit,
+    ) {
         return best;
     }
     if left == 0 {
@@ -260,6 +439,7 @@ fn explore(
         gap,
         first,
         last,
+        turn,
         blocks,
         count,
         left - 1,
@@ -271,6 +451,7 @@ fn explore(
         gap,
         first,
         last,
+        turn,
         blocks,
         count,
         left - 1,
@@ -285,11 +466,12 @@ pub fn find(
     gap: &[u32],
     first: &[u32],
     last: &[u32],
+    turn: &[u32],
     blocks: &[u32],
     count: u32,
 ) -> Best
-    requires { ⌜ Sized (now low) (now gap) (now first) (now last) (now blocks) × (count ≤ 32) ⌝ }
-    ensures { λ r. ⌜ FoundIn (now (low .entry)) (now (gap .entry)) (now (first .entry)) (now (last .entry)) (now (blocks .entry)) count r ⌝ }
+    requires { ⌜ Sized (now low) (now gap) (now first) (now last) (now blocks) × (length (now turn) ≡ 24) × (count ≤ 32) ⌝ }
+    ensures { λ r. ⌜ FoundIn (now (low .entry)) (now (gap .entry)) (now (first .entry)) (now (last .entry)) (now (turn .entry)) (now (blocks .entry)) count r ⌝ }
 {
     let day = Day {
         prices: [0; 24],
@@ -307,7 +489,18 @@ pub fn find(
             set: 0,
             day: day,
         };
-        let found = explore(low, gap, first, last, blocks, count, count, root, start);
+        let found = explore(
+            low,
+            gap,
+            first,
+            last,
+            turn,
+            blocks,
+            count,
+            count,
+            root,
+            start,
+        );
         if found.limit < limit {
             return found;
         }
@@ -318,5 +511,16 @@ pub fn find(
         set: 0,
         day: day,
     };
-    explore(low, gap, first, last, blocks, count, count, root, start)
+    explore(
+        low,
+        gap,
+        first,
+        last,
+        turn,
+        blocks,
+        count,
+        count,
+        root,
+        start,
+    )
 }

@@ -14,22 +14,30 @@ use crate::search::price_sum;
 use crate::search::prices_at;
 use book::hour_count;
 use orders::Blocks;
-use pricing::table::Places;
 use pricing::table::all_totals;
 use pricing::table::clear_range;
 use pricing::table::fill_gaps;
 use pricing::table::fill_prices;
 
-// The first and the last place at which each hour clears.
+// The first and the last place at which an hour clears, and the place of its least gap.
+pub struct Range {
+    pub first: usize,
+    pub last: usize,
+    pub turn: usize,
+}
+
+// The same of each hour.
 pub struct Ranges {
     pub first: [u32; 24],
     pub last: [u32; 24],
+    pub turn: [u32; 24],
 }
 
-// What the search is given besides the two tables: each hour's first and last place, and the blocks' six columns.
+// What the search is given besides the two tables: the hours' ranges, and the blocks' six columns.
 pub struct Prepared {
     pub first: [u32; 24],
     pub last: [u32; 24],
+    pub turn: [u32; 24],
     pub columns: [u32; 192],
 }
 
@@ -78,7 +86,7 @@ fn fill_tables(
     }
 }
 
-// The places at which an hour clears, whose steps stand from a up to e, and its gaps there at a price. The range has the place off: N is 0.
+// The places at which an hour clears, whose steps stand from a up to e, and its gaps there at a price. The range has the place off: there N is 0.
 fn fill_hour(
     sides: &[u8],
     prices: &[u32],
@@ -89,17 +97,21 @@ fn fill_hour(
     price: u32,
     row: &[u32],
     gap: &mut [u32],
-) -> Places
+) -> Range
     requires held { ⌜ PartHeld (now sides) (now prices) (now quantities) a e × (off ≤ 1600) × (price ≤ 300000) × (length (now gap) ≡ 1602) ⌝ }
     requires table { ⌜ (length (now row) ≡ 1602) × TableOf (now sides) (now prices) (now quantities) a e off (now row) ⌝ }
-    ensures fits { λ r. ⌜ (r .first ≤ 1600) × (r .last ≤ 1600) ⌝ }
+    ensures fits { λ r. ⌜ (r .first ≤ 1600) × (r .last ≤ 1600) × (r .turn ≤ 1600) ⌝ }
     ensures ranged { λ r. ⌜ RangedOf (now (sides .entry)) (now (prices .entry)) (now (quantities .entry)) a e off price
-        (r .first) (r .last) (now (row .entry)) (now (gap .exit)) ⌝ }
+        (r .first) (r .last) (r .turn) (now (row .entry)) (now (gap .exit)) ⌝ }
 {
     let all = all_totals(&sides[a..e], &prices[a..e], &quantities[a..e]);
     let range = clear_range(all.buys, all.sells, off, 1600);
-    fill_gaps(row, price, range.first, range.last, gap);
-    range
+    let turn = fill_gaps(row, price, range.first, range.last, gap);
+    Range {
+        first: range.first,
+        last: range.last,
+        turn: turn,
+    }
 }
 
 // The hours' ranges, and their gaps at the prices root, row after row.
@@ -115,12 +127,13 @@ fn fill_ranges(
 ) -> Ranges
     requires held { ⌜ StepsHeld (now sides) (now prices) (now quantities) ends × Small 1600 off × Small 300000 root × (length (now gap) ≡ 38448) ⌝ }
     requires tables { ⌜ (length (now low) ≡ 38448) × RowsAre (now sides) (now prices) (now quantities) ends off (now low) ⌝ }
-    ensures small { λ r. ⌜ (length (r .first) ≡ 24) × (length (r .last) ≡ 24) × Small 1600 (r .last) ⌝ }
+    ensures small { λ r. ⌜ (length (r .first) ≡ 24) × (length (r .last) ≡ 24) × (length (r .turn) ≡ 24) × Small 1600 (r .last) ⌝ }
     ensures ranges { λ r. ⌜ RangesAre (now (sides .entry)) (now (prices .entry)) (now (quantities .entry)) ends off root
-        (now (low .entry)) (now (gap .exit)) (r .first) (r .last) ⌝ }
+        (now (low .entry)) (now (gap .exit)) (r .first) (r .last) (r .turn) ⌝ }
 {
     let mut first = [0; 24];
     let mut last = [0; 24];
+    let mut turn = [0; 24];
     let mut h: usize = 0;
     while h < 24 {
         let from = h * 1602;
@@ -138,9 +151,10 @@ fn fill_ranges(
         );
         first[h] = range.first as u32;
         last[h] = range.last as u32;
+        turn[h] = range.turn as u32;
         h += 1;
     }
-    Ranges { first, last }
+    Ranges { first, last, turn }
 }
 
 // The difference, or 0.
@@ -352,10 +366,10 @@ pub fn prepare(
     requires steps { ⌜ StepsHeld (now sides) (now prices) (now quantities) ends ⌝ }
     requires blocks { ⌜ BlocksHeld (blocks .count) (blocks .prices) (blocks .quantities) ⌝ }
     requires tables { ⌜ (length (now low) ≡ 38448) × (length (now gap) ≡ 38448) ⌝ }
-    ensures sized { λ r. ⌜ Sized (now (low .exit)) (now (gap .exit)) (r .first) (r .last) (r .columns) ⌝ }
+    ensures sized { λ r. ⌜ Sized (now (low .exit)) (now (gap .exit)) (r .first) (r .last) (r .columns) × (length (r .turn) ≡ 24) ⌝ }
     ensures ready { λ r. ⌜ ReadyFor (now (sides .entry)) (now (prices .entry)) (now (quantities .entry)) ends
         (blocks .count) (blocks .records) (blocks .sides) (blocks .hours) (blocks .prices) (blocks .quantities)
-        (now (low .exit)) (now (gap .exit)) (r .first) (r .last) (r .columns) ⌝ }
+        (now (low .exit)) (now (gap .exit)) (r .first) (r .last) (r .turn) (r .columns) ⌝ }
 {
     let count = blocks.count;
     let block_sides = blocks.sides;
@@ -369,9 +383,11 @@ pub fn prepare(
     let columns = block_columns(count, block_sides, hours, limits, amounts, root);
     let first = ranges.first;
     let last = ranges.last;
+    let turn = ranges.turn;
     Prepared {
         first,
         last,
+        turn,
         columns,
     }
 }

@@ -217,3 +217,45 @@ module _ (l : List Step) (r : PricesInRange l) (off : ℕ) (table : List ℕ) (p
 
     pub gap-least : (i : ℕ) → first ≤ i → i ≤ last → slack price (net l m off) ≤ slack price (net l i off)
     gap-least i a b = omega (arith, gap-table i a b)
+
+-- A GAP TABLE FALLS TO ITS LEAST GAP AND RISES FROM IT, since its prices do not rise
+pub never-rises : (table : List ℕ) → NotRising table → (n i : ℕ) → i + n < length table → getD table (i + n) 0 ≤ getD table i 0
+never-rises table falls zero i k = rw add-zero (omega arith)
+never-rises table falls (suc n) i k =
+    let e : i + suc n ≡ i + n + 1 = omega arith in
+    rw e (omega (arith, falls (i + n) (omega arith), never-rises table falls n i (omega arith)))
+
+module _ (table : List ℕ) (price first last m : ℕ) (out : List ℕ) (falls : NotRising table) (inside : last < length table)
+    (g : GapTable table price first last m out) where
+  between : (i j : ℕ) → i ≤ j → j ≤ last → getD table j 0 ≤ getD table i 0
+  between i j a b =
+      let e : i + (j - i) ≡ j = omega arith in
+      rw e at (never-rises table falls (j - i) i (omega arith))
+
+  rises-once : (i : ℕ) → m ≤ i → i < last → getD out i 0 ≤ getD out (i + 1) 0
+  rises-once i a b =
+      omega (arith, g .gaps i (omega (arith, g .from)) b, g .gaps m (g .from) (omega arith), g .zeroAt, between (m + 1) (i + 1) (omega arith) (omega arith))
+
+  falls-once : (i : ℕ) → first ≤ i → i < m → getD out (i + 1) 0 ≤ getD out i 0
+  falls-once i a b =
+      let e : m - 1 + 1 ≡ m = omega arith in
+      let top = rw e at (g .gaps (m - 1) (omega arith) (omega (arith, g .to))) in
+      omega (arith, g .gaps i a (omega (arith, g .to)), top, g .zeroAt, between (i + 1) m (omega arith) (g .to))
+
+  up : (n i : ℕ) → m ≤ i → i + n ≤ last → getD out i 0 ≤ getD out (i + n) 0
+  up zero i a b = rw add-zero (omega arith)
+  up (suc n) i a b =
+      let e : i + suc n ≡ i + n + 1 = omega arith in
+      rw e (omega (arith, up n i a (omega arith), rises-once (i + n) (omega arith) (omega arith)))
+
+  down : (n i : ℕ) → first ≤ i → i + n ≤ m → getD out (i + n) 0 ≤ getD out i 0
+  down zero i a b = rw add-zero (omega arith)
+  down (suc n) i a b =
+      let e : i + suc n ≡ i + n + 1 = omega arith in
+      rw e (omega (arith, down n i a (omega arith), falls-once (i + n) (omega arith) (omega arith)))
+
+  pub gap-rises : (i j : ℕ) → first ≤ i → i ≤ j → j ≤ last → m ≤ i → getD out i 0 ≤ getD out j 0
+  gap-rises i j a b c k = let e : i + (j - i) ≡ j = omega arith in rw e at (up (j - i) i k (omega arith))
+
+  pub gap-falls : (i j : ℕ) → first ≤ i → i ≤ j → j ≤ last → j ≤ m → getD out j 0 ≤ getD out i 0
+  gap-falls i j a b c k = let e : i + (j - i) ≡ j = omega arith in rw e at (down (j - i) i a (omega arith))

@@ -43,7 +43,7 @@ prices-at-requires c κs =
 keeps-limits-requires : tie.Need-keeps-limits-requires
 keeps-limits-requires c κs =
     let a = c .before .before .before .before .before .before .before .before .before .before .before .before in
-    (a .pre .0 .blocksFit .columns, a .pre .1, c .prices-at .ensures .small)
+    (a .pre .0 .blocksFit .columns, a .pre .1, c .prices-at .ensures .small, c .prices-at .ensures .small)
 
 returns-3 : tie.Need-returns-3
 returns-3 c =

@@ -11,10 +11,10 @@ use Rattle.clearing.proofs.setup.fill_ranges.Lts as lts
 use Rattle.clearing.proofs.setup.fill_hour.Reads as fill-hour-reads
 
 abbrev Inv-loop : tie.InvT-loop
-Inv-loop sides prices quantities low gap₀ ends off root first₀ last₀ h₀ gap first last h = RangesTo sides prices quantities ends off root low gap first last h
+Inv-loop sides prices quantities low gap₀ ends off root first₀ last₀ turn₀ h₀ gap first last turn h = RangesTo sides prices quantities ends off root low gap first last turn h
 
 abbrev μ-loop : tie.MeasureT-loop
-μ-loop sides prices quantities low gap₀ ends off root first₀ last₀ h₀ gap first last h = 24 - h
+μ-loop sides prices quantities low gap₀ ends off root first₀ last₀ turn₀ h₀ gap first last turn h = 24 - h
 
 loop-holds : tie.Need-loop-holds Inv-loop μ-loop
 loop-holds c = ranges-start _ _ _ _ _ _ _ _ (c .before .before .before .before .before .pre .0 .3)
@@ -111,6 +111,15 @@ mul-last c = search needs
 array-write-last : tie.Need-array-write-last Inv-loop μ-loop
 array-write-last c = search needs
 
+cast-turn : tie.Need-cast-turn Inv-loop μ-loop
+cast-turn c = search needs
+
+mul-turn : tie.Need-mul-turn Inv-loop μ-loop
+mul-turn c = search needs
+
+array-write-turn : tie.Need-array-write-turn Inv-loop μ-loop
+array-write-turn c = search needs
+
 add-h : tie.Need-add-h Inv-loop μ-loop
 add-h c = search needs
 
@@ -119,11 +128,11 @@ loop-less c = search needs
 
 loop-again : tie.Need-loop-again Inv-loop μ-loop
 loop-again c =
-    let v = c .before .before .before .before .before .before .before .before .loop in
-    let s = c .before .before .before .before .before .before .before .before .before .before .before .before .before .before in
-    let k = c .before .before .before .before .before .before .before .loop-test .taken in
-    let f = c .before .before .before .before .fill-hour in
-    ranges-next _ _ _ _ _ _ _ _ _ _ _ (v .h) _ _ _ (v .inv) k
+    let v = c .before .before .before .before .before .before .before .before .before .loop in
+    let s = c .before .before .before .before .before .before .before .before .before .before .before .before .before .before .before in
+    let k = c .before .before .before .before .before .before .before .before .loop-test .taken in
+    let f = c .before .before .before .before .before .fill-hour in
+    ranges-next _ _ _ _ _ _ _ _ _ _ _ _ (v .h) _ _ _ _ (v .inv) k
     (f .kept .1 .1 .1 .1 .1 .1 .1 .1 .0 ∙ part-length (v .gap) (v .h) (v .inv .size) k) (row-wide (v .h))
     (f .ensures .0 .1) (rw (part-row (s .args .low .now) (v .h)) at (f .ensures .1))
 
@@ -131,7 +140,7 @@ same-length : tie.Need-same-length Inv-loop μ-loop
 same-length c = c .before .loop .inv .size ∙ sym (c .before .before .before .before .before .before .before .pre .0 .3)
 
 returns : tie.Need-returns Inv-loop μ-loop
-returns c = ranges-all _ _ _ _ _ _ _ _ _ _ _ (c .before .loop .inv) (c .loop-test .left)
+returns c = ranges-all _ _ _ _ _ _ _ _ _ _ _ _ (c .before .loop .inv) (c .loop-test .left)
 
 pub fill-ranges-spec : {M : Type 1} → statement M
 fill-ranges-spec =
@@ -168,6 +177,9 @@ fill-ranges-spec =
     cast-last
     mul-last
     array-write-last
+    cast-turn
+    mul-turn
+    array-write-turn
     add-h
     loop-less
     loop-again

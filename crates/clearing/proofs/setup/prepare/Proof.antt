@@ -56,20 +56,20 @@ same-length-2 c = search needs
 
 returns : tie.Need-returns
 returns c =
-    let k = c .before .before .block-columns in
-    let g = c .before .before .before .before .before .fill-ranges in
-    let p = c .before .before .before .before .before .before .before .before in
+    let k = c .before .before .before .block-columns in
+    let g = c .before .before .before .before .before .before .fill-ranges in
+    let p = c .before .before .before .before .before .before .before .before .before in
     let f = p .before .before .before .before in
-    let s = f .before .before .before .before .before .before .before .before .before .before .before .before in
+    let s = c .before .before .before .before .before .before .before .before .before .before .before .before .before .before .before .before .before .before .before .before .before .before .before .before .before in
     let o = f .before .before .bought-by-hour in
     let low = f .fill-tables .last .1 .1 .1 .1 .1 .0 in
     let size = f .fill-tables .kept .1 .1 .1 .1 .1 .0 ∙ s .pre .1 .1 .0 in
     let gapSize = g .kept .1 .1 .1 .1 .1 .1 .1 .0 ∙ s .pre .1 .1 .1 in
     let a = s .args in
     let small = low-small (a .sides .now) (a .prices .now) (a .quantities .now) (a .ends) (o .result) low size (f .fill-tables .ensures) in (
-      set-up _ _ _ _ _ size gapSize (g .ensures .0 .0) (g .ensures .0 .1) (g .ensures .0 .2) small (k .ensures .0),
-      ready _ _ _ _ _ _ _ _ _ _ (o .result) (p .root-prices .result) low _ _ _ _ size (o .ensures .0) (o .ensures .1) (f .fill-tables .ensures) (g .ensures .1)
-          (k .ensures .1),
+      (set-up _ _ _ _ _ size gapSize (g .ensures .0 .0) (g .ensures .0 .1) (g .ensures .0 .3) small (k .ensures .0), g .ensures .0 .2),
+      ready _ _ _ _ _ _ _ _ _ _ (o .result) (p .root-prices .result) low _ _ _ _ _ size (o .ensures .0) (o .ensures .1) (f .fill-tables .ensures)
+          (g .ensures .1) (k .ensures .1),
     )
 
 pub prepare-spec : {M : Type 1} → statement M
