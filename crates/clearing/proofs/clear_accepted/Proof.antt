@@ -76,6 +76,9 @@ slice-aggregate-find-4 c = search needs
 slice-aggregate-find-5 : tie.Need-slice-aggregate-find-5
 slice-aggregate-find-5 c = search needs
 
+slice-aggregate-find-6 : tie.Need-slice-aggregate-find-6
+slice-aggregate-find-6 c = search needs
+
 cast-find : tie.Need-cast-find
 cast-find c = search needs
 
@@ -83,25 +86,25 @@ find-requires : tie.Need-find-requires
 find-requires c κs = search needs
 
 slice-aggregate-publish : tie.Need-slice-aggregate-publish
-slice-aggregate-publish c = sym (size-sides (c .before .before .before .before .before .before .before .before .before .before .before .before .before .before .before .before .before .before .before .before .before .before .before .before .before))
+slice-aggregate-publish c = sym (size-sides (c .before .before .before .before .before .before .before .before .before .before .before .before .before .before .before .before .before .before .before .before .before .before .before .before .before .before .before))
 
 slice-aggregate-publish-2 : tie.Need-slice-aggregate-publish-2
-slice-aggregate-publish-2 c = sym (size-prices (c .before .before .before .before .before .before .before .before .before .before .before .before .before .before .before .before .before .before .before .before .before .before .before .before .before .before))
+slice-aggregate-publish-2 c = sym (size-prices (c .before .before .before .before .before .before .before .before .before .before .before .before .before .before .before .before .before .before .before .before .before .before .before .before .before .before .before .before))
 
 slice-aggregate-publish-3 : tie.Need-slice-aggregate-publish-3
-slice-aggregate-publish-3 c = sym (size-quantities (c .before .before .before .before .before .before .before .before .before .before .before .before .before .before .before .before .before .before .before .before .before .before .before .before .before .before .before))
+slice-aggregate-publish-3 c = sym (size-quantities (c .before .before .before .before .before .before .before .before .before .before .before .before .before .before .before .before .before .before .before .before .before .before .before .before .before .before .before .before .before))
 
 slice-aggregate-publish-4 : tie.Need-slice-aggregate-publish-4
-slice-aggregate-publish-4 c = sym (size-records (c .before .before .before .before .before .before .before .before .before .before .before .before .before .before .before .before .before .before .before .before .before .before .before .before .before .before .before .before))
+slice-aggregate-publish-4 c = sym (size-records (c .before .before .before .before .before .before .before .before .before .before .before .before .before .before .before .before .before .before .before .before .before .before .before .before .before .before .before .before .before .before))
 
 publish-requires : tie.Need-publish-requires
 publish-requires c κs =
-    let m = c .before .before .before .before .before .before .before .before .before .before .before .before .before .before .before .before .before in
+    let m = c .before .before .before .before .before .before .before .before .before .before .before .before .before .before .before .before .before .before .before in
     let k = m .before .before .before .before .before .before in
     let f = k .before .before .before .before .before .before in
     let s = f .before .before .before .before in
-    let ready = m .prepare .ensures .1 _ _ (f .before .before .before .before .pre .0) (f .steps-of .ensures) (k .blocks-of .ensures) in
-    let found = c .before .before .before .before .before .find .ensures _ (ready .p) (ready .rest) (ready .known) in
+    let ready = m .prepare .ensures .1 _ _ (s .pre .0) (f .steps-of .ensures) (k .blocks-of .ensures) in
+    let found = c .before .before .before .before .before .find .ensures _ (ready .p) (ready .rest) (ready .known) (ready .turning) in
     let e = f .before .record-count .ensures in
     publishable _ (s .pre .0) _ _ _ _ _ (f .steps-of .ensures) _ _ _ _ (k .blocks-of .ensures) (found .2) e (omega (arith, s .pre .1, e))
     (omega (arith, ends-in f, size-records f)) (omega (arith, ends-in f, size-sides f)) (omega (arith, ends-in f, size-prices f))
@@ -112,13 +115,14 @@ same-length c = search needs
 
 returns : tie.Need-returns
 returns c =
-    let u = c .before .before in
-    let m = u .before .before .before .before .before .before .before .before .before .before .before .before .before .before .before .before .before .before in
+    let m = c .before .before .before .before .before .before .before .before .before .before .before .before .before .before .before .before .before .before .before .before .before .before in
     let k = m .before .before .before .before .before .before in
     let f = k .before .before .before .before .before .before in
-    let ready = m .prepare .ensures .1 _ _ (f .before .before .before .before .pre .0) (f .steps-of .ensures) (k .blocks-of .ensures) in
-    let found = u .before .before .before .before .before .before .find .ensures _ (ready .p) (ready .rest) (ready .known) in
-    u .publish .ensures _ (f .before .before .before .before .pre .0) (f .steps-of .ensures) (k .blocks-of .ensures) (found .0) (found .2) (f .before .record-count .ensures)
+    let s = f .before .before .before .before in
+    let ready = m .prepare .ensures .1 _ _ (s .pre .0) (f .steps-of .ensures) (k .blocks-of .ensures) in
+    let found = c .before .before .before .before .before .before .before .before .find .ensures _ (ready .p) (ready .rest) (ready .known) (ready .turning) in
+    let e = f .before .record-count .ensures in
+    c .before .before .publish .ensures _ (s .pre .0) (f .steps-of .ensures) (k .blocks-of .ensures) (found .0) (found .2) e
 
 pub clear-accepted-spec : {M : Type 1} → statement M
 clear-accepted-spec =
@@ -139,6 +143,7 @@ clear-accepted-spec =
     slice-aggregate-find-3
     slice-aggregate-find-4
     slice-aggregate-find-5
+    slice-aggregate-find-6
     cast-find
     find-requires
     slice-aggregate-publish

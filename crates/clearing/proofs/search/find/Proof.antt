@@ -1,3 +1,4 @@
+-- `clearing::search::find` meets its contract: a pass that finds a set has found the published one, and the last pass finds. Assumes nothing.
 use Prim.Native.Nat.{_-_, _≤_}
 use mathlib.Core.Path.{_≡_}
 use native.Mathlib.Omega.{arith}
@@ -5,31 +6,28 @@ use Rattle.clearing.proofs.PassLaws.{root-fits, pass-is, pass-found}
 use borrow.Author.Needs.{needs}
 use Rattle.clearing.proofs.search.find.Statement.{statement}
 use Rattle.clearing.proofs.search.find.Tie as tie
-use Rattle.clearing.proofs.search.find.Reads as reads
-use Rattle.clearing.proofs.search.find.Lts as lts
-use Rattle.clearing.proofs.search.explore.Reads as explore-reads
 
 abbrev Inv-loop : tie.InvT-loop
-Inv-loop low gap first last blocks count day root limit₀ limit = (1 ≤ limit) × (limit ≤ 1099511627776)
+Inv-loop low gap first last turn blocks count day root limit₀ limit = (1 ≤ limit) × (limit ≤ 1099511627776)
 
 abbrev μ-loop : tie.MeasureT-loop
-μ-loop low gap first last blocks count day root limit₀ limit = 1099511627776 - limit
+μ-loop low gap first last turn blocks count day root limit₀ limit = 1099511627776 - limit
 
 loop-holds : tie.Need-loop-holds Inv-loop μ-loop
 loop-holds c = (omega arith, omega arith)
 
 explore-requires : tie.Need-explore-requires Inv-loop μ-loop
 explore-requires c κs =
-    let a = c .before .before .before .before .before .before .before in
+    let a = c .before .before .before .before .before .before .before .before in
     let z : a .args .count - a .args .count ≡ 0 = omega arith in
-    (a .pre .0, a .pre .1, omega arith, rw z root-fits)
+    (a .pre .0, a .pre .1, a .pre .2, omega arith, rw z root-fits)
 
 returns : tie.Need-returns Inv-loop μ-loop
 returns c =
-    let l = c .before .before .before .before .before in
-    let a = l .before .before .before .before .before in
-    λ day p rest known. pass-is _ _ _ _ _ _ (a .pre .1) (λ i. omega (arith, l .shared-slice-known5 .given i))
-    (λ i. omega (arith, l .before .before .before .shared-slice-known2 .given i)) day p rest known _ _ (c .before .before .explore .ensures) (c .if1 .taken)
+    let a = c .before .before .before .before .before .before .before .before .before .before .before in
+    λ day p rest known turning.
+    pass-is _ _ _ _ _ _ (a .pre .2) (λ i. omega (arith, c .before .before .before .before .before .shared-slice-known6 .given i))
+    (λ i. omega (arith, c .before .before .before .before .before .before .before .before .before .shared-slice-known2 .given i)) day p rest known _ turning _ _ (c .before .before .explore .ensures) (c .if1 .taken)
 
 mul-limit : tie.Need-mul-limit Inv-loop μ-loop
 mul-limit c = search needs
@@ -42,19 +40,18 @@ loop-again c = (omega (arith, c .before .before .before .before .loop .inv), ome
 
 explore-requires-2 : tie.Need-explore-requires-2 Inv-loop μ-loop
 explore-requires-2 c κs =
-    let a = c .before .before .before .before .before .before .before in
+    let a = c .before .before .before .before .before .before .before .before in
     let z : a .args .count - a .args .count ≡ 0 = omega arith in
-    (a .pre .0, a .pre .1, omega arith, rw z root-fits)
+    (a .pre .0, a .pre .1, a .pre .2, omega arith, rw z root-fits)
 
 returns-2 : tie.Need-returns-2 Inv-loop μ-loop
 returns-2 c =
-    let l = c .before .before .before in
-    let a = l .before .before .before .before .before in
-    λ day p rest known.
-    pass-is _ _ _ _ _ _ (a .pre .1) (λ i. omega (arith, l .shared-slice-known5 .given i))
-    (λ i. omega (arith, l .before .before .before .shared-slice-known2 .given i)) day p rest known _ _ (c .explore2 .ensures)
-    (pass-found _ _ _ _ _ _ (a .pre .1) (λ i. omega (arith, l .shared-slice-known5 .given i))
-    (λ i. omega (arith, l .before .before .before .shared-slice-known2 .given i)) day p rest known _ _ (c .explore2 .ensures) (c .before .loop-test .left))
+    let a = c .before .before .before .before .before .before .before .before .before in
+    λ day p rest known turning.
+    pass-is _ _ _ _ _ _ (a .pre .2) (λ i. omega (arith, c .before .before .before .shared-slice-known6 .given i))
+    (λ i. omega (arith, c .before .before .before .before .before .before .before .shared-slice-known2 .given i)) day p rest known _ turning _ _ (c .explore2 .ensures)
+    (pass-found _ _ _ _ _ _ (a .pre .2) (λ i. omega (arith, c .before .before .before .shared-slice-known6 .given i))
+    (λ i. omega (arith, c .before .before .before .before .before .before .before .shared-slice-known2 .given i)) day p rest known _ turning _ _ (c .explore2 .ensures) (c .before .loop-test .left))
 
 pub find-spec : {M : Type 1} → statement M
 find-spec =
