@@ -19,5 +19,6 @@ pub mod LossSearchLaws
 pub mod SetBits
 pub mod PlaceLaws
 pub mod LawCutLaws
+pub mod TwinLaws
 pub mod OutcomeRulesLaws
 pub mod BoundsLaws
