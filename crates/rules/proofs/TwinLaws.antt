@@ -1,21 +1,21 @@
--- TWINS: two blocks of one side, the same hours and the same quantity. A set may exchange one for the other: every hour keeps its N, so its price.
--- Where the one kept its limit only if the other does, and the exchange loses no more, the published set does not take the worse one alone. So the
--- search may leave a block out where one ahead of it is left out, and must take it where one behind it is taken. Assumes nothing.
-use Prim.Native.Nat.{ℕ, zero, suc, _+_, _*_, _≤_, _<_}
+-- TWINS: two blocks of one side, the same hours and the same quantity. A set may exchange one for the other: every hour keeps its N and so its price.
+-- Where the one keeps its limit whenever the other does, and the exchange loses no more, the published set takes the other only together with it. So
+-- the search may leave a block out where one ahead of it is left out, and only take it where one behind it is taken. Assumes nothing.
+use Prim.Native.Nat.{ℕ, zero, suc, _+_, _-_, _*_, _≤_, _<_}
 use mathlib.Core.Bool.{Bool, true, false}
 use mathlib.Core.Path.{_≡_, refl, sym, ap, subst, _∙_, fun-ext}
 use mathlib.Core.List.{List, [], _∷_, _++_}
 use native.Mathlib.Omega.{arith}
-use native.Mathlib.Nat.{suc-inj, lt-of-not-le}
+use native.Mathlib.Nat.{suc-inj, lt-of-not-le, mul-le-mul-left}
 use native.Mathlib.Decide.{decLe, ℕ-discrete}
 use lib.Dec.{leb}
 use lib.ListN.{length, drop, getD, set as put, length-set, length-drop, List·getD-append}
 use lib.Seq.{getD-set-same, getD-set-other, set-getD, getD-append-seam}
 use borrow.Author.Tests.{leb-true, le-leb}
 use Rattle.rules.specs.Orders.{Side, buy, sell, Block}
-use Rattle.rules.specs.Hour.{bySide, when}
+use Rattle.rules.specs.Hour.{bySide}
 use Rattle.rules.specs.Execution.{testSide}
-use Rattle.rules.specs.Day.{Day, daySum, taken, sells, buys, hourCount, priceSum, keepsLimit, everyBlock, allowed, lawful, welfare}
+use Rattle.rules.specs.Day.{Day, taken, sells, buys, hourCount, priceSum, keepsLimit, everyBlock, allowed, lawful, welfare}
 use Rattle.rules.specs.Outcome.{outcome}
 use Rattle.rules.specs.Contender.{HoldsLowest, PricesInRange, HoursInRange}
 use Rattle.rules.proofs.Tests.{by-test, clash}
@@ -23,12 +23,15 @@ use Rattle.rules.proofs.BestLaws.{FirstBest, outcome-first}
 use Rattle.rules.proofs.HourSums.{daySum-same}
 use Rattle.rules.proofs.DayLaws.{lawful-contends, empty-lawful}
 use Rattle.rules.proofs.BoundLaws.{gain}
-use Rattle.rules.proofs.LossLaws.{against, losses, gaps, lossOf, welfare-and-loss}
+use Rattle.rules.proofs.LossLaws.{against, losses, lossOf, welfare-and-loss}
 use Rattle.rules.proofs.PlaceLaws.{place, pricesAt, gaps-by-place, lawful-by-places, lawful-clears, lawful-limits}
 use Rattle.rules.proofs.LawCutLaws.{taken-passes}
 
--- block a is ahead of its twin, block b, at hourly prices p: it keeps its limit wherever b does, and loses no more in b's place; less, if it has
--- the higher number
+-- a block's limit: its price times its hour count
+abbrev pub limitOf : ℕ → Block → ℕ
+limitOf hours b = b .price * hourCount hours b
+
+-- block a is ahead of its twin, block b, at hourly prices p: it keeps its limit wherever b does, and loses no more in b's place
 pub record Ahead (day : Day) (p : ℕ → ℕ) (a b : ℕ) : Type 0 where
   pub first : Block
   pub second : Block
@@ -38,16 +41,17 @@ pub record Ahead (day : Day) (p : ℕ → ℕ) (a b : ℕ) : Type 0 where
   pub sameHours : (h : ℕ) → first .runs h ≡ second .runs h
   pub sameQuantity : first .quantity ≡ second .quantity
   -- for buys the second's limit is at most the first's, for sells the first's at most the second's
-  pub limits : bySide (first .side) (second .price * hourCount (day .hours) second) (first .price * hourCount (day .hours) first)
-      ≤ bySide (first .side) (first .price * hourCount (day .hours) first) (second .price * hourCount (day .hours) second)
+  pub limits : bySide (first .side) (limitOf (day .hours) second) (limitOf (day .hours) first)
+      ≤ bySide (first .side) (limitOf (day .hours) first) (limitOf (day .hours) second)
   pub losesNoMore : against (day .hours) p first + gain (day .hours) p second ≤ gain (day .hours) p first + against (day .hours) p second
+  -- less, where it has the higher number
   pub losesLess : b < a → against (day .hours) p first + gain (day .hours) p second < gain (day .hours) p first + against (day .hours) p second
 
--- a set in turn takes no block without those ahead of it
+-- a set in turn takes no block without every block ahead of it
 abbrev pub InTurn : Day → (ℕ → ℕ) → List Bool → Type 0
 InTurn day p set = (a b : ℕ) → Ahead day p a b → getD set b false ≡ true → getD set a false ≡ true
 
--- BLOCKS BY THEIR POSITION
+-- BLOCKS BY THEIR POSITION: the block there, and that the list reaches so far
 pub block-at : (l : List Block) (j : ℕ) (b : Block) (after : List Block) (other : Block) → drop j l ≡ b ∷ after → getD l j other ≡ b
 block-at [] zero b after other e = let z : _≡_ {A = ℕ} 0 1 = cc in absurd (omega arith)
 block-at [] (suc j) b after other e = let z : _≡_ {A = ℕ} 0 1 = cc in absurd (omega arith)
@@ -57,7 +61,7 @@ block-at (x ∷ l) (suc j) b after other e = block-at l j b after other e
 pub block-within : (l : List Block) (j : ℕ) (b : Block) (after : List Block) → drop j l ≡ b ∷ after → j < length l
 block-within l j b after e = omega (arith, length-drop j l, ap length e)
 
--- ONE BLOCK CHANGED: what a set gains by taking it, and by leaving it out
+-- ONE BLOCK CHANGED: the place and the losses of a set that takes it, against those of the set that leaves it out
 module _ (other : Block) where
   pub place-changed : (h : ℕ) (l : List Block) (set : List Bool) (j : ℕ) → length set ≡ length l → j < length l →
       place l (put set j true) h + buys h (getD l j other) ≡ place l (put set j false) h + sells h (getD l j other)
@@ -101,8 +105,8 @@ not-lowest (false ∷ s) (false ∷ t) (suc a) k m same out is h =
     not-lowest s t a (omega arith) (omega arith) (λ j i. same (suc j) (omega arith)) out is h
 
 -- TWO TWINS
-module _ (hours : ℕ) (first second : Block) (side : first .side ≡ second .side) (runs : (h : ℕ) → first .runs h ≡ second .runs h) where
-  -- they trade the same
+module _ (first second : Block) (side : first .side ≡ second .side) (runs : (h : ℕ) → first .runs h ≡ second .runs h) where
+  -- they trade the same in every hour
   module _ (quantity : first .quantity ≡ second .quantity) (h : ℕ) where
     twin-sells : sells h first ≡ sells h second
     twin-sells = rw (side, runs h, quantity)
@@ -110,33 +114,91 @@ module _ (hours : ℕ) (first second : Block) (side : first .side ≡ second .si
     twin-buys : buys h first ≡ buys h second
     twin-buys = rw (side, runs h, quantity)
 
-  -- they run at the same prices
-  twin-sum : (price : ℕ → ℕ) → priceSum hours price first ≡ priceSum hours price second
-  unfolding priceSum
-  twin-sum price = daySum-same hours _ _ (λ h. rw (runs h))
+  module _ (hours : ℕ) (price : ℕ → ℕ) where
+    -- their hours have the same sum of prices
+    twin-sum : priceSum hours price first ≡ priceSum hours price second
+    unfolding priceSum
+    twin-sum = daySum-same hours _ _ (λ h. rw (runs h))
 
-  -- the first keeps its limit if the second does
-  twin-keeps : bySide (first .side) (second .price * hourCount hours second) (first .price * hourCount hours first)
-      ≤ bySide (first .side) (first .price * hourCount hours first) (second .price * hourCount hours second) →
-      (price : ℕ → ℕ) → keepsLimit hours price second ≡ true → keepsLimit hours price first ≡ true
-  unfolding keepsLimit
-  twin-keeps le price e =
-      let mine : ℕ = first .price * hourCount hours first in
-      let yours : ℕ = second .price * hourCount hours second in
-      let sum : ℕ = priceSum hours price second in
-      rw (twin-sum price) (go (first .side) sum mine yours le (subst (λ s. testSide s (leb sum yours) (leb yours sum) ≡ true) (sym side) e))
-    where
-      go : (s : Side) (sum mine yours : ℕ) → bySide s yours mine ≤ bySide s mine yours →
-          testSide s (leb sum yours) (leb yours sum) ≡ true → testSide s (leb sum mine) (leb mine sum) ≡ true
-      go buy sum mine yours le e = le-leb sum mine (omega (arith, leb-true sum yours e))
-      go sell sum mine yours le e = le-leb mine sum (omega (arith, leb-true yours sum e))
+    -- the first keeps its limit if the second does
+    twin-keeps : bySide (first .side) (limitOf hours second) (limitOf hours first) ≤ bySide (first .side) (limitOf hours first) (limitOf hours second) →
+        keepsLimit hours price second ≡ true → keepsLimit hours price first ≡ true
+    unfolding keepsLimit
+    twin-keeps le e =
+        let mine : ℕ = limitOf hours first in
+        let yours : ℕ = limitOf hours second in
+        let sum : ℕ = priceSum hours price second in
+        rw twin-sum (go (first .side) sum mine yours le (subst (λ s. testSide s (leb sum yours) (leb yours sum) ≡ true) (sym side) e))
+      where
+        go : (s : Side) (sum mine yours : ℕ) → bySide s yours mine ≤ bySide s mine yours →
+            testSide s (leb sum yours) (leb yours sum) ≡ true → testSide s (leb sum mine) (leb mine sum) ≡ true
+        go buy sum mine yours le e = le-leb sum mine (omega (arith, leb-true sum yours e))
+        go sell sum mine yours le e = le-leb mine sum (omega (arith, leb-true yours sum e))
+
+-- BY THE LIMITS ALONE: at any prices the sell block with the lower limit is ahead, the buy block with the higher, of equals the lower-numbered one
+below-by-limits : (s : Side) (q sum mine yours : ℕ) → bySide s yours mine ≤ bySide s mine yours →
+    q * bySide s (sum - mine) (mine - sum) + q * bySide s (yours - sum) (sum - yours)
+    ≤ q * bySide s (mine - sum) (sum - mine) + q * bySide s (sum - yours) (yours - sum)
+below-by-limits buy q sum mine yours le =
+    let k : (sum - mine) + (yours - sum) ≤ (mine - sum) + (sum - yours) = omega arith in omega (arith, mul-le-mul-left q k)
+below-by-limits sell q sum mine yours le =
+    let k : (mine - sum) + (sum - yours) ≤ (sum - mine) + (yours - sum) = omega arith in omega (arith, mul-le-mul-left q k)
+
+less-by-limits : (s : Side) (q sum mine yours : ℕ) → 1 ≤ q → bySide s yours mine < bySide s mine yours →
+    q * bySide s (sum - mine) (mine - sum) + q * bySide s (yours - sum) (sum - yours)
+    < q * bySide s (mine - sum) (sum - mine) + q * bySide s (sum - yours) (yours - sum)
+less-by-limits buy q sum mine yours some lt =
+    let k : suc ((sum - mine) + (yours - sum)) ≤ (mine - sum) + (sum - yours) = omega arith in omega (arith, mul-le-mul-left q k)
+less-by-limits sell q sum mine yours some lt =
+    let k : suc ((mine - sum) + (sum - yours)) ≤ (sum - mine) + (yours - sum) = omega arith in omega (arith, mul-le-mul-left q k)
+
+module _ (day : Day) (p : ℕ → ℕ) (a b : ℕ) (first second : Block)
+    (firstAt : drop a (day .blocks) ≡ first ∷ drop (suc a) (day .blocks)) (secondAt : drop b (day .blocks) ≡ second ∷ drop (suc b) (day .blocks))
+    (side : first .side ≡ second .side) (runs : (h : ℕ) → first .runs h ≡ second .runs h) (quantity : first .quantity ≡ second .quantity) where
+  abbrev H : ℕ
+  H = day .hours
+
+  abbrev mine : ℕ
+  mine = limitOf H first
+
+  abbrev yours : ℕ
+  yours = limitOf H second
+
+  second-against : against H p second ≡ first .quantity * bySide (first .side) (priceSum H p first - yours) (yours - priceSum H p first)
+  unfolding against
+  second-against = let sum = twin-sum first second side runs H p in cc
+
+  second-gain : gain H p second ≡ first .quantity * bySide (first .side) (yours - priceSum H p first) (priceSum H p first - yours)
+  unfolding gain
+  second-gain = let sum = twin-sum first second side runs H p in cc
+
+  pub ahead-by-limits : bySide (first .side) (limitOf (day .hours) second) (limitOf (day .hours) first)
+      ≤ bySide (first .side) (limitOf (day .hours) first) (limitOf (day .hours) second) →
+      (b < a → (1 ≤ first .quantity)
+      × (bySide (first .side) (limitOf (day .hours) second) (limitOf (day .hours) first)
+      < bySide (first .side) (limitOf (day .hours) first) (limitOf (day .hours) second))) →
+      Ahead day p a b
+  unfolding against gain
+  ahead-by-limits le less = record {
+    first = first;
+    second = second;
+    firstAt = firstAt;
+    secondAt = secondAt;
+    sameSide = side;
+    sameHours = runs;
+    sameQuantity = quantity;
+    limits = le;
+    losesNoMore = rw (second-against, second-gain) (below-by-limits (first .side) (first .quantity) (priceSum H p first) mine yours le);
+    losesLess = λ k. rw (second-against, second-gain)
+        (less-by-limits (first .side) (first .quantity) (priceSum H p first) mine yours (less k .0) (less k .1));
+  }
 
 -- THE LAW OF `allowed`: a set stays allowed where twins are exchanged
 allowed-exchanged : (day : Day) (set : List Bool) (a b : ℕ) → allowed day set ≡ true → allowed day (put (put set a true) b false) ≡ true
 unfolding allowed
 allowed-exchanged day set a b e = refl
 
--- THE EXCHANGE: a set that takes the second and not the first; the other that takes the first and not the second
+-- THE EXCHANGE: a set takes the second and not the first; the exchanged set takes the first and not the second
 module _ (day : Day) (p : ℕ → ℕ) (a b : ℕ) (ahead : Ahead day p a b) (set : List Bool) (size : length set ≡ length (day .blocks))
     (out : getD set a false ≡ false) (is : getD set b false ≡ true) where
   abbrev exchanged : List Bool
@@ -175,9 +237,11 @@ module _ (day : Day) (p : ℕ → ℕ) (a b : ℕ) (ahead : Ahead day p a b) (se
   same-place h =
       let one = rw (block-a (ahead .first), out-a) at (place-changed (ahead .first) h (day .blocks) set a size (within .0)) in
       let two = rw (block-b (ahead .second), in-b) at (place-changed (ahead .second) h (day .blocks) (put set a true) b size-a (within .1)) in
-      let se = twin-sells (day .hours) (ahead .first) (ahead .second) (ahead .sameSide) (ahead .sameHours) (ahead .sameQuantity) h in
-      let bu = twin-buys (day .hours) (ahead .first) (ahead .second) (ahead .sameSide) (ahead .sameHours) (ahead .sameQuantity) h in
-      omega (arith, one, two, se, bu)
+      omega (
+        arith,
+        twin-sells (ahead .first) (ahead .second) (ahead .sameSide) (ahead .sameHours) (ahead .sameQuantity) h,
+        twin-buys (ahead .first) (ahead .second) (ahead .sameSide) (ahead .sameHours) (ahead .sameQuantity) h,
+      )
 
   same-places : place (day .blocks) exchanged ≡ place (day .blocks) set
   same-places = fun-ext same-place
@@ -188,7 +252,7 @@ module _ (day : Day) (p : ℕ → ℕ) (a b : ℕ) (ahead : Ahead day p a b) (se
   exchange-loses =
       let one = rw (block-a (ahead .first), out-a) at (losses-changed (ahead .first) (day .hours) p (day .blocks) set a size (within .0)) in
       let two = rw (block-b (ahead .second), in-b) at (losses-changed (ahead .second) (day .hours) p (day .blocks) (put set a true) b size-a (within .1)) in
-      omega (arith, one, two)
+      omega arith
 
   loss-exchanged : lossOf day p exchanged + (gain (day .hours) p (ahead .first) + against (day .hours) p (ahead .second))
       ≡ lossOf day p set + (against (day .hours) p (ahead .first) + gain (day .hours) p (ahead .second))
@@ -196,10 +260,10 @@ module _ (day : Day) (p : ℕ → ℕ) (a b : ℕ) (ahead : Ahead day p a b) (se
   loss-exchanged =
       let one = gaps-by-place day set size p in
       let two = rw same-places at (gaps-by-place day exchanged exchanged-size p) in
-      omega (arith, one, two, exchange-loses)
+      omega (arith, exchange-loses)
 
   module _ (prices : PricesInRange (day .steps)) (hours : HoursInRange (day .steps)) (law : lawful day set ≡ true) where
-    -- each block of the other set keeps its limit: the first since the second did
+    -- each block of the exchanged set keeps its limit: the first since the second did
     exchanged-keeps : everyBlock (keepsLimit (day .hours) (pricesAt day (place (day .blocks) set))) (taken (day .blocks) exchanged) ≡ true
     exchanged-keeps = passes-taken (ahead .first) keeps (day .blocks) exchanged each
       where
@@ -214,7 +278,7 @@ module _ (day : Day) (p : ℕ → ℕ) (a b : ℕ) (ahead : Ahead day p a b) (se
           | yes z ↦ clash (rw z at e) (getD-set-same (put set a true) b false false (omega (arith, size-a, within .1)))
           | no z ↦ elim (ℕ-discrete j a) [
             | yes y ↦ rw (y, block-a (ahead .first))
-                (twin-keeps (day .hours) (ahead .first) (ahead .second) (ahead .sameSide) (ahead .sameHours) (ahead .limits) _
+                (twin-keeps (ahead .first) (ahead .second) (ahead .sameSide) (ahead .sameHours) (day .hours) _ (ahead .limits)
                 (rw (block-b (ahead .second)) at (before b (ahead .second) (within .1) is)))
             | no y ↦ before j (ahead .first) k
                 (sym (getD-set-other set a j true false y) ∙ sym (getD-set-other (put set a true) b j false false z) ∙ e)
@@ -228,7 +292,7 @@ module _ (day : Day) (p : ℕ → ℕ) (a b : ℕ) (ahead : Ahead day p a b) (se
         (λ h k. rw (same-place h) (lawful-clears day set size prices hours law h k))
         (rw same-places exchanged-keeps)
 
-    -- its welfare is no less, and more where the first has the higher number
+    -- the exchanged set's welfare is no less, and more where the first has the higher number
     pub exchanged-gains : (welfare day set ≤ welfare day (put (put set a true) b false))
         × (b < a → welfare day set < welfare day (put (put set a true) b false))
     exchanged-gains =
@@ -263,17 +327,17 @@ module _ (day : Day) (prices : PricesInRange (day .steps)) (hours : HoursInRange
       let f = outcome-first day (empty-lawful day prices hours) in
       absurd (not-first day p a b ahead (outcome day) (f .ofBlocks) out is prices hours (f .isLawful) f))
 
-  -- SETS IN TURN take no block without those ahead of it; the published set is one
+  -- so it is a set in turn
   pub outcome-in-turn : InTurn day p (outcome day)
   outcome-in-turn = outcome-ahead
 
--- the next block is not taken where one ahead of it is left out
+-- A SEARCH AMONG SETS IN TURN: the next block is not taken where one ahead of it is left out
 pub turn-left : (day : Day) (p : ℕ → ℕ) (d : List Bool) (a : ℕ) → a < length d → Ahead day p a (length d) → getD d a false ≡ false →
     (t : List Bool) → InTurn day p (d ++ (true ∷ t)) → ⊥
 turn-left day p d a k ahead out t turn =
     clash (turn a (length d) ahead (getD-append-seam d true t false)) (List·getD-append d (true ∷ t) false a k ∙ out)
 
--- it is not left out where one behind it is taken
+-- and it is not left out where one behind it is taken
 pub turn-taken : (day : Day) (p : ℕ → ℕ) (d : List Bool) (b : ℕ) → b < length d → Ahead day p (length d) b → getD d b false ≡ true →
     (t : List Bool) → InTurn day p (d ++ (false ∷ t)) → ⊥
 turn-taken day p d b k ahead is t turn =
