@@ -1,7 +1,8 @@
 -- WHAT THE SEARCH MEANS: the day behind its tables, the branch behind its state, and what it promises of the best it gives back. These are the
 -- contracts of private functions; the promise of the clearing itself is in Promise. Definitions only. Assumes nothing.
 use Prim.Native.Nat.{ℕ, suc, _+_, _-_, _*_, _^_, _≤_, _<_}
-use mathlib.Core.Bool.{Bool, true}
+use mathlib.Core.Bool.{Bool, true, not}
+use lib.Dec.{eqb}
 use mathlib.Core.List.{List, _∷_, _++_}
 use mathlib.Core.Path.{_≡_}
 use lib.ListN.{length, drop, getD}
@@ -18,16 +19,18 @@ use Rattle.rules.proofs.BoundLaws.{gain}
 use Rattle.rules.proofs.LossLaws.{against, losses, lossOf}
 use Rattle.rules.proofs.LossSearchLaws as by-loss
 use Rattle.rules.proofs.PlaceLaws.{place, hourAt}
-use Rattle.clearing.specs.Search.{Small, cell, ofHour, sideAt, hoursAt, quantityAt, limitAt, againstAt, gainAt}
+use Rattle.rules.proofs.TwinLaws.{Ahead, InTurn}
+use Rattle.clearing.specs.Search.{Small, cell, ofHour, sideAt, hoursAt, limitAt, againstAt, gainAt, aheadAt, behindAt, rowAt}
 use Rattle.clearing.specs.declared.search.Day as code-day
 use Rattle.clearing.specs.declared.search.Best.{Best}
 use Rattle.clearing.specs.declared.search.Node.{Node}
-use Rattle.rules.specs.Hour.{bySide, when}
+use Rattle.rules.specs.Hour.{when}
 
 -- SIZES, for safe arithmetic and indexing
 pub record BlocksSized (blocks : List ℕ) : Type 0 where
-  pub columns : length blocks ≡ 192
-  pub quantitiesFit : (i : ℕ) → i < 32 → quantityAt blocks i ≤ 50000
+  pub columns : length blocks ≡ 1024
+  pub rowsFit : (i h : ℕ) → rowAt blocks i h ≤ 50000
+  pub twinsFit : (i : ℕ) → i < 32 → (aheadAt blocks i ≤ 32) × (behindAt blocks i ≤ 32)
 
 pub record Sized (low gap first last blocks : List ℕ) : Type 0 where
   pub lowRows : length low ≡ 38448
@@ -52,7 +55,7 @@ pub record Shown (day : Day) (p : ℕ → ℕ) (blocks : List ℕ) (j : ℕ) : T
   pub next : drop j (day .blocks) ≡ block ∷ drop (suc j) (day .blocks)
   pub sideIs : block .side ≡ sideFor (sideAt blocks j)
   pub runsIs : (h : ℕ) → block .runs h ≡ holdsHour (hoursAt blocks j) h
-  pub quantityIs : block .quantity ≡ quantityAt blocks j
+  pub rowIs : (h : ℕ) → 1 ≤ h → h ≤ 24 → rowAt blocks j h ≡ when (block .runs h) (block .quantity)
   pub limitIs : block .price * hourCount (day .hours) block ≡ limitAt blocks j
   pub againstIs : against (day .hours) p block ≡ againstAt blocks j
   pub gainIs : gain (day .hours) p block ≡ gainAt blocks j
@@ -72,6 +75,9 @@ pub record Known (day : Day) (p rest : ℕ → ℕ) (low gap first last blocks :
   -- the gap table
   pub gapIs : (h i : ℕ) → 1 ≤ h → h ≤ 24 → ofHour first h ≤ i → i ≤ ofHour last h → slack (p h) (hourAt day h i) ≡ cell gap h i + rest h
   pub shown : (j : ℕ) → j < count → Shown day p blocks j
+  -- the twins
+  pub ahead : (j a : ℕ) → j < count → aheadAt blocks j ≡ suc a → (a < j) × Ahead day p a j
+  pub behind : (j b : ℕ) → j < count → behindAt blocks j ≡ suc b → (b < j) × Ahead day p j b
 
 -- Each hour's gaps fall to the place where they turn, and rise from it.
 pub record Turning (gap first last turn : List ℕ) : Type 0 where
@@ -99,7 +105,7 @@ pub record DayOf (day : Day) (set : List Bool) (found : code-day.Day) : Type 0 w
 
 -- WHAT A BRANCH GIVES BACK of the best so far
 pub record Outcome (day : Day) (p rest : ℕ → ℕ) (count left : ℕ) (d : List Bool) (best r : Best) : Type 0 where
-  pub explored : by-loss.Explored day (lossAbove day p rest) left d (bestAs count best) (bestAs count r)
+  pub explored : by-loss.Explored day (InTurn day p) (lossAbove day p rest) left d (bestAs count best) (bestAs count r)
   pub same : r .limit ≡ best .limit → r ≡ best
   pub found : r .limit < best .limit → (r .set < 2 ^ count) × DayOf day (decisions count (r .set)) (r .day)
 
@@ -126,13 +132,13 @@ pub record TakenTo (blocks : List ℕ) (at : ℕ) (node r : Node) : Type 0 where
   pub setIs : r .set ≡ node .set + 2 ^ at
   pub lossIs : r .loss ≡ node .loss + againstAt blocks at
   pub placesAre : (h : ℕ) → 1 ≤ h → h ≤ 24 →
-      ofHour (r .places) h ≡ ofHour (node .places) h + when (holdsHour (hoursAt blocks at) h) (bySide (sideFor (sideAt blocks at)) 0 (quantityAt blocks at))
+      ofHour (r .places) h ≡ ofHour (node .places) h + when (not (eqb (sideAt blocks at) 0)) (rowAt blocks at h)
 
 pub record LeftTo (blocks : List ℕ) (at : ℕ) (node r : Node) : Type 0 where
   pub setIs : r .set ≡ node .set
   pub lossIs : r .loss ≡ node .loss + gainAt blocks at
   pub placesAre : (h : ℕ) → 1 ≤ h → h ≤ 24 →
-      ofHour (r .places) h ≡ ofHour (node .places) h + when (holdsHour (hoursAt blocks at) h) (bySide (sideFor (sideAt blocks at)) (quantityAt blocks at) 0)
+      ofHour (r .places) h ≡ ofHour (node .places) h + when (eqb (sideAt blocks at) 0) (rowAt blocks at h)
 
 -- THE PUBLISHED SET, with its day
 abbrev pub FoundIn : (low gap first last turn blocks : List ℕ) (count : ℕ) (r : Best) → Type 0

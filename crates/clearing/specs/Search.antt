@@ -4,7 +4,7 @@ use mathlib.Core.Bool.{Bool, true, false, cond, not, _&&_, _||_}
 use mathlib.Core.List.{List, [], _∷_}
 use mathlib.Core.Path.{_≡_}
 use lib.Dec.{eqb, leb}
-use lib.ListN.{length, getD}
+use lib.ListN.{length, take, drop, getD}
 use Rattle.rules.specs.Execution.{testSide}
 use Rattle.orders.specs.Columns.{sideFor}
 use Rattle.rules.specs.Hour.{bySide, when}
@@ -28,6 +28,16 @@ cell table h i = getD table ((h - 1) * 1602 + i) 0
 abbrev pub ofHour : List ℕ → ℕ → ℕ
 ofHour column h = getD column (h - 1) 0
 
+-- THE HOURS: three columns of 24 numbers: the first and the last place at which each clears, and the place of its least gap, where its gaps turn.
+abbrev pub firstOf : List ℕ → List ℕ
+firstOf hours = take 24 hours
+
+abbrev pub lastOf : List ℕ → List ℕ
+lastOf hours = take 24 (drop 24 hours)
+
+abbrev pub turnOf : List ℕ → List ℕ
+turnOf hours = take 24 (drop 48 hours)
+
 -- Each hour clears at its place, the place lying from the hour's first to its last.
 abbrev pub InRange : List ℕ → List ℕ → List ℕ → Type 0
 InRange first last places = (h : ℕ) → 1 ≤ h → h ≤ 24 → (ofHour first h ≤ ofHour places h) × (ofHour places h ≤ ofHour last h)
@@ -44,7 +54,8 @@ pub record PricesOf (low places prices : List ℕ) : Type 0 where
   pub are : (h : ℕ) → 1 ≤ h → h ≤ 24 → ofHour prices h ≡ (cell low h (ofHour places h) + cell low h (ofHour places h + 1)) / 2
   pub small : Small 300000 prices
 
--- THE BLOCKS: six columns of 32 numbers: side, hours, quantity, limit (price times hour count), loss if taken, loss if left out.
+-- THE BLOCKS: eight columns of 32 numbers: side, hours, quantity, limit (price times hour count), loss if taken, loss if left out, and for twins the
+-- earlier block that is taken before this one, and the one that is taken after it (0 for none, else its number and 1); then 32 rows of 24 hours.
 abbrev pub sideAt : List ℕ → ℕ → ℕ
 sideAt blocks i = getD blocks i 0
 
@@ -63,6 +74,23 @@ againstAt blocks i = getD blocks (128 + i) 0
 abbrev pub gainAt : List ℕ → ℕ → ℕ
 gainAt blocks i = getD blocks (160 + i) 0
 
+abbrev pub aheadAt : List ℕ → ℕ → ℕ
+aheadAt blocks i = getD blocks (192 + i) 0
+
+abbrev pub behindAt : List ℕ → ℕ → ℕ
+behindAt blocks i = getD blocks (224 + i) 0
+
+-- What block i trades in hour h.
+abbrev pub rowAt : List ℕ → ℕ → ℕ → ℕ
+rowAt blocks i h = getD blocks (256 + 24 * i + (h - 1)) 0
+
+-- A twin that is taken before block i is left out: block i is not taken. One that is taken after it is taken: block i is taken too.
+unfoldable pub isBarred : (blocks : List ℕ) (i set : ℕ) → Bool
+isBarred blocks i set = not (eqb (aheadAt blocks i) 0) && eqb (set / 2 ^ (aheadAt blocks i - 1) % 2) 0
+
+unfoldable pub isDue : (blocks : List ℕ) (i set : ℕ) → Bool
+isDue blocks i set = not (eqb (behindAt blocks i) 0) && eqb (set / 2 ^ (behindAt blocks i - 1) % 2) 1
+
 -- A block keeps its limit at a column of prices.
 unfoldable pub keepsAt : ℕ → ℕ → ℕ → List ℕ → Bool
 keepsAt side hours limit prices = testSide (sideFor side) (leb (sumOfHours prices hours) limit) (leb limit (sumOfHours prices hours))
@@ -76,26 +104,29 @@ allKeep blocks set high low (suc i) =
     && allKeep blocks set high low i
 
 -- THE REACH: the places that a branch can still come to, hour by hour. With so much lost, a decision that loses up to the limit is not made.
--- What block i must add to the places of its hours: as a buy that is left out for certain, as a sell that is taken for certain.
-unfoldable pub mustAdd : (blocks : List ℕ) (loss limit i : ℕ) → ℕ
-mustAdd blocks loss limit i =
-    cond (leb limit (loss + againstAt blocks i)) (bySide (sideFor (sideAt blocks i)) (quantityAt blocks i) 0)
-    (cond (leb limit (loss + gainAt blocks i)) (bySide (sideFor (sideAt blocks i)) 0 (quantityAt blocks i)) 0)
+abbrev pub isLeft : (blocks : List ℕ) (loss limit i : ℕ) → Bool
+isLeft blocks loss limit i = leb limit (loss + againstAt blocks i)
 
--- What it may add: its quantity where neither is certain.
-unfoldable pub mayAdd : (blocks : List ℕ) (loss limit i : ℕ) → ℕ
-mayAdd blocks loss limit i =
-    cond (leb limit (loss + againstAt blocks i)) 0 (cond (leb limit (loss + gainAt blocks i)) 0 (quantityAt blocks i))
+abbrev pub isTaken : (blocks : List ℕ) (loss limit i : ℕ) → Bool
+isTaken blocks loss limit i = leb limit (loss + gainAt blocks i)
 
--- The sum over the next n blocks from number i on of what each adds in hour h.
-unfoldable pub addedIn : (blocks : List ℕ) → (ℕ → ℕ) → ℕ → ℕ → ℕ → ℕ
-addedIn blocks add h zero i = 0
-addedIn blocks add h (suc n) i = when (holdsHour (hoursAt blocks i) h) (add i) + addedIn blocks add h n (suc i)
+-- Block i moves the places of its hours on for certain: as a buy that is left out, as a sell that is taken.
+unfoldable pub mustMove : (blocks : List ℕ) (loss limit i : ℕ) → Bool
+mustMove blocks loss limit i = (isLeft blocks loss limit i && eqb (sideAt blocks i) 0) || (isTaken blocks loss limit i && not (eqb (sideAt blocks i) 0))
+
+-- It may move them: neither decision is certain.
+unfoldable pub mayMove : (blocks : List ℕ) (loss limit i : ℕ) → Bool
+mayMove blocks loss limit i = not (isLeft blocks loss limit i) && not (isTaken blocks loss limit i)
+
+-- The sum over the next n blocks from number i on, of those that move, of what each trades in hour h.
+unfoldable pub addedIn : (blocks : List ℕ) → (ℕ → Bool) → ℕ → ℕ → ℕ → ℕ
+addedIn blocks moves h zero i = 0
+addedIn blocks moves h (suc n) i = when (moves i) (rowAt blocks i h) + addedIn blocks moves h n (suc i)
 
 -- The least places of the hours, and what the blocks from number j on are free to add.
 pub record RestOf (blocks : List ℕ) (count j loss limit : ℕ) (places least free : List ℕ) : Type 0 where
-  pub leastIs : (h : ℕ) → 1 ≤ h → h ≤ 24 → ofHour least h ≡ ofHour places h + addedIn blocks (mustAdd blocks loss limit) h (count - j) j
-  pub freeIs : (h : ℕ) → 1 ≤ h → h ≤ 24 → ofHour free h ≡ addedIn blocks (mayAdd blocks loss limit) h (count - j) j
+  pub leastIs : (h : ℕ) → 1 ≤ h → h ≤ 24 → ofHour least h ≡ ofHour places h + addedIn blocks (mustMove blocks loss limit) h (count - j) j
+  pub freeIs : (h : ℕ) → 1 ≤ h → h ≤ 24 → ofHour free h ≡ addedIn blocks (mayMove blocks loss limit) h (count - j) j
   pub leastFits : Small 1600000 least
   pub freeFits : Small 1600000 free
 

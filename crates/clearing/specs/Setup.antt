@@ -2,14 +2,17 @@
 use Prim.Native.Nat.{ℕ, zero, suc, _+_, _-_, _*_, _≤_, _<_}
 use mathlib.Core.List.{List}
 use mathlib.Core.Path.{_≡_}
+use mathlib.Core.Bool.{Bool, true, false}
+use lib.Dec.{leb}
 use lib.ListN.{length, take, drop, getD, set}
 use Rattle.book.specs.Records.{holdsHour, hourCount}
 use Rattle.book.specs.Refusals.{Accepted}
 use Rattle.orders.specs.Bridge.{dayFrom}
 use Rattle.orders.specs.Columns.{StepColumns, BlockColumns, sideFor}
 use Rattle.rules.specs.Hour.{bySide, when}
+use Rattle.rules.specs.Execution.{testSide}
 use Rattle.pricing.specs.Tables.{PriceTable, AllOf, ClearRange, GapTable}
-use Rattle.clearing.specs.Search.{Small, sideAt, hoursAt, quantityAt, limitAt, againstAt, gainAt, sumOfHours}
+use Rattle.clearing.specs.Search.{Small, sideAt, hoursAt, quantityAt, limitAt, againstAt, gainAt, aheadAt, behindAt, rowAt, sumOfHours}
 use Rattle.clearing.specs.Meaning.{Known, Turning}
 
 -- WHAT SAFETY ASKS of the columns
@@ -109,6 +112,56 @@ pub record Written (sides hours prices quantities root columns : List ℕ) (i : 
   pub gainIs : gainAt columns i ≡ getD quantities i 0
       * bySide (sideFor (getD sides i 0)) (getD prices i 0 * hourCount 24 (getD hours i 0) - sumOfHours root (getD hours i 0))
       (sumOfHours root (getD hours i 0) - getD prices i 0 * hourCount 24 (getD hours i 0))
+
+-- THE WHOLE LIST OF THE BLOCKS
+-- The six columns, and nothing behind them yet.
+pub record Widened (columns blocks : List ℕ) : Type 0 where
+  pub size : length blocks ≡ 1024
+  pub same : (k : ℕ) → k < 192 → getD blocks k 0 ≡ getD columns k 0
+  pub none : (k : ℕ) → 192 ≤ k → getD blocks k 0 ≡ 0
+
+-- No row stands yet, and no quantity is above 50.
+pub record RowsEmpty (blocks : List ℕ) : Type 0 where
+  pub small : (i : ℕ) → i < 32 → quantityAt blocks i ≤ 50
+  pub none : (k : ℕ) → 256 ≤ k → getD blocks k 0 ≡ 0
+
+-- The rows of the first count blocks stand.
+pub record RowsWritten (count : ℕ) (before blocks : List ℕ) : Type 0 where
+  pub size : length blocks ≡ 1024
+  pub same : (k : ℕ) → k < 256 → getD blocks k 0 ≡ getD before k 0
+  pub row : (j h : ℕ) → j < count → 1 ≤ h → h ≤ 24 → rowAt blocks j h ≡ when (holdsHour (hoursAt before j) h) (quantityAt before j)
+  pub fits : (k : ℕ) → 256 ≤ k → getD blocks k 0 ≤ 50
+
+-- Blocks a and b are twins: of the same side, hours and quantity.
+pub record TwinsAt (blocks : List ℕ) (a b : ℕ) : Type 0 where
+  pub sameSide : sideAt blocks a ≡ sideAt blocks b
+  pub sameHours : hoursAt blocks a ≡ hoursAt blocks b
+  pub sameQuantity : quantityAt blocks a ≡ quantityAt blocks b
+
+-- A limit is kept wherever another is.
+unfoldable pub noWorse : (side limit other : ℕ) → Bool
+noWorse side limit other = testSide (sideFor side) (leb other limit) (leb limit other)
+
+-- A number that is 0, or 1 and the number of an earlier twin that is taken before block i; .. that is taken after block i.
+abbrev pub AheadOf : (blocks : List ℕ) (i found : ℕ) → Type 0
+AheadOf blocks i found = (a : ℕ) → found ≡ suc a → (a < i) × TwinsAt blocks a i × (noWorse (sideAt blocks i) (limitAt blocks a) (limitAt blocks i) ≡ true)
+
+abbrev pub BehindOf : (blocks : List ℕ) (i found : ℕ) → Type 0
+BehindOf blocks i found = (b : ℕ) → found ≡ suc b →
+    (b < i) × TwinsAt blocks i b × (noWorse (sideAt blocks i) (limitAt blocks b) (limitAt blocks i) ≡ false) × (1 ≤ quantityAt blocks i)
+
+-- No twin stands yet.
+abbrev pub TwinsEmpty : List ℕ → Type 0
+TwinsEmpty blocks = (k : ℕ) → 192 ≤ k → k < 256 → getD blocks k 0 ≡ 0
+
+-- The twins of the first count blocks stand.
+pub record TwinsWritten (count : ℕ) (before blocks : List ℕ) : Type 0 where
+  pub size : length blocks ≡ 1024
+  pub columns : (k : ℕ) → k < 192 → getD blocks k 0 ≡ getD before k 0
+  pub rows : (k : ℕ) → 256 ≤ k → getD blocks k 0 ≡ getD before k 0
+  pub ahead : (i : ℕ) → i < count → AheadOf before i (aheadAt blocks i)
+  pub behind : (i : ℕ) → i < count → BehindOf before i (behindAt blocks i)
+  pub none : (i : ℕ) → count ≤ i → i < 32 → (aheadAt blocks i ≡ 0) × (behindAt blocks i ≡ 0)
 
 -- WHAT IS READY: the day of an accepted book behind the tables, at some prices.
 pub record Ready (b low gap first last turn columns : List ℕ) (count : ℕ) : Type 0 where

@@ -3,11 +3,10 @@
 ghost use mathlib.Core.Path.{_≡_};
 ghost use Prim.Native.Nat.{ℕ, _+_, _-_, _*_, _^_, _≤_, _<_};
 ghost use lib.ListN.{length, getD};
-ghost use Rattle.rules.specs.Hour.{bySide, when};
-ghost use Rattle.orders.specs.Columns.{sideFor};
+ghost use Rattle.rules.specs.Hour.{when};
 ghost use Rattle.book.specs.Records.{holdsHour};
 ghost use mathlib.Core.Bool.{false, cond};
-ghost use Rattle.clearing.specs.Search.{Small, sumOfHours, ofHour, GapsOf, PricesOf, keepsAt, allKeep, mustAdd, mayAdd, RestOf, ReachOf, leastGaps};
+ghost use Rattle.clearing.specs.Search.{Small, sumOfHours, ofHour, GapsOf, PricesOf, keepsAt, allKeep, mustMove, mayMove, isBarred, isDue, rowAt, RestOf, ReachOf, leastGaps, firstOf, lastOf, turnOf};
 ghost use Rattle.clearing.specs.Search as numbers;
 ghost use Rattle.clearing.specs.Meaning.{BlocksSized, Sized, Fits, Decided, TakenTo, LeftTo, DroppedFrom, ExploredFrom, FoundIn};
 
@@ -130,7 +129,7 @@ fn pick(test: bool, a: [u32; 24], b: [u32; 24]) -> [u32; 24]
 
 // Whether each of the first count blocks that the set holds keeps its limit: a buy at the low prices, a sell at the high ones.
 fn keeps_limits(blocks: &[u32], count: usize, set: u32, high: [u32; 24], low: [u32; 24]) -> bool
-    requires { ⌜ (length (now blocks) ≡ 192) × (count ≤ 32) × Small 300000 high × Small 300000 low ⌝ }
+    requires { ⌜ (length (now blocks) ≡ 1024) × (count ≤ 32) × Small 300000 high × Small 300000 low ⌝ }
     ensures { λ r. ⌜ r ≡ allKeep (now (blocks .entry)) set high low count ⌝ }
 {
     let mut i = count;
@@ -147,32 +146,37 @@ fn keeps_limits(blocks: &[u32], count: usize, set: u32, high: [u32; 24], low: [u
     true
 }
 
+// What is decided in a branch: its set, what that loses, and the hours' places.
+pub struct Node {
+    pub set: u32,
+    pub loss: u64,
+    pub places: [u32; 24],
+}
+
 // All blocks are decided: the set becomes the best where it is lawful and loses less.
 fn decide(
     low: &[u32],
     gap: &[u32],
-    first: &[u32],
-    last: &[u32],
+    hours: &[u32],
     blocks: &[u32],
     count: u32,
-    set: u32,
-    loss: u64,
-    places: [u32; 24],
+    node: Node,
     best: Best,
 ) -> Best
-    requires { ⌜ Sized (now low) (now gap) (now first) (now last) (now blocks) × (count ≤ 32) × (loss ≤ 32 * 2 ^ 32) ⌝ }
-    ensures { λ r. ⌜ Decided (now (low .entry)) (now (gap .entry)) (now (first .entry)) (now (last .entry)) (now (blocks .entry)) count set loss places best r ⌝ }
+    requires { ⌜ Sized (now low) (now gap) (firstOf (now hours)) (lastOf (now hours)) (now blocks) × (length (now hours) ≡ 72) × (count ≤ 32) × (node .loss ≤ 32 * 2 ^ 32) ⌝ }
+    ensures { λ r. ⌜ Decided (now (low .entry)) (now (gap .entry)) (firstOf (now (hours .entry))) (lastOf (now (hours .entry))) (now (blocks .entry)) count (node .set) (node .loss) (node .places) best r ⌝ }
 {
-    let gaps = gaps_at(gap, first, last, places);
+    let places = node.places;
+    let gaps = gaps_at(gap, &hours[0..24], &hours[24..48], places);
     if !gaps.clears {
         return best;
     }
-    let total = loss + gaps.sum;
+    let total = node.loss + gaps.sum;
     if best.limit <= total {
         return best;
     }
     let prices = prices_at(low, places);
-    if !keeps_limits(blocks, count as usize, set, prices, prices) {
+    if !keeps_limits(blocks, count as usize, node.set, prices, prices) {
         return best;
     }
     let day = Day {
@@ -181,16 +185,27 @@ fn decide(
     };
     Best {
         limit: total,
-        set: set,
+        set: node.set,
         day: day,
     }
 }
 
-// What is decided in a branch: its set, what that loses, and the hours' places.
-pub struct Node {
-    pub set: u32,
-    pub loss: u64,
-    pub places: [u32; 24],
+// The places with what block i trades in each hour more, where the test passes.
+fn moved_where(test: bool, places: [u32; 24], blocks: &[u32], i: usize) -> [u32; 24]
+    requires { ⌜ BlocksSized (now blocks) × (i < 32) × Small 1600000 places ⌝ }
+    ensures { λ r. ⌜ (length r ≡ 24) × ((h : ℕ) → 1 ≤ h → h ≤ 24 → getD r (h - 1) 0 ≡ getD places (h - 1) 0 + when test (rowAt (now (blocks .entry)) i h)) ⌝ }
+{
+    let mut r = places;
+    if !test {
+        return r;
+    }
+    let row = 256 + 24 * i;
+    let mut h: usize = 0;
+    while h < 24 {
+        r[h] += blocks[row + h];
+        h += 1;
+    }
+    r
 }
 
 // The node with block number at taken: a sell moves the places on in its hours.
@@ -200,12 +215,11 @@ fn take(blocks: &[u32], at: u32, node: Node) -> Node
 {
     let i = at as usize;
     let places = node.places;
-    let further = moved(places, blocks[32 + i], blocks[64 + i]);
-    let chosen = pick(blocks[i] != 0, further, places);
+    let moved = moved_where(blocks[i] != 0, places, blocks, i);
     Node {
         set: node.set + bit(at),
         loss: node.loss + (blocks[128 + i] as u64),
-        places: chosen,
+        places: moved,
     }
 }
 
@@ -216,12 +230,11 @@ fn leave(blocks: &[u32], at: u32, node: Node) -> Node
 {
     let i = at as usize;
     let places = node.places;
-    let further = moved(places, blocks[32 + i], blocks[64 + i]);
-    let chosen = pick(blocks[i] == 0, further, places);
+    let moved = moved_where(blocks[i] == 0, places, blocks, i);
     Node {
         set: node.set,
         loss: node.loss + (blocks[160 + i] as u64),
-        places: chosen,
+        places: moved,
     }
 }
 
@@ -239,40 +252,22 @@ fn smaller(a: u32, b: u32) -> u32
     if a <= b { a } else { b }
 }
 
-// The first number for a buy, the second for a sell.
-fn for_side(side: u32, a: u32, b: u32) -> u32
-    ensures { λ r. ⌜ r ≡ bySide (sideFor side) a b ⌝ }
-{
-    if side == 0 { a } else { b }
+// Whether an undecided block moves the places of its hours on for certain, and whether it may.
+pub struct Moves {
+    pub must: bool,
+    pub may: bool,
 }
 
-// What an undecided block must add to the places of its hours, and what it may.
-pub struct Adds {
-    pub must: u32,
-    pub may: u32,
-}
-
-fn adds_of(blocks: &[u32], i: usize, loss: u64, limit: u64) -> Adds
+fn moves_of(blocks: &[u32], i: usize, loss: u64, limit: u64) -> Moves
     requires { ⌜ BlocksSized (now blocks) × (i < 32) × (loss ≤ 32 * 2 ^ 32) ⌝ }
-    ensures { λ r. ⌜ (r .must ≡ mustAdd (now (blocks .entry)) loss limit i) × (r .may ≡ mayAdd (now (blocks .entry)) loss limit i) ⌝ }
+    ensures { λ r. ⌜ (r .must ≡ mustMove (now (blocks .entry)) loss limit i) × (r .may ≡ mayMove (now (blocks .entry)) loss limit i) ⌝ }
 {
-    let side = blocks[i];
-    let quantity = blocks[64 + i];
-    if limit <= loss + (blocks[128 + i] as u64) {
-        return Adds {
-            must: for_side(side, quantity, 0),
-            may: 0,
-        };
-    }
-    if limit <= loss + (blocks[160 + i] as u64) {
-        return Adds {
-            must: for_side(side, 0, quantity),
-            may: 0,
-        };
-    }
-    Adds {
-        must: 0,
-        may: quantity,
+    let buys = blocks[i] == 0;
+    let left_out = limit <= loss + (blocks[128 + i] as u64);
+    let taken = limit <= loss + (blocks[160 + i] as u64);
+    Moves {
+        must: (left_out & buys) | (taken & !buys),
+        may: !left_out & !taken,
     }
 }
 
@@ -299,9 +294,9 @@ fn rest_of(
     let mut i = count;
     while at < i {
         i -= 1;
-        let adds = adds_of(blocks, i, loss, limit);
-        let more = moved(least, blocks[32 + i], adds.must);
-        let freer = moved(free, blocks[32 + i], adds.may);
+        let moves = moves_of(blocks, i, loss, limit);
+        let more = moved_where(moves.must, least, blocks, i);
+        let freer = moved_where(moves.may, free, blocks, i);
         least = more;
         free = freer;
     }
@@ -349,39 +344,57 @@ fn least_gaps(gap: &[u32], turn: &[u32], from: [u32; 24], to: [u32; 24]) -> u64
     sum
 }
 
+// Whether the other way to decide the block that was decided last loses the limit or more: then what a branch can reach is as it was before that block.
+fn is_forced(blocks: &[u32], at: usize, set: u32, loss: u64, limit: u64) -> bool
+    requires { ⌜ BlocksSized (now blocks) × (at ≤ 32) × (loss ≤ 32 * 2 ^ 32) ⌝ }
+{
+    if at == 0 {
+        return false;
+    }
+    let i = at - 1;
+    let taken = (set >> (i as u32)) % 2 == 1;
+    let other = if taken {
+        blocks[160 + i]
+    } else {
+        blocks[128 + i]
+    };
+    limit <= loss + (other as u64)
+}
+
 // Whether a completion of the node may be lawful and lose less than the limit. None does where the decided blocks lose as much already, where an hour can
 // no longer balance, where the least gaps within reach come to as much, or where a taken block misses its limit at the best prices within reach.
 fn is_open(
     low: &[u32],
     gap: &[u32],
-    first: &[u32],
-    last: &[u32],
-    turn: &[u32],
+    hours: &[u32],
     blocks: &[u32],
     count: u32,
     left: u32,
     node: Node,
     limit: u64,
 ) -> bool
-    requires { ⌜ Sized (now low) (now gap) (now first) (now last) (now blocks) × (length (now turn) ≡ 24) × (count ≤ 32) × (left ≤ count) × Fits (count - left) (node .set) (node .loss) (node .places) ⌝ }
-    ensures { λ r. ⌜ (r ≡ false → DroppedFrom (now (low .entry)) (now (gap .entry)) (now (first .entry)) (now (last .entry)) (now (turn .entry))
+    requires { ⌜ Sized (now low) (now gap) (firstOf (now hours)) (lastOf (now hours)) (now blocks) × (length (now hours) ≡ 72) × (count ≤ 32) × (left ≤ count) × Fits (count - left) (node .set) (node .loss) (node .places) ⌝ }
+    ensures { λ r. ⌜ (r ≡ false → DroppedFrom (now (low .entry)) (now (gap .entry)) (firstOf (now (hours .entry))) (lastOf (now (hours .entry))) (turnOf (now (hours .entry)))
         (now (blocks .entry)) count left node limit) ⌝ }
 {
     if limit <= node.loss {
         return false;
     }
     let at = (count - left) as usize;
+    if is_forced(blocks, at, node.set, node.loss, limit) {
+        return true;
+    }
     let places = node.places;
     let rest = rest_of(blocks, count as usize, at, node.loss, limit, places);
     let least = rest.least;
     let free = rest.free;
-    let reach = reach_of(first, last, least, free);
+    let reach = reach_of(&hours[0..24], &hours[24..48], least, free);
     if !reach.balances {
         return false;
     }
     let from = reach.from;
     let to = reach.to;
-    if limit <= node.loss + least_gaps(gap, turn, from, to) {
+    if limit <= node.loss + least_gaps(gap, &hours[48..72], from, to) {
         return false;
     }
     let high = prices_at(low, from);
@@ -389,89 +402,70 @@ fn is_open(
     keeps_limits(blocks, at, node.set, high, lowest)
 }
 
-// Every way to decide the blocks that are left, each first taken and then left out. Each branch has its own node by value, so nothing is released.
+// Whether a twin that is taken before block i is left out.
+fn is_barred(blocks: &[u32], i: usize, set: u32) -> bool
+    requires { ⌜ BlocksSized (now blocks) × (i < 32) ⌝ }
+    ensures { λ r. ⌜ r ≡ isBarred (now (blocks .entry)) i set ⌝ }
+{
+    let ahead = blocks[192 + i];
+    if ahead == 0 {
+        return false;
+    }
+    (set >> (ahead - 1)) % 2 == 0
+}
+
+// Whether a twin that is taken after block i is taken.
+fn is_due(blocks: &[u32], i: usize, set: u32) -> bool
+    requires { ⌜ BlocksSized (now blocks) × (i < 32) ⌝ }
+    ensures { λ r. ⌜ r ≡ isDue (now (blocks .entry)) i set ⌝ }
+{
+    let behind = blocks[224 + i];
+    if behind == 0 {
+        return false;
+    }
+    (set >> (behind - 1)) % 2 == 1
+}
+
+// Every way to decide the blocks that are left, each first taken and then left out; of twins, the one that is taken before the other first. Each branch
+// has its own node by value, so nothing is released.
 fn explore(
     low: &[u32],
     gap: &[u32],
-    first: &[u32],
-    last: &[u32],
-    turn: &[u32],
+    hours: &[u32],
     blocks: &[u32],
     count: u32,
     left: u32,
     node: Node,
     best: Best,
 ) -> Best
-    requires { ⌜ Sized (now low) (now gap) (now first) (now last) (now blocks) × (length (now turn) ≡ 24) × (count ≤ 32) × (left ≤ count) × Fits (count - left) (node .set) (node .loss) (node .places) ⌝ }
-    ensures { λ r. ⌜ ExploredFrom (now (low .entry)) (now (gap .entry)) (now (first .entry)) (now (last .entry)) (now (turn .entry)) (now (blocks .entry)) count left node best r ⌝ }
+    requires { ⌜ Sized (now low) (now gap) (firstOf (now hours)) (lastOf (now hours)) (now blocks) × (length (now hours) ≡ 72) × (count ≤ 32) × (left ≤ count) × Fits (count - left) (node .set) (node .loss) (node .places) ⌝ }
+    ensures { λ r. ⌜ ExploredFrom (now (low .entry)) (now (gap .entry)) (firstOf (now (hours .entry))) (lastOf (now (hours .entry))) (turnOf (now (hours .entry))) (now (blocks .entry)) count left node best r ⌝ }
 {
-    if !is_open(
-        low,
-        gap,
-        first,
-        last,
-        turn,
-        blocks,
-        count,
-        left,
-        node,
-        best.limit,
-    ) {
+    let limit = best.limit;
+    if !is_open(low, gap, hours, blocks, count, left, node, limit) {
         return best;
     }
     if left == 0 {
-        let places = node.places;
-        return decide(
-            low,
-            gap,
-            first,
-            last,
-            blocks,
-            count,
-            node.set,
-            node.loss,
-            places,
-            best,
-        );
+        return decide(low, gap, hours, blocks, count, node, best);
     }
-    let taken = explore(
-        low,
-        gap,
-        first,
-        last,
-        turn,
-        blocks,
-        count,
-        left - 1,
-        take(blocks, count - left, node),
-        best,
-    );
-    explore(
-        low,
-        gap,
-        first,
-        last,
-        turn,
-        blocks,
-        count,
-        left - 1,
-        leave(blocks, count - left, node),
-        taken,
-    )
+    let at = count - left;
+    let after = left - 1;
+    let without = leave(blocks, at, node);
+    if is_barred(blocks, at as usize, node.set) {
+        return explore(low, gap, hours, blocks, count, after, without, best);
+    }
+    let with = take(blocks, at, node);
+    let taken = explore(low, gap, hours, blocks, count, after, with, best);
+    if is_due(blocks, at as usize, node.set) {
+        return taken;
+    }
+    explore(low, gap, hours, blocks, count, after, without, taken)
 }
 
 // The published set: a pass with a small threshold first, doubled until a pass finds a set. A pass that finds one has found the published one.
-pub fn find(
-    low: &[u32],
-    gap: &[u32],
-    first: &[u32],
-    last: &[u32],
-    turn: &[u32],
-    blocks: &[u32],
-    count: u32,
-) -> Best
-    requires { ⌜ Sized (now low) (now gap) (now first) (now last) (now blocks) × (length (now turn) ≡ 24) × (count ≤ 32) ⌝ }
-    ensures { λ r. ⌜ FoundIn (now (low .entry)) (now (gap .entry)) (now (first .entry)) (now (last .entry)) (now (turn .entry)) (now (blocks .entry)) count r ⌝ }
+pub fn find(low: &[u32], gap: &[u32], hours: &[u32], blocks: &[u32], count: u32) -> Best
+    requires { ⌜ Sized (now low) (now gap) (firstOf (now hours)) (lastOf (now hours)) (now blocks) × (length (now hours) ≡ 72) × (count ≤ 32) ⌝ }
+    ensures { λ r. ⌜ FoundIn (now (low .entry)) (now (gap .entry)) (firstOf (now (hours .entry))) (lastOf (now (hours .entry))) (turnOf (now (hours .entry))) (now (blocks .entry)) count r ⌝ }
 {
     let day = Day {
         prices: [0; 24],
@@ -489,18 +483,7 @@ pub fn find(
             set: 0,
             day: day,
         };
-        let found = explore(
-            low,
-            gap,
-            first,
-            last,
-            turn,
-            blocks,
-            count,
-            count,
-            root,
-            start,
-        );
+        let found = explore(low, gap, hours, blocks, count, count, root, start);
         if found.limit < limit {
             return found;
         }
@@ -511,16 +494,5 @@ pub fn find(
         set: 0,
         day: day,
     };
-    explore(
-        low,
-        gap,
-        first,
-        last,
-        turn,
-        blocks,
-        count,
-        count,
-        root,
-        start,
-    )
+    explore(low, gap, hours, blocks, count, count, root, start)
 }

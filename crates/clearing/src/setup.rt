@@ -4,10 +4,12 @@ ghost use Prim.Native.Nat.{ℕ, _+_, _-_, _*_, _≤_, _<_};
 ghost use lib.ListN.{length, getD};
 ghost use Rattle.rules.specs.Hour.{bySide};
 ghost use Rattle.orders.specs.Columns.{sideFor};
-ghost use Rattle.clearing.specs.Search.{Small};
+ghost use Rattle.clearing.specs.Search.{Small, quantityAt, firstOf, lastOf, turnOf};
+ghost use mathlib.Core.Bool.{true, cond};
 ghost use Rattle.clearing.specs.Setup.{StepsHeld, PartHeld, BlocksHeld, TableOf, RowsAre, RangedOf, RangesAre};
 ghost use Rattle.clearing.specs.Setup.{boughtIn, written, Written, ReadyFor};
-ghost use Rattle.clearing.specs.Meaning.{BlocksSized, Sized};
+ghost use Rattle.clearing.specs.Setup.{Widened, RowsEmpty, RowsWritten, TwinsAt, noWorse, AheadOf, BehindOf, TwinsEmpty, TwinsWritten};
+ghost use Rattle.clearing.specs.Meaning.{Sized};
 use crate::search::keeps_limit;
 use crate::search::moved;
 use crate::search::price_sum;
@@ -33,12 +35,10 @@ pub struct Ranges {
     pub turn: [u32; 24],
 }
 
-// What the search is given besides the two tables: the hours' ranges, and the blocks' six columns.
+// What the search is given besides the two tables: the hours' three columns, and the blocks' columns and rows.
 pub struct Prepared {
-    pub first: [u32; 24],
-    pub last: [u32; 24],
-    pub turn: [u32; 24],
-    pub columns: [u32; 192],
+    pub hours: [u32; 72],
+    pub columns: [u32; 1024],
 }
 
 // The price table of an hour, whose steps stand from a up to e.
@@ -226,7 +226,7 @@ fn block_columns(
     root: [u32; 24],
 ) -> [u32; 192]
     requires { ⌜ BlocksHeld count prices quantities × Small 300000 root ⌝ }
-    ensures sized { λ r. ⌜ BlocksSized r ⌝ }
+    ensures small { λ r. ⌜ ((i : ℕ) → i < 32 → quantityAt r i ≤ 50) ⌝ }
     ensures blocks { λ r. ⌜ ((i : ℕ) → i < count → Written sides hours prices quantities root r i) ⌝ }
 {
     let mut columns = [0; 192];
@@ -246,6 +246,140 @@ fn block_columns(
         i += 1;
     }
     columns
+}
+
+// The hours' three columns in one list.
+fn joined(first: [u32; 24], last: [u32; 24], turn: [u32; 24]) -> [u32; 72]
+    ensures { λ r. ⌜ (firstOf r ≡ first) × (lastOf r ≡ last) × (turnOf r ≡ turn) ⌝ }
+{
+    let mut r = [0; 72];
+    let mut h: usize = 0;
+    while h < 24 {
+        r[h] = first[h];
+        r[24 + h] = last[h];
+        r[48 + h] = turn[h];
+        h += 1;
+    }
+    r
+}
+
+// The blocks' six columns with room for their twins and rows.
+fn widened(columns: [u32; 192]) -> [u32; 1024]
+    ensures { λ r. ⌜ Widened columns r ⌝ }
+{
+    let mut r = [0; 1024];
+    let mut k: usize = 0;
+    while k < 192 {
+        r[k] = columns[k];
+        k += 1;
+    }
+    r
+}
+
+// The same with a row for each block: what it trades in each of the 24 hours.
+fn with_rows(count: usize, blocks: [u32; 1024]) -> [u32; 1024]
+    requires { ⌜ (count ≤ 32) × RowsEmpty blocks ⌝ }
+    ensures { λ r. ⌜ RowsWritten count blocks r ⌝ }
+{
+    let mut r = blocks;
+    let mut k: usize = 0;
+    while k < 24 * count {
+        let runs = (blocks[32 + k / 24] >> (k % 24)) % 2;
+        r[256 + k] = runs * blocks[64 + k / 24];
+        k += 1;
+    }
+    r
+}
+
+// Whether two blocks are twins: of the same side, hours and quantity.
+fn are_twins(blocks: &[u32], a: usize, b: usize) -> bool
+    requires { ⌜ (length (now blocks) ≡ 1024) × (a < 32) × (b < 32) ⌝ }
+    ensures { λ r. ⌜ (r ≡ true → TwinsAt (now (blocks .entry)) a b) ⌝ }
+{
+    let same_side = blocks[a] == blocks[b];
+    let same_hours = blocks[32 + a] == blocks[32 + b];
+    let same_quantity = blocks[64 + a] == blocks[64 + b];
+    (same_side & same_hours) & same_quantity
+}
+
+// Whether a limit is kept wherever another is: a buy's is no lower, a sell's no higher.
+fn is_no_worse(side: u32, limit: u32, other: u32) -> bool
+    ensures { λ r. ⌜ r ≡ noWorse side limit other ⌝ }
+{
+    if side == 0 {
+        other <= limit
+    } else {
+        limit <= other
+    }
+}
+
+// The first number where the test passes, else the second.
+fn choose(test: bool, a: u32, b: u32) -> u32
+    ensures { λ r. ⌜ r ≡ cond test a b ⌝ }
+{
+    if test { a } else { b }
+}
+
+// Of the blocks before block i, the twin that is taken before it, the last by limit; its number and 1, or 0 for none.
+fn twin_ahead(blocks: &[u32], i: usize) -> u32
+    requires { ⌜ (length (now blocks) ≡ 1024) × (i < 32) ⌝ }
+    ensures { λ r. ⌜ AheadOf (now (blocks .entry)) i r ⌝ }
+{
+    let side = blocks[i];
+    let limit = blocks[96 + i];
+    let mut found: u32 = 0;
+    let mut edge = choose(side == 0, 4294967295, 0);
+    let mut j: usize = 0;
+    while j < i {
+        let here = blocks[96 + j];
+        let ahead = are_twins(blocks, j, i) & is_no_worse(side, here, limit);
+        let test = ahead & is_no_worse(side, edge, here);
+        let next = choose(test, (j + 1) as u32, found);
+        let nearer = choose(test, here, edge);
+        found = next;
+        edge = nearer;
+        j += 1;
+    }
+    found
+}
+
+// Of the blocks before block i, the twin that is taken after it, the first by limit; its number and 1, or 0 for none.
+fn twin_behind(blocks: &[u32], i: usize) -> u32
+    requires { ⌜ (length (now blocks) ≡ 1024) × (i < 32) ⌝ }
+    ensures { λ r. ⌜ BehindOf (now (blocks .entry)) i r ⌝ }
+{
+    let side = blocks[i];
+    let limit = blocks[96 + i];
+    let trades = 0 < blocks[64 + i];
+    let mut found: u32 = 0;
+    let mut edge = choose(side == 0, 0, 4294967295);
+    let mut j: usize = 0;
+    while j < i {
+        let here = blocks[96 + j];
+        let behind = (are_twins(blocks, i, j) & !is_no_worse(side, here, limit)) & trades;
+        let test = behind & is_no_worse(side, here, edge);
+        let next = choose(test, (j + 1) as u32, found);
+        let nearer = choose(test, here, edge);
+        found = next;
+        edge = nearer;
+        j += 1;
+    }
+    found
+}
+
+// The same with the twins of each block.
+fn with_twins(count: usize, blocks: [u32; 1024]) -> [u32; 1024]
+    requires { ⌜ (count ≤ 32) × TwinsEmpty blocks ⌝ }
+    ensures { λ r. ⌜ TwinsWritten count blocks r ⌝ }
+{
+    let mut r = blocks;
+    let mut i: usize = 0;
+    while i < count {
+        r[192 + i] = twin_ahead(&blocks, i);
+        r[224 + i] = twin_behind(&blocks, i);
+        i += 1;
+    }
+    r
 }
 
 // The places where each block that gains at the prices is taken, and no other.
@@ -366,10 +500,10 @@ pub fn prepare(
     requires steps { ⌜ StepsHeld (now sides) (now prices) (now quantities) ends ⌝ }
     requires blocks { ⌜ BlocksHeld (blocks .count) (blocks .prices) (blocks .quantities) ⌝ }
     requires tables { ⌜ (length (now low) ≡ 38448) × (length (now gap) ≡ 38448) ⌝ }
-    ensures sized { λ r. ⌜ Sized (now (low .exit)) (now (gap .exit)) (r .first) (r .last) (r .columns) × (length (r .turn) ≡ 24) ⌝ }
+    ensures sized { λ r. ⌜ Sized (now (low .exit)) (now (gap .exit)) (firstOf (r .hours)) (lastOf (r .hours)) (r .columns) ⌝ }
     ensures ready { λ r. ⌜ ReadyFor (now (sides .entry)) (now (prices .entry)) (now (quantities .entry)) ends
         (blocks .count) (blocks .records) (blocks .sides) (blocks .hours) (blocks .prices) (blocks .quantities)
-        (now (low .exit)) (now (gap .exit)) (r .first) (r .last) (r .turn) (r .columns) ⌝ }
+        (now (low .exit)) (now (gap .exit)) (firstOf (r .hours)) (lastOf (r .hours)) (turnOf (r .hours)) (r .columns) ⌝ }
 {
     let count = blocks.count;
     let block_sides = blocks.sides;
@@ -384,10 +518,10 @@ pub fn prepare(
     let first = ranges.first;
     let last = ranges.last;
     let turn = ranges.turn;
+    let wide = widened(columns);
+    let traded = with_rows(count, wide);
     Prepared {
-        first,
-        last,
-        turn,
-        columns,
+        hours: joined(first, last, turn),
+        columns: with_twins(count, traded),
     }
 }
