@@ -1,0 +1,98 @@
+-- The lines of hours and of blocks, written one after another. Assumes nothing.
+use mathlib.Core.Path.{_≡_, refl, sym, ap, _∙_}
+use mathlib.Core.List.{List, [], _∷_, _++_, append-assoc, append-nil}
+use Prim.Native.Nat.{ℕ, zero, suc, _+_, _-_, _≤_, _<_}
+use native.Mathlib.Omega.{arith}
+use native.Mathlib.Nat.{add-zero, add-suc}
+use native.Mathlib.Numerals.{add-one}
+use lib.ListN.{length, take, drop, getD, length-append, take-append-drop}
+use lib.Seq.{take-suc, getD-take}
+use Rattle.book.specs.Records.{number}
+use Rattle.clearing.proofs.ByteLaws.{splice-none}
+use Rattle.sheet.specs.Text.{HasRoom, Put}
+use Rattle.sheet.specs.Sheet.{hourLine, hourLines, blockLine}
+use Rattle.sheet.specs.Lines.{takenAt, blockLinesIn}
+use Rattle.sheet.proofs.TextLaws.{room-then, put-then}
+
+-- nothing is put
+pub put-none : (l : List ℕ) (at : ℕ) → Put l at [] l at
+put-none l at = record { written = splice-none l at; ends = sym (add-zero at) }
+
+-- HOURS
+module _ (price traded : ℕ → ℕ) where
+  pub no-hours : hourLines 0 price traded ≡ []
+  unfolding hourLines
+  no-hours = refl
+
+  hour-more : (h : ℕ) → hourLines (h + 1) price traded ≡ hourLines h price traded ++ hourLine (h + 1) (price (h + 1)) (traded (h + 1))
+  unfolding hourLines
+  hour-more h = rw add-one
+
+  -- the lines of fewer hours are shorter
+  hours-shorter : (n m : ℕ) → length (hourLines n price traded) ≤ length (hourLines (n + m) price traded)
+  unfolding hourLines
+  hours-shorter n zero = rw add-zero (omega arith)
+  hours-shorter n (suc m) =
+      rw add-suc (omega (arith, hours-shorter n m, length-append (hourLines (n + m) price traded) (hourLine (suc (n + m)) (price (suc (n + m))) (traded (suc (n + m))))))
+
+  module _ (l : List ℕ) (at h : ℕ) (below : h < 24) (fits : HasRoom l at (hourLines 24 price traded)) where
+    hours-room : HasRoom l at (hourLines h price traded ++ hourLine (h + 1) (price (h + 1)) (traded (h + 1)))
+    hours-room =
+        let e : h + 1 + (23 - h) ≡ 24 = omega arith in
+        let n = rw e at (hours-shorter (h + 1) (23 - h)) in
+        rw (← (hour-more h)) (omega arith)
+
+    module _ (m : List ℕ) (p : ℕ) (before : Put l at (hourLines h price traded) m p) where
+      -- the next line has room
+      pub hour-room : HasRoom m p (hourLine (h + 1) (price (h + 1)) (traded (h + 1)))
+      hour-room = room-then l at _ _ hours-room m p before
+
+      -- and is put
+      pub hour-put : (r : List ℕ) (q : ℕ) → Put m p (hourLine (h + 1) (price (h + 1)) (traded (h + 1))) r q → Put l at (hourLines (h + 1) price traded) r q
+      hour-put r q line = rw (hour-more h) (put-then l at _ _ hours-room m p before r q line)
+
+-- BLOCKS
+module _ (b result : List ℕ) where
+  pub no-blocks : blockLinesIn b result [] ≡ []
+  unfolding blockLinesIn
+  no-blocks = refl
+
+  blocks-append : (k l : List ℕ) → blockLinesIn b result (k ++ l) ≡ blockLinesIn b result k ++ blockLinesIn b result l
+  unfolding blockLinesIn
+  blocks-append [] l = refl
+  blocks-append (x ∷ k) l = rw (blocks-append k l, append-assoc)
+
+  blocks-one : (k : ℕ) → blockLinesIn b result (k ∷ []) ≡ blockLine (number b k) (takenAt b result k)
+  unfolding blockLinesIn
+  blocks-one k = append-nil _
+
+  -- the record in place i of a column whose front the records are
+  module _ (records column : List ℕ) (count i : ℕ) (front : take count column ≡ records) (counted : count ≡ length records) (below : i < count) where
+    abbrev k : ℕ
+    k = getD column i 0
+
+    abbrev line : List ℕ
+    line = blockLine (number b k) (takenAt b result k)
+
+    record-is : getD records i 0 ≡ k
+    record-is = rw (← front) (getD-take count column i 0 below)
+
+    block-more : blockLinesIn b result (take (i + 1) records) ≡ blockLinesIn b result (take i records) ++ line
+    block-more =
+        ap (blockLinesIn b result) (rw (add-one, ← record-is) (take-suc records i 0 (omega arith)))
+        ∙ blocks-append (take i records) (k ∷ []) ∙ rw (blocks-one k)
+
+    module _ (l : List ℕ) (at : ℕ) (fits : HasRoom l at (blockLinesIn b result records)) where
+      blocks-room : HasRoom l at (blockLinesIn b result (take i records) ++ line)
+      blocks-room =
+          let n = blocks-append (take (i + 1) records) (drop (i + 1) records) in
+          let whole = ap (blockLinesIn b result) (take-append-drop (i + 1) records) in
+          rw (← block-more) (omega (arith, ap length (sym whole ∙ n), length-append (blockLinesIn b result (take (i + 1) records)) (blockLinesIn b result (drop (i + 1) records))))
+
+      module _ (m : List ℕ) (p : ℕ) (before : Put l at (blockLinesIn b result (take i records)) m p) where
+        pub block-room : HasRoom m p (blockLine (number b (getD column i 0)) (takenAt b result (getD column i 0)))
+        block-room = room-then l at _ _ blocks-room m p before
+
+        pub block-put : (r : List ℕ) (q : ℕ) → Put m p (blockLine (number b (getD column i 0)) (takenAt b result (getD column i 0))) r q →
+            Put l at (blockLinesIn b result (take (i + 1) records)) r q
+        block-put r q one = rw block-more (put-then l at _ _ blocks-room m p before r q one)

@@ -1,0 +1,122 @@
+-- Text put into a buffer, and how long numbers are in decimal. Assumes nothing.
+use mathlib.Core.Path.{_≡_, refl, sym, ap, _∙_}
+use mathlib.Core.Bool.{Bool, true, false, cond}
+use mathlib.Core.List.{List, [], _∷_, _++_}
+use Prim.Native.Nat.{ℕ, zero, suc, _+_, _*_, _/_, _%_, _^_, _≤_, _<_, zero-le}
+use native.Mathlib.Omega.{arith}
+use native.Mathlib.Nat.{pow-suc}
+use native.Mathlib.Numerals.{add-one}
+use lib.Dec.{ltb}
+use lib.ListN.{length, take, set, getD, length-append}
+use lib.Seq.{length-take-le, take-all, take-suc, set-split}
+use borrow.Author.Tests.{lt-ltb, le-ltb}
+use Rattle.clearing.specs.Rows.{splice}
+use Rattle.clearing.proofs.ByteLaws.{length-splice, splice-splice, then}
+use Rattle.rules.proofs.Tests.{by-lt}
+use Rattle.sheet.specs.Text.{digit, decimalIn, decimal, field, HasRoom, Put}
+
+-- ONE BYTE
+pub splice-one : (l : List ℕ) (at x : ℕ) → at < length l → set l at x ≡ splice l at (x ∷ [])
+unfolding splice
+splice-one l at x h = rw add-one (set-split l at x h)
+
+-- BYTES AFTER BYTES
+module _ (l : List ℕ) (at : ℕ) (a b : List ℕ) (fits : HasRoom l at (a ++ b)) where
+  -- the first have room
+  pub room-first : HasRoom l at a
+  room-first = omega (arith, length-append a b)
+
+  module _ (m : List ℕ) (p : ℕ) (first : Put l at a m p) where
+    -- the others have room behind them
+    pub room-then : HasRoom m p b
+    room-then =
+        rw (first .written, first .ends) (omega (arith, length-append a b, length-splice l at a room-first))
+
+    -- and both together are put
+    pub put-then : (r : List ℕ) (q : ℕ) → Put m p b r q → Put l at (a ++ b) r q
+    put-then r q second =
+        record {
+          written = then l m r at p a b (omega (arith, length-append a b)) (first .written) (first .ends) (second .written);
+          ends = omega (arith, length-append a b, first .ends, second .ends);
+        }
+
+    -- so where the second is one byte
+    pub room-byte : (x : ℕ) → b ≡ x ∷ [] → p < length m
+    room-byte x e = omega (arith, ap length e, room-then)
+
+    pub put-byte : (x : ℕ) → b ≡ x ∷ [] → Put l at (a ++ b) (set m p x) (p + 1)
+    put-byte x e = put-then (set m p x) (p + 1) (record { written = splice-one m p x (room-byte x e) ∙ rw e; ends = omega (arith, ap length e) })
+
+-- the same bytes told in another way
+pub put-as : (l : List ℕ) (at : ℕ) (a b r : List ℕ) (q : ℕ) → a ≡ b → Put l at a r q → Put l at b r q
+put-as l at a b r q e p = rw e at p
+
+-- a turn of the loop that copies bytes
+pub copied-more : (l m words : List ℕ) (at i : ℕ) → HasRoom l at words → i < length words → m ≡ splice l at (take i words) →
+    set m (at + i) (getD words i 0) ≡ splice l at (take (i + 1) words)
+copied-more l m words at i fits h e =
+    let n : length (take i words) ≡ i = length-take-le i words (omega arith) in
+    let all : take (i + 1) words ≡ take i words ++ (getD words i 0 ∷ []) = rw add-one (take-suc words i 0 h) in
+    put-byte l at (take i words) (getD words i 0 ∷ []) (omega (arith, length-append (take i words) (getD words i 0 ∷ []))) m (at + i)
+    (record { written = e; ends = omega arith }) (getD words i 0) refl .written
+    ∙ ap (splice l at) (sym all)
+
+-- NUMBERS IN DECIMAL
+one-digit : (n : ℕ) → n < 10 → decimal n ≡ digit n ∷ []
+unfolding decimal decimalIn
+one-digit n h = rw (lt-ltb n 10 h)
+
+-- room for one digit more changes nothing where the number fits already
+enough : (k n : ℕ) → n < 10 ^ suc k → decimalIn (suc (suc k)) n ≡ decimalIn (suc k) n
+unfolding decimalIn
+enough zero n h = rw (lt-ltb n 10 h)
+enough (suc k) n h =
+    by-lt (λ t. cond t (digit n ∷ []) (decimalIn (suc (suc k)) (n / 10) ++ (digit n ∷ [])) ≡ cond t (digit n ∷ []) (decimalIn (suc k) (n / 10) ++ (digit n ∷ [])))
+    n 10 (λ g. refl) (λ g. let g : n < 10 ^ suc k * 10 = rw pow-suc at h in rw (enough k (n / 10) (omega arith)))
+
+last-digit : (k n : ℕ) → 10 ≤ n → decimalIn (suc k) n ≡ decimalIn k (n / 10) ++ (digit n ∷ [])
+unfolding decimalIn
+last-digit k n g = rw (le-ltb n 10 g)
+
+pub more-digits : (n : ℕ) → n < 2 ^ 64 → 10 ≤ n → decimal n ≡ decimal (n / 10) ++ (digit n ∷ [])
+unfolding decimal
+more-digits n h g = last-digit 19 n g ∙ ap (λ (d : List ℕ). d ++ (digit n ∷ [])) (sym (enough 18 (n / 10) (omega arith)))
+
+-- a number below 10 ^ k has at most k digits
+few-digits-in : (j k n : ℕ) → n < 10 ^ suc k → length (decimalIn j n) ≤ suc k
+unfolding decimalIn
+few-digits-in zero k n h = zero-le
+few-digits-in (suc j) zero n h = rw (lt-ltb n 10 h) (omega arith)
+few-digits-in (suc j) (suc k) n h =
+    by-lt (λ t. length (cond t (digit n ∷ []) (decimalIn j (n / 10) ++ (digit n ∷ []))) ≤ suc (suc k)) n 10 (λ g. omega arith)
+    (λ g.
+    let g : n < 10 ^ suc k * 10 = rw pow-suc at h in
+    omega (arith, length-append (decimalIn j (n / 10)) (digit n ∷ []), few-digits-in j k (n / 10) (omega arith)))
+
+pub few-digits : (k n : ℕ) → n < 10 ^ suc k → length (decimal n) ≤ suc k
+unfolding decimal
+few-digits k n h = few-digits-in 20 k n h
+
+-- THE WRITER OF A NUMBER
+-- one digit
+module _ (l : List ℕ) (at n : ℕ) (h : n < 10) (fits : HasRoom l at (decimal n)) where
+  pub digit-room : at < length l
+  digit-room = omega (arith, ap length (one-digit n h))
+
+  pub put-digit : Put l at (decimal n) (set l at (digit n)) (at + 1)
+  put-digit = rw (one-digit n h) (record { written = splice-one l at (digit n) digit-room; ends = refl })
+
+-- the last of several, behind the others
+module _ (l : List ℕ) (at n : ℕ) (h : n < 2 ^ 64) (g : 10 ≤ n) (fits : HasRoom l at (decimal n)) where
+  digits-fit : HasRoom l at (decimal (n / 10) ++ (digit n ∷ []))
+  digits-fit = rw (more-digits n h g) at fits
+
+  pub others-room : HasRoom l at (decimal (n / 10))
+  others-room = room-first l at (decimal (n / 10)) (digit n ∷ []) digits-fit
+
+  module _ (m : List ℕ) (p : ℕ) (others : Put l at (decimal (n / 10)) m p) where
+    pub last-room : p < length m
+    last-room = room-byte l at (decimal (n / 10)) (digit n ∷ []) digits-fit m p others (digit n) refl
+
+    pub put-last : Put l at (decimal n) (set m p (digit n)) (p + 1)
+    put-last = rw (more-digits n h g) (put-byte l at (decimal (n / 10)) (digit n ∷ []) digits-fit m p others (digit n) refl)
