@@ -9,10 +9,12 @@ use lib.ListN.{length, take, drop, getD, length-append, take-append-drop}
 use lib.Seq.{take-suc, getD-take}
 use Rattle.book.specs.Records.{number}
 use Rattle.clearing.proofs.ByteLaws.{splice-none}
-use Rattle.sheet.specs.Text.{HasRoom, Put}
+use Rattle.orders.specs.Columns.{blockRecords}
+use Rattle.clearing.specs.Result.{welfareIn, priceIn, tradedIn}
+use Rattle.sheet.specs.Text.{text, field, lineFeed, HasRoom, Put}
 use Rattle.sheet.specs.Sheet.{hourLine, hourLines, blockLine}
-use Rattle.sheet.specs.Lines.{takenAt, blockLinesIn}
-use Rattle.sheet.proofs.TextLaws.{room-then, put-then}
+use Rattle.sheet.specs.Lines.{takenAt, blockLinesIn, linesIn}
+use Rattle.sheet.proofs.TextLaws.{room-first, room-then, put-then}
 
 -- nothing is put
 pub put-none : (l : List ℕ) (at : ℕ) → Put l at [] l at
@@ -96,3 +98,59 @@ module _ (b result : List ℕ) where
         pub block-put : (r : List ℕ) (q : ℕ) → Put m p (blockLine (number b (getD column i 0)) (takenAt b result (getD column i 0))) r q →
             Put l at (blockLinesIn b result (take (i + 1) records)) r q
         block-put r q one = rw block-more (put-then l at _ _ blocks-room m p before r q one)
+
+-- ALL LINES: each part has room behind those before it, and the five together are put
+module _ (b result l : List ℕ) (room : HasRoom l 0 (linesIn b result)) where
+  abbrev heading : List ℕ
+  heading = text "hour;cents;tenths\n"
+
+  abbrev hours : List ℕ
+  hours = hourLines 24 (priceIn result) (tradedIn result)
+
+  abbrev title : List ℕ
+  title = text "block;taken\n"
+
+  abbrev blocks : List ℕ
+  blocks = blockLinesIn b result (blockRecords b)
+
+  abbrev welfare : List ℕ
+  welfare = text "welfare;" ++ field (welfareIn result) lineFeed
+
+  room-all : HasRoom l 0 (heading ++ (hours ++ (title ++ (blocks ++ welfare))))
+  unfolding linesIn
+  room-all = room
+
+  pub room-heading : HasRoom l 0 (text "hour;cents;tenths\n")
+  room-heading = room-first l 0 heading _ room-all
+
+  module _ (m₁ : List ℕ) (p₁ : ℕ) (put₁ : Put l 0 (text "hour;cents;tenths\n") m₁ p₁) where
+    rest₁ : HasRoom m₁ p₁ (hours ++ (title ++ (blocks ++ welfare)))
+    rest₁ = room-then l 0 heading _ room-all m₁ p₁ put₁
+
+    pub room-hours : HasRoom m₁ p₁ (hourLines 24 (priceIn result) (tradedIn result))
+    room-hours = room-first m₁ p₁ hours _ rest₁
+
+    module _ (m₂ : List ℕ) (p₂ : ℕ) (put₂ : Put m₁ p₁ (hourLines 24 (priceIn result) (tradedIn result)) m₂ p₂) where
+      rest₂ : HasRoom m₂ p₂ (title ++ (blocks ++ welfare))
+      rest₂ = room-then m₁ p₁ hours _ rest₁ m₂ p₂ put₂
+
+      pub room-title : HasRoom m₂ p₂ (text "block;taken\n")
+      room-title = room-first m₂ p₂ title _ rest₂
+
+      module _ (m₃ : List ℕ) (p₃ : ℕ) (put₃ : Put m₂ p₂ (text "block;taken\n") m₃ p₃) where
+        rest₃ : HasRoom m₃ p₃ (blocks ++ welfare)
+        rest₃ = room-then m₂ p₂ title _ rest₂ m₃ p₃ put₃
+
+        pub room-blocks : HasRoom m₃ p₃ (blockLinesIn b result (blockRecords b))
+        room-blocks = room-first m₃ p₃ blocks _ rest₃
+
+        module _ (m₄ : List ℕ) (p₄ : ℕ) (put₄ : Put m₃ p₃ (blockLinesIn b result (blockRecords b)) m₄ p₄) where
+          pub room-welfare : HasRoom m₄ p₄ (text "welfare;" ++ field (welfareIn result) lineFeed)
+          room-welfare = room-then m₃ p₃ blocks welfare rest₃ m₄ p₄ put₄
+
+          pub put-all : (r : List ℕ) (q : ℕ) → Put m₄ p₄ (text "welfare;" ++ field (welfareIn result) lineFeed) r q → Put l 0 (linesIn b result) r q
+          unfolding linesIn
+          put-all r q put₅ =
+              put-then l 0 heading _ room-all m₁ p₁ put₁ r q
+              (put-then m₁ p₁ hours _ rest₁ m₂ p₂ put₂ r q
+              (put-then m₂ p₂ title _ rest₂ m₃ p₃ put₃ r q (put-then m₃ p₃ blocks welfare rest₃ m₄ p₄ put₄ r q put₅)))
