@@ -97,6 +97,18 @@ pub few-digits : (k n : ℕ) → n < 10 ^ suc k → length (decimal n) ≤ suc k
 unfolding decimal
 few-digits k n h = few-digits-in 20 k n h
 
+-- and no number has more than 20
+any-digits-in : (j n : ℕ) → length (decimalIn j n) ≤ j
+unfolding decimalIn
+any-digits-in zero n = zero-le
+any-digits-in (suc j) n =
+    by-lt (λ t. length (cond t (digit n ∷ []) (decimalIn j (n / 10) ++ (digit n ∷ []))) ≤ suc j) n 10 (λ g. omega arith)
+    (λ g. omega (arith, length-append (decimalIn j (n / 10)) (digit n ∷ []), any-digits-in j (n / 10)))
+
+pub any-digits : (n : ℕ) → length (decimal n) ≤ 20
+unfolding decimal
+any-digits n = any-digits-in 20 n
+
 -- THE WRITER OF A NUMBER
 -- one digit
 module _ (l : List ℕ) (at n : ℕ) (h : n < 10) (fits : HasRoom l at (decimal n)) where
