@@ -5,13 +5,14 @@ use mathlib.Core.List.{List, [], _∷_, _++_, map}
 use Prim.Native.Nat.{ℕ, zero, suc, _+_, _*_, _^_, _≤_, _<_}
 use native.Mathlib.Omega.{arith}
 use lib.Dec.{eqb}
-use lib.ListN.{length, getD, length-append}
+use lib.ListN.{length, take, drop, getD, length-append}
+use lib.Seq.{length-take-le, take-at}
 use borrow.Author.Tests.{eq-eqb, ne-eqb}
 use Rattle.book.specs.Bytes.{byteAt, u16At}
-use Rattle.book.specs.Records.{number, blockAt}
+use Rattle.book.specs.Records.{recordCount, number, blockAt}
 use Rattle.book.specs.Chains.{blockChain}
 use Rattle.book.specs.Refusals.{refusal, Accepted}
-use Rattle.book.proofs.Accepted.{accepted, accepted-zero}
+use Rattle.book.proofs.Accepted.{accepted, accepted-zero, record-count}
 use Rattle.rules.specs.Day.{setPrices, traded}
 use Rattle.rules.specs.Outcome.{published, outcome}
 use Rattle.rules.proofs.BoundsLaws.{price-small, welfare-small, traded-small}
@@ -21,10 +22,12 @@ use Rattle.orders.specs.Columns.{blockRecords}
 use Rattle.orders.proofs.BridgeLaws.{day-blocks, prices-in-range}
 use Rattle.orders.proofs.RecordLaws.{blocks-all, block-records-fit}
 use Rattle.clearing.specs.Result.{resultBytes, welfareIn, priceIn, tradedIn, takenIn}
-use Rattle.clearing.proofs.PromiseLaws.{hour-at, result-says, result-welfare, taken-is}
+use Rattle.clearing.specs.Promise.{resultAfter, Promise}
+use Rattle.clearing.specs.declared.Clearing.{Clearing}
+use Rattle.clearing.proofs.PromiseLaws.{hour-at, not-refused, result-says, result-welfare, result-length, taken-is}
 use Rattle.clearing.proofs.RowsLaws.{publishedBlocks, chosen-is}
 use Rattle.clearing.proofs.SizeLaws.{small-day}
-use Rattle.sheet.specs.Text.{text, decimalIn, decimal, field, lineFeed}
+use Rattle.sheet.specs.Text.{text, decimalIn, decimal, field, lineFeed, HasRoom, Put}
 use Rattle.sheet.specs.Sheet.{hourLine, hourLines, ofHour, blockLine, blockLines, outcomeSheet, refusedLine, sheetOf}
 use Rattle.sheet.specs.Lines.{takenAt, blockLinesIn, linesIn}
 use Rattle.sheet.proofs.TextLaws.{few-digits, any-digits}
@@ -119,6 +122,10 @@ most-24 : most 24 ≡ 471
 unfolding most decimal decimalIn
 most-24 = refl
 
+pub refused-short : (n : ℕ) → length (refusedLine n) ≤ 29
+unfolding refusedLine text
+refused-short n = omega (arith, field-length n lineFeed, any-digits n)
+
 -- a block's number has 5 digits, its flag one
 flag-length : (taken : Bool) → length (decimal (cond taken 1 0)) ≤ 1
 flag-length true = few-digits 0 1 (omega arith)
@@ -144,10 +151,6 @@ module _ (b : List ℕ) (bytes : (i : ℕ) → byteAt b i < 256) where
         block-short k (takenAt b result k),
         blocks-short result l,
       )
-
-  refused-short : (n : ℕ) → length (refusedLine n) ≤ 29
-  unfolding refusedLine text
-  refused-short n = omega (arith, field-length n lineFeed, any-digits n)
 
   module _ (a : Accepted b) where
     hour-small : (h : ℕ) → 1 ≤ h → h ≤ 24 → (priceIn (resultBytes b) h < 10 ^ 6) × (tradedIn (resultBytes b) h < 10 ^ 9)
@@ -175,3 +178,37 @@ module _ (b : List ℕ) (bytes : (i : ℕ) → byteAt b i < 256) where
       by-eq (λ t. length (cond t (outcomeSheet (dayFrom b .blocks) (published (ordersOf b))) (refusedLine (refusal b))) ≤ 781) (refusal b) 0
       (λ e. let a = accepted b e in rw (← (lines-are b a)) (lines-short a))
       (λ e. omega (arith, refused-short (refusal b)))
+
+-- THE CLEARING of an accepted book into the front of a space
+module _ (b space : List ℕ) (count : ℕ) (a : Accepted b) (counted : count ≡ recordCount b) (large : 8388 ≤ length space) where
+  pub front-fits : 196 + 4 * count ≤ length space
+  front-fits = omega (arith, record-count b a .1)
+
+  pub front-length : 196 + 4 * count ≡ length (take (196 + 4 * count) space)
+  front-length = sym (length-take-le (196 + 4 * count) space front-fits)
+
+  module _ (after : List ℕ) (answer : Clearing) (promise : Promise b (take (196 + 4 * count) space) after answer) where
+    after-is : after ≡ resultBytes b
+    unfolding resultAfter
+    after-is = promise .bytes ∙ rw (not-refused b (take (196 + 4 * count) space) a (sym front-length ∙ rw counted))
+
+    after-length : length after ≡ 196 + 4 * count
+    after-length = rw (after-is, counted) (result-length b a)
+
+    pub again-fits : 196 + 4 * count ≤ length (after ++ drop (196 + 4 * count) space)
+    again-fits = omega (arith, length-append after (drop (196 + 4 * count) space), after-length)
+
+    pub again-length : 196 + 4 * count ≡ length (take (196 + 4 * count) (after ++ drop (196 + 4 * count) space))
+    again-length = sym (length-take-le (196 + 4 * count) (after ++ drop (196 + 4 * count) space) again-fits)
+
+    lines-in-front : linesIn b (take (196 + 4 * count) (after ++ drop (196 + 4 * count) space)) ≡ sheetOf b
+    lines-in-front = rw (take-at after (drop (196 + 4 * count) space) (196 + 4 * count) after-length, after-is) (sheet-accepted b a)
+
+    -- the lines have room in 781 bytes, and are the sheet
+    pub lines-room : ((i : ℕ) → byteAt b i < 256) → (out : List ℕ) → 781 ≤ length out →
+        HasRoom out 0 (linesIn b (take (196 + 4 * count) (after ++ drop (196 + 4 * count) space)))
+    lines-room bytes out room = rw lines-in-front (omega (arith, sheet-short b bytes))
+
+    pub lines-put : (out r : List ℕ) (q : ℕ) → Put out 0 (linesIn b (take (196 + 4 * count) (after ++ drop (196 + 4 * count) space))) r q →
+        Put out 0 (sheetOf b) r q
+    lines-put out r q put = rw lines-in-front at put

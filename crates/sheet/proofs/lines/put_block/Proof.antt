@@ -6,34 +6,25 @@ use Rattle.sheet.proofs.TextLaws.{room-first, room-then, put-then}
 use borrow.Author.Needs.{needs}
 use Rattle.sheet.proofs.lines.put_block.Statement.{statement}
 use Rattle.sheet.proofs.lines.put_block.Tie as tie
-use Rattle.sheet.proofs.lines.put_block.Reads as reads
-use Rattle.sheet.proofs.lines.put_block.Lts as lts
-use Rattle.sheet.proofs.lines.flag.Reads as flag-reads
-use Rattle.sheet.proofs.text.put_field.Reads as put-field-reads
 
--- src/lines.rt:64:9
 put-field-requires : tie.Need-put-field-requires
 unfolding blockLine
 put-field-requires c κs =
     let start = c .before .before in
     room-first (start .args .out .now) (start .args .at) (field (start .args .number) 59) (field (cond (start .args .taken) 1 0) 10) (start .pre)
 
--- src/lines.rt:65:35
 flag-requires : tie.Need-flag-requires
 flag-requires c κs = search needs
 
--- src/lines.rt:65:5
 put-field-requires-2 : tie.Need-put-field-requires-2
 unfolding blockLine
 put-field-requires-2 c κs =
     let start = c .before .before .before .before .before .before .before in
     rw (c .flag .ensures) (room-then (start .args .out .now) (start .args .at) (field (start .args .number) 59) (field (cond (start .args .taken) 1 0) 10) (start .pre) _ _ (c .before .before .before .before .put-field .ensures))
 
--- src/lines.rt:60:1
 same-length : tie.Need-same-length
 same-length c = search needs
 
--- src/lines.rt:60:1
 returns : tie.Need-returns
 unfolding blockLine
 returns c =

@@ -11,12 +11,6 @@ use Rattle.sheet.proofs.LineLaws.{put-none, no-blocks, block-room, bloc
 use borrow.Author.Needs.{needs}
 use Rattle.sheet.proofs.lines.put_blocks.Statement.{statement}
 use Rattle.sheet.proofs.lines.put_blocks.Tie as tie
-use Rattle.sheet.proofs.lines.put_blocks.Reads as reads
-use Rattle.sheet.proofs.lines.put_blocks.Lts as lts
-use Rattle.book.proofs.number_of.Reads as number-of-reads
-use Rattle.orders.proofs.blocks_of.Reads as blocks-of-reads
-use Rattle.sheet.proofs.lines.is_taken.Reads as is-taken-reads
-use Rattle.sheet.proofs.lines.put_block.Reads as put-block-reads
 
 abbrev Inv-loop : tie.InvT-loop
 Inv-loop out₀ at book result count records end₀ i₀ out end i =
@@ -25,31 +19,24 @@ Inv-loop out₀ at book result count records end₀ i₀ out end i =
 abbrev μ-loop : tie.MeasureT-loop
 μ-loop out₀ at book result count records end₀ i₀ out end i = count - i
 
--- src/lines.rt:73:9
 blocks-of-requires : tie.Need-blocks-of-requires Inv-loop μ-loop
 blocks-of-requires c κs = search needs
 
--- src/lines.rt:78:5
 loop-holds : tie.Need-loop-holds Inv-loop μ-loop
 loop-holds c = (search needs, search needs, rw (no-blocks _ _) (put-none _ _))
 
--- src/lines.rt:79:17
 mul-k : tie.Need-mul-k Inv-loop μ-loop
 mul-k c = search needs
 
--- src/lines.rt:79:17
 array-read-k : tie.Need-array-read-k Inv-loop μ-loop
 array-read-k c = search needs
 
--- src/lines.rt:80:13
 is-taken-requires : tie.Need-is-taken-requires Inv-loop μ-loop
 is-taken-requires c κs = search needs
 
--- src/lines.rt:81:35
 number-of-requires : tie.Need-number-of-requires Inv-loop μ-loop
 number-of-requires c κs = search needs
 
--- src/lines.rt:81:9
 put-block-requires : tie.Need-put-block-requires Inv-loop μ-loop
 put-block-requires c κs =
     let start = c .before .before .before .before .before .before .before .before .before .before in
@@ -58,30 +45,27 @@ put-block-requires c κs =
     rw (c .number-of .ensures, c .before .before .is-taken .ensures)
     (block-room (start .args .book .now) (start .args .result .now) (blockRecords (start .args .book .now)) (blocks .result .records) (blocks .result .count) (loop .i) (blocks .ensures .recordsAre) (blocks .ensures .counted) (search needs) (start .args .out .now) (start .args .at) (start .pre) _ _ (loop .inv .2))
 
--- src/lines.rt:82:9
 add-i : tie.Need-add-i Inv-loop μ-loop
 add-i c = search needs
 
--- src/lines.rt:78:5
 loop-less : tie.Need-loop-less Inv-loop μ-loop
 loop-less c = search needs
 
--- src/lines.rt:78:5
 loop-again : tie.Need-loop-again Inv-loop μ-loop
 loop-again c =
     let start = c .before .before .before .before .before .before .before .before .before .before .before .before .before in
     let blocks = c .before .before .before .before .before .before .before .before .before .blocks-of in
     let loop = c .before .before .before .before .before .before .before .loop in
-    let line = c .before .before .put-block in
-    (search needs, line .kept .0 ∙ loop .inv .1,
-    block-put (start .args .book .now) (start .args .result .now) (blockRecords (start .args .book .now)) (blocks .result .records) (blocks .result .count) (loop .i) (blocks .ensures .recordsAre) (blocks .ensures .counted) (search needs) (start .args .out .now) (start .args .at) (start .pre) _ _ (loop .inv .2) _ _
-    (rw (c .before .before .before .number-of .ensures, c .before .before .before .before .before .is-taken .ensures) at (line .ensures)))
+    let line = c .before .before .put-block in (
+      search needs,
+      line .kept .0 ∙ loop .inv .1,
+      block-put (start .args .book .now) (start .args .result .now) (blockRecords (start .args .book .now)) (blocks .result .records) (blocks .result .count) (loop .i) (blocks .ensures .recordsAre) (blocks .ensures .counted) (search needs) (start .args .out .now) (start .args .at) (start .pre) _ _ (loop .inv .2) _ _
+          (rw (c .before .before .before .number-of .ensures, c .before .before .before .before .before .is-taken .ensures) at (line .ensures)),
+    )
 
--- src/lines.rt:69:1
 same-length : tie.Need-same-length Inv-loop μ-loop
 same-length c = search needs
 
--- src/lines.rt:69:1
 returns : tie.Need-returns Inv-loop μ-loop
 returns c =
     let all : c .before .loop .i ≡ length (blockRecords (c .before .before .before .before .before .before .before .args .book .now)) = omega (arith, c .before .before .before .blocks-of .ensures .counted) in

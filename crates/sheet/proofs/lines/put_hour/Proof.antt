@@ -6,18 +6,13 @@ use Rattle.sheet.proofs.TextLaws.{room-first, room-then, put-then}
 use borrow.Author.Needs.{needs}
 use Rattle.sheet.proofs.lines.put_hour.Statement.{statement}
 use Rattle.sheet.proofs.lines.put_hour.Tie as tie
-use Rattle.sheet.proofs.lines.put_hour.Reads as reads
-use Rattle.sheet.proofs.lines.put_hour.Lts as lts
-use Rattle.sheet.proofs.text.put_field.Reads as put-field-reads
 
--- src/lines.rt:22:9
 put-field-requires : tie.Need-put-field-requires
 unfolding hourLine
 put-field-requires c κs =
     let start = c .before .before in
     room-first (start .args .out .now) (start .args .at) (field (start .args .h) 59) (field (start .args .price) 59 ++ field (start .args .traded) 10) (start .pre)
 
--- src/lines.rt:23:9
 put-field-requires-2 : tie.Need-put-field-requires-2
 unfolding hourLine
 put-field-requires-2 c κs =
@@ -25,7 +20,6 @@ put-field-requires-2 c κs =
     let rest = room-then (start .args .out .now) (start .args .at) (field (start .args .h) 59) (field (start .args .price) 59 ++ field (start .args .traded) 10) (start .pre) _ _ (c .before .before .before .put-field .ensures) in
     room-first (c .before .before .before .put-field .last .0) _ (field (start .args .price) 59) (field (start .args .traded) 10) rest
 
--- src/lines.rt:24:5
 put-field-requires-3 : tie.Need-put-field-requires-3
 unfolding hourLine
 put-field-requires-3 c κs =
@@ -33,11 +27,9 @@ put-field-requires-3 c κs =
     let rest = room-then (start .args .out .now) (start .args .at) (field (start .args .h) 59) (field (start .args .price) 59 ++ field (start .args .traded) 10) (start .pre) _ _ (c .before .before .before .before .before .before .before .put-field .ensures) in
     room-then (c .before .before .before .before .before .before .before .put-field .last .0) _ (field (start .args .price) 59) (field (start .args .traded) 10) rest _ _ (c .before .before .before .put-field2 .ensures)
 
--- src/lines.rt:18:1
 same-length : tie.Need-same-length
 same-length c = search needs
 
--- src/lines.rt:18:1
 returns : tie.Need-returns
 unfolding hourLine
 returns c =

@@ -10,10 +10,6 @@ use Rattle.sheet.proofs.LineLaws.{put-none, no-hours, hour-room, hour-p
 use borrow.Author.Needs.{needs}
 use Rattle.sheet.proofs.lines.put_hours.Statement.{statement}
 use Rattle.sheet.proofs.lines.put_hours.Tie as tie
-use Rattle.sheet.proofs.lines.put_hours.Reads as reads
-use Rattle.sheet.proofs.lines.put_hours.Lts as lts
-use Rattle.book.proofs.u32_at.Reads as u32-at-reads
-use Rattle.sheet.proofs.lines.put_hour.Reads as put-hour-reads
 
 abbrev Inv-loop : tie.InvT-loop
 Inv-loop out₀ at result end₀ h₀ out end h =
@@ -22,35 +18,27 @@ Inv-loop out₀ at result end₀ h₀ out end h =
 abbrev μ-loop : tie.MeasureT-loop
 μ-loop out₀ at result end₀ h₀ out end h = 24 - h
 
--- src/lines.rt:34:5
 loop-holds : tie.Need-loop-holds Inv-loop μ-loop
 loop-holds c = (search needs, search needs, rw (no-hours _ _) (put-none _ _))
 
--- src/lines.rt:35:9
 add-h : tie.Need-add-h Inv-loop μ-loop
 add-h c = search needs
 
--- src/lines.rt:36:36
 mul-u32-at : tie.Need-mul-u32-at Inv-loop μ-loop
 mul-u32-at c = search needs
 
--- src/lines.rt:36:13
 u32-at-requires : tie.Need-u32-at-requires Inv-loop μ-loop
 u32-at-requires c κs = search needs
 
--- src/lines.rt:37:37
 mul-u32-at-2 : tie.Need-mul-u32-at-2 Inv-loop μ-loop
 mul-u32-at-2 c = search needs
 
--- src/lines.rt:37:37
 add-u32-at : tie.Need-add-u32-at Inv-loop μ-loop
 add-u32-at c = search needs
 
--- src/lines.rt:37:13
 u32-at-requires-2 : tie.Need-u32-at-requires-2 Inv-loop μ-loop
 u32-at-requires-2 c κs = search needs
 
--- src/lines.rt:38:9
 put-hour-requires : tie.Need-put-hour-requires Inv-loop μ-loop
 unfolding priceIn tradedIn
 put-hour-requires c κs =
@@ -58,25 +46,23 @@ put-hour-requires c κs =
     let loop = c .before .before .before .before .loop in
     rw (c .before .before .u32-at .ensures, c .before .u32-at2 .ensures) (hour-room (priceIn (start .args .result .now)) (tradedIn (start .args .result .now)) (start .args .out .now) (start .args .at) (loop .h) (search needs) (start .pre) _ _ (loop .inv .2))
 
--- src/lines.rt:34:5
 loop-less : tie.Need-loop-less Inv-loop μ-loop
 loop-less c = search needs
 
--- src/lines.rt:34:5
 loop-again : tie.Need-loop-again Inv-loop μ-loop
 unfolding priceIn tradedIn
 loop-again c =
     let start = c .before .before .before .before .before .before .before .before .before .before in
     let loop = c .before .before .before .before .before .before .before .loop in
-    let line = c .before .before .put-hour in
-    (search needs, line .kept .0 ∙ loop .inv .1,
-    hour-put (priceIn (start .args .result .now)) (tradedIn (start .args .result .now)) (start .args .out .now) (start .args .at) (loop .h) (search needs) (start .pre) _ _ (loop .inv .2) _ _ (rw (c .before .before .before .before .before .u32-at .ensures, c .before .before .before .before .u32-at2 .ensures) at (line .ensures)))
+    let line = c .before .before .put-hour in (
+      search needs,
+      line .kept .0 ∙ loop .inv .1,
+      hour-put (priceIn (start .args .result .now)) (tradedIn (start .args .result .now)) (start .args .out .now) (start .args .at) (loop .h) (search needs) (start .pre) _ _ (loop .inv .2) _ _ (rw (c .before .before .before .before .before .u32-at .ensures, c .before .before .before .before .u32-at2 .ensures) at (line .ensures)),
+    )
 
--- src/lines.rt:28:1
 same-length : tie.Need-same-length Inv-loop μ-loop
 same-length c = search needs
 
--- src/lines.rt:28:1
 returns : tie.Need-returns Inv-loop μ-loop
 returns c =
     let all : c .before .loop .h ≡ 24 = omega arith in

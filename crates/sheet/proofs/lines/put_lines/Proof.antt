@@ -4,70 +4,52 @@ use Rattle.sheet.proofs.LineLaws.{room-heading, room-hours, room-title,
 use borrow.Author.Needs.{needs}
 use Rattle.sheet.proofs.lines.put_lines.Statement.{statement}
 use Rattle.sheet.proofs.lines.put_lines.Tie as tie
-use Rattle.sheet.proofs.lines.put_lines.Reads as reads
-use Rattle.sheet.proofs.lines.put_lines.Lts as lts
-use Rattle.sheet.proofs.lines.put_blocks.Reads as put-blocks-reads
-use Rattle.sheet.proofs.lines.put_hours.Reads as put-hours-reads
-use Rattle.sheet.proofs.lines.welfare_of.Reads as welfare-of-reads
-use Rattle.sheet.proofs.text.put_line.Reads as put-line-reads
-use Rattle.sheet.proofs.text.put_text.Reads as put-text-reads
 
--- src/lines.rt:101:34
 slice-aggregate-put-text : tie.Need-slice-aggregate-put-text
 slice-aggregate-put-text c = search needs
 
--- src/lines.rt:101:9
 put-text-requires : tie.Need-put-text-requires
 unfolding text
 put-text-requires c κs =
     let start = c .before .before .before .before .before in
     room-heading (start .args .book .now) (start .args .result .now) (start .args .out .now) (start .pre)
 
--- src/lines.rt:102:9
 put-hours-requires : tie.Need-put-hours-requires
 unfolding text
 put-hours-requires c κs =
     let start = c .before .before .before .before .before .before .before .before .before in
     room-hours (start .args .book .now) (start .args .result .now) (start .args .out .now) (start .pre) _ _ (c .before .before .before .put-text .ensures)
 
--- src/lines.rt:103:41
 slice-aggregate-put-text-2 : tie.Need-slice-aggregate-put-text-2
 slice-aggregate-put-text-2 c = search needs
 
--- src/lines.rt:103:9
 put-text-requires-2 : tie.Need-put-text-requires-2
 unfolding text
 put-text-requires-2 c κs =
     let start = c .before .before .before .before .before .before .before .before .before .before .before .before .before .before in
     room-title (start .args .book .now) (start .args .result .now) (start .args .out .now) (start .pre) _ _ (c .before .before .before .before .before .before .before .before .put-text .ensures) _ _ (c .before .before .before .before .put-hours .ensures)
 
--- src/lines.rt:104:9
 put-blocks-requires : tie.Need-put-blocks-requires
 unfolding text
 put-blocks-requires c κs =
     let start = c .before .before .before .before .before .before .before .before .before .before .before .before .before .before .before .before .before .before in
     room-blocks (start .args .book .now) (start .args .result .now) (start .args .out .now) (start .pre) _ _ (c .before .before .before .before .before .before .before .before .before .before .before .before .put-text .ensures) _ _ (c .before .before .before .before .before .before .before .before .put-hours .ensures) _ _ (c .before .before .before .put-text2 .ensures)
 
--- src/lines.rt:105:28
 slice-aggregate-put-line : tie.Need-slice-aggregate-put-line
 slice-aggregate-put-line c = search needs
 
--- src/lines.rt:105:41
 welfare-of-requires : tie.Need-welfare-of-requires
 welfare-of-requires c κs = search needs
 
--- src/lines.rt:105:5
 put-line-requires : tie.Need-put-line-requires
 unfolding text
 put-line-requires c κs =
     let start = c .before .before .before .before .before .before .before .before .before .before .before .before .before .before .before .before .before .before .before .before .before .before .before .before in
     rw (c .welfare-of .ensures) (room-welfare (start .args .book .now) (start .args .result .now) (start .args .out .now) (start .pre) _ _ (c .before .before .before .before .before .before .before .before .before .before .before .before .before .before .before .before .before .before .put-text .ensures) _ _ (c .before .before .before .before .before .before .before .before .before .before .before .before .before .before .put-hours .ensures) _ _ (c .before .before .before .before .before .before .before .before .before .put-text2 .ensures) _ _ (c .before .before .before .before .before .put-blocks .ensures))
 
--- src/lines.rt:97:1
 same-length : tie.Need-same-length
 same-length c = search needs
 
--- src/lines.rt:97:1
 returns : tie.Need-returns
 unfolding text
 returns c =

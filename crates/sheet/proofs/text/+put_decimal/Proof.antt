@@ -26,69 +26,56 @@ put-decimal-below t =
 abbrev claims-put-decimal : ℕ → put-decimal-lts.Claims
 claims-put-decimal t = (put-decimal-below t, put-decimal.Post)
 
--- src/text.rt:24:20
 put-decimal-add-out : (t : ℕ) → put-decimal-lts.Need-add-out (claims-put-decimal t) (put-decimal-at t) put-decimal.Post
 put-decimal-add-out t c = search needs
 
--- src/text.rt:24:19
 put-decimal-cast-out : (t : ℕ) → put-decimal-lts.Need-cast-out (claims-put-decimal t) (put-decimal-at t) put-decimal.Post
 put-decimal-cast-out t c = search needs
 
--- src/text.rt:24:9
 put-decimal-slice-write-out : (t : ℕ) → put-decimal-lts.Need-slice-write-out (claims-put-decimal t) (put-decimal-at t) put-decimal.Post
 put-decimal-slice-write-out t c =
     let start = c .before .before in
     digit-room (start .args .out .now) (start .args .at) (start .args .n) (c .if1 .taken) (start .pre .1)
 
--- src/text.rt:25:16
 put-decimal-add-result : (t : ℕ) → put-decimal-lts.Need-add-result (claims-put-decimal t) (put-decimal-at t) put-decimal.Post
 put-decimal-add-result t c =
     let start = c .before .before in
     omega (arith, digit-room (start .args .out .now) (start .args .at) (start .args .n) (c .if1 .taken) (start .pre .1))
 
--- src/text.rt:25:9
 put-decimal-same-length : (t : ℕ) → put-decimal-lts.Need-same-length (claims-put-decimal t) (put-decimal-at t) put-decimal.Post
 put-decimal-same-length t c = search needs
 
--- src/text.rt:25:9
 put-decimal-returns : (t : ℕ) → put-decimal-lts.Need-returns (claims-put-decimal t) (put-decimal-at t) put-decimal.Post
 put-decimal-returns t c =
     let start = c .before .before in
     put-digit (start .args .out .now) (start .args .at) (start .args .n) (c .if1 .taken) (start .pre .1)
 
--- src/text.rt:27:9
 put-decimal-put-decimal-requires : (t : ℕ) → put-decimal-lts.Need-put-decimal-requires (claims-put-decimal t) (put-decimal-at t) put-decimal.Post
 put-decimal-put-decimal-requires t c κs =
     let start = c .before .before .before in
     (omega (arith, start .pre .0), others-room (start .args .out .now) (start .args .at) (start .args .n) (start .fits .n .fits) (c .before .if1 .left) (start .pre .1))
 
--- src/text.rt:28:18
 put-decimal-add-out-2 : (t : ℕ) → put-decimal-lts.Need-add-out-2 (claims-put-decimal t) (put-decimal-at t) put-decimal.Post
 put-decimal-add-out-2 t c = search needs
 
--- src/text.rt:28:17
 put-decimal-cast-out-2 : (t : ℕ) → put-decimal-lts.Need-cast-out-2 (claims-put-decimal t) (put-decimal-at t) put-decimal.Post
 put-decimal-cast-out-2 t c = search needs
 
--- src/text.rt:28:5
 put-decimal-slice-write-out-2 : (t : ℕ) → put-decimal-lts.Need-slice-write-out-2 (claims-put-decimal t) (put-decimal-at t) put-decimal.Post
 put-decimal-slice-write-out-2 t c =
     let start = c .before .before .before .before .before .before in
     let others = c .before .before .put-decimal .ensures in
     last-room (start .args .out .now) (start .args .at) (start .args .n) (start .fits .n .fits) (c .before .before .before .before .if1 .left) (start .pre .1) _ _ others
 
--- src/text.rt:29:5
 put-decimal-add-result-2 : (t : ℕ) → put-decimal-lts.Need-add-result-2 (claims-put-decimal t) (put-decimal-at t) put-decimal.Post
 put-decimal-add-result-2 t c =
     let start = c .before .before .before .before .before .before in
     let others = c .before .before .put-decimal .ensures in
     omega (arith, last-room (start .args .out .now) (start .args .at) (start .args .n) (start .fits .n .fits) (c .before .before .before .before .if1 .left) (start .pre .1) _ _ others)
 
--- src/text.rt:19:1
 put-decimal-same-length-2 : (t : ℕ) → put-decimal-lts.Need-same-length-2 (claims-put-decimal t) (put-decimal-at t) put-decimal.Post
 put-decimal-same-length-2 t c = simp length-set (c .before .before .put-decimal .kept .0)
 
--- src/text.rt:19:1
 put-decimal-returns-2 : (t : ℕ) → put-decimal-lts.Need-returns-2 (claims-put-decimal t) (put-decimal-at t) put-decimal.Post
 put-decimal-returns-2 t c =
     let start = c .before .before .before .before .before .before in

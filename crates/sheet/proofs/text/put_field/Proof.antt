@@ -7,18 +7,13 @@ use Rattle.sheet.proofs.TextLaws.{room-first, room-byte, put-byte}
 use borrow.Author.Needs.{needs}
 use Rattle.sheet.proofs.text.put_field.Statement.{statement}
 use Rattle.sheet.proofs.text.put_field.Tie as tie
-use Rattle.sheet.proofs.text.put_field.Reads as reads
-use Rattle.sheet.proofs.text.put_field.Lts as lts
-use Rattle.sheet.proofs.text.put_decimal.Reads as put-decimal-reads
 
--- src/text.rt:37:9
 put-decimal-requires : tie.Need-put-decimal-requires
 unfolding field
 put-decimal-requires c κs =
     let start = c .before .before in
     room-first (start .args .out .now) (start .args .at) (decimal (start .args .n)) (start .args .end ∷ []) (start .pre)
 
--- src/text.rt:38:5
 slice-write-out : tie.Need-slice-write-out
 unfolding field
 slice-write-out c =
@@ -26,7 +21,6 @@ slice-write-out c =
     let number = c .before .before .put-decimal in
     room-byte (start .args .out .now) (start .args .at) (decimal (start .args .n)) (start .args .end ∷ []) (start .pre) _ _ (number .ensures) (start .args .end) refl
 
--- src/text.rt:39:5
 add-result : tie.Need-add-result
 unfolding field
 add-result c =
@@ -34,11 +28,9 @@ add-result c =
     let number = c .before .before .put-decimal in
     omega (arith, room-byte (start .args .out .now) (start .args .at) (decimal (start .args .n)) (start .args .end ∷ []) (start .pre) _ _ (number .ensures) (start .args .end) refl)
 
--- src/text.rt:33:1
 same-length : tie.Need-same-length
 same-length c = search needs
 
--- src/text.rt:33:1
 returns : tie.Need-returns
 unfolding field
 returns c =

@@ -4,29 +4,21 @@ use Rattle.sheet.proofs.TextLaws.{room-first, room-then, put-then}
 use borrow.Author.Needs.{needs}
 use Rattle.sheet.proofs.text.put_line.Statement.{statement}
 use Rattle.sheet.proofs.text.put_line.Tie as tie
-use Rattle.sheet.proofs.text.put_line.Reads as reads
-use Rattle.sheet.proofs.text.put_line.Lts as lts
-use Rattle.sheet.proofs.text.put_field.Reads as put-field-reads
-use Rattle.sheet.proofs.text.put_text.Reads as put-text-reads
 
--- src/text.rt:47:9
 put-text-requires : tie.Need-put-text-requires
 put-text-requires c κs =
     let start = c .before .before .before in
     room-first (start .args .out .now) (start .args .at) (start .args .words .now) (field (start .args .n) 10) (start .pre)
 
--- src/text.rt:48:5
 put-field-requires : tie.Need-put-field-requires
 put-field-requires c κs =
     let start = c .before .before .before .before .before .before .before in
     let words = c .before .before .before .put-text in
     room-then (start .args .out .now) (start .args .at) (start .args .words .now) (field (start .args .n) 10) (start .pre) _ _ (words .ensures)
 
--- src/text.rt:43:1
 same-length : tie.Need-same-length
 same-length c = search needs
 
--- src/text.rt:43:1
 returns : tie.Need-returns
 returns c =
     let start = c .before .before .before .before .before .before .before .before .before .before in

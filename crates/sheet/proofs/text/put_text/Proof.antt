@@ -10,8 +10,6 @@ use Rattle.sheet.proofs.TextLaws.{copied-more}
 use borrow.Author.Needs.{needs}
 use Rattle.sheet.proofs.text.put_text.Statement.{statement}
 use Rattle.sheet.proofs.text.put_text.Tie as tie
-use Rattle.sheet.proofs.text.put_text.Reads as reads
-use Rattle.sheet.proofs.text.put_text.Lts as lts
 
 abbrev Inv-loop : tie.InvT-loop
 Inv-loop out₀ at words i₀ out i = (i ≤ length words) × (length out ≡ length out₀) × (out ≡ splice out₀ at (take i words))
@@ -19,46 +17,36 @@ Inv-loop out₀ at words i₀ out i = (i ≤ length words) × (length out ≡ le
 abbrev μ-loop : tie.MeasureT-loop
 μ-loop out₀ at words i₀ out i = length words - i
 
--- src/text.rt:11:5
 loop-holds : tie.Need-loop-holds Inv-loop μ-loop
 loop-holds c = (search needs, search needs, splice-none _ _)
 
--- src/text.rt:12:23
 shared-slice-read-out : tie.Need-shared-slice-read-out Inv-loop μ-loop
 shared-slice-read-out c = search needs
 
--- src/text.rt:12:13
 add-out : tie.Need-add-out Inv-loop μ-loop
 add-out c = search needs
 
--- src/text.rt:12:9
 slice-write-out : tie.Need-slice-write-out Inv-loop μ-loop
 slice-write-out c = search needs
 
--- src/text.rt:13:9
 add-i : tie.Need-add-i Inv-loop μ-loop
 add-i c = search needs
 
--- src/text.rt:11:5
 loop-less : tie.Need-loop-less Inv-loop μ-loop
 loop-less c = search needs
 
--- src/text.rt:11:5
 loop-again : tie.Need-loop-again Inv-loop μ-loop
 loop-again c =
     let start = c .before .before .before in
     let loop = c .before .before .loop in
     (search needs, simp length-set (loop .inv .1), copied-more _ _ _ (start .args .at) (loop .i) (start .pre) (c .before .loop-test .taken) (loop .inv .2))
 
--- src/text.rt:15:5
 add-result : tie.Need-add-result Inv-loop μ-loop
 add-result c = search needs
 
--- src/text.rt:6:1
 same-length : tie.Need-same-length Inv-loop μ-loop
 same-length c = search needs
 
--- src/text.rt:6:1
 returns : tie.Need-returns Inv-loop μ-loop
 returns c =
     let all = take-all (c .before .loop .i) (c .before .before .args .words .now) (c .loop-test .left) in
