@@ -51,9 +51,11 @@ module _ (l : List ℕ) (at : ℕ) (a b : List ℕ) (fits : HasRoom l at (a ++ b
 pub put-as : (l : List ℕ) (at : ℕ) (a b r : List ℕ) (q : ℕ) → a ≡ b → Put l at a r q → Put l at b r q
 put-as l at a b r q e p = rw e at p
 
--- the buffer's length stays
-pub put-length : (l : List ℕ) (at : ℕ) (bytes m : List ℕ) (p : ℕ) → Put l at bytes m p → p ≤ length l → length m ≡ length l
-put-length l at bytes m p put inside = rw (put .written) (length-splice l at bytes (omega (arith, put .ends)))
+-- for a caller that lends the part of the buffer up to `end`
+pub put-counts : (l : List ℕ) (at : ℕ) (bytes m : List ℕ) (p : ℕ) → Put l at bytes m p → p ≤ length l → (p ≤ length m) × (p ≡ length (take p m))
+put-counts l at bytes m p put inside =
+    let n : length m ≡ length l = rw (put .written) (length-splice l at bytes (omega (arith, put .ends))) in
+    (omega arith, sym (length-take-le p m (omega arith)))
 
 -- a turn of the loop that copies bytes
 pub copied-more : (l m words : List ℕ) (at i : ℕ) → HasRoom l at words → i < length words → m ≡ splice l at (take i words) →

@@ -1,10 +1,5 @@
--- `main` ends and stays within its buffers: what was written of the sheet is no longer than the output. Assumes nothing.
-use Prim.Native.Nat.{_≤_}
-use mathlib.Core.Path.{_≡_, sym}
-use native.Mathlib.Omega.{arith}
-use lib.ListN.{length}
-use lib.Seq.{length-take-le}
-use Rattle.sheet.proofs.TextLaws.{put-length}
+-- `main` ends and stays within its buffers. Assumes nothing.
+use Rattle.sheet.proofs.TextLaws.{put-counts}
 use borrow.Author.Needs.{needs}
 use Rattle.auction_print.proofs.main.Statement.{statement}
 use Rattle.auction_print.proofs.main.Tie as tie
@@ -25,16 +20,10 @@ sheet-requires : tie.Need-sheet-requires
 sheet-requires c κs = search needs
 
 array-share-prefix-out : tie.Need-array-share-prefix-out
-array-share-prefix-out c =
-    let whole : length (c .sheet .last .1 .0) ≡ 781 =
-    put-length _ 0 _ _ _ (c .sheet .ensures .0) (c .sheet .ensures .1) in
-    omega (arith, c .sheet .ensures .1)
+array-share-prefix-out c = put-counts _ 0 _ _ _ (c .sheet .ensures .0) (c .sheet .ensures .1) .0
 
 slice-aggregate-write-all : tie.Need-slice-aggregate-write-all
-slice-aggregate-write-all c =
-    let whole : length (c .before .sheet .last .1 .0) ≡ 781 =
-    put-length _ 0 _ _ _ (c .before .sheet .ensures .0) (c .before .sheet .ensures .1) in
-    sym (length-take-le _ _ (omega (arith, c .before .sheet .ensures .1)))
+slice-aggregate-write-all c = put-counts _ 0 _ _ _ (c .before .sheet .ensures .0) (c .before .sheet .ensures .1) .1
 
 write-all-requires : tie.Need-write-all-requires
 write-all-requires c κs = search needs
