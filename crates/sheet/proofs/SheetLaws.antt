@@ -179,6 +179,9 @@ module _ (b : List ℕ) (bytes : (i : ℕ) → byteAt b i < 256) where
       (λ e. let a = accepted b e in rw (← (lines-are b a)) (lines-short a))
       (λ e. omega (arith, refused-short (refusal b)))
 
+  pub put-short : (out after : List ℕ) (end : ℕ) → Put out 0 (sheetOf b) after end → end ≤ 781
+  put-short out after end put = omega (arith, put .ends, sheet-short)
+
 -- THE CLEARING of an accepted book into the front of a space
 module _ (b space : List ℕ) (count : ℕ) (a : Accepted b) (counted : count ≡ recordCount b) (large : 8388 ≤ length space) where
   pub front-fits : 196 + 4 * count ≤ length space

@@ -1,6 +1,8 @@
 // The sheet: a book's published outcome, or its refusal, as text.
+ghost use mathlib.Core.Path.{_≡_};
 ghost use Prim.Native.Nat.{_≤_};
 ghost use lib.ListN.{length};
+ghost use Rattle.book.specs.Answers.{numberOf};
 ghost use Rattle.book.specs.Refusals.{Accepted};
 ghost use Rattle.sheet.specs.Sheet.{sheetOf};
 ghost use Rattle.sheet.specs.Text.{Put};
@@ -24,21 +26,29 @@ fn put_outcome(out: &mut [u8], book: &[u8], space: &mut [u8]) -> usize
     put_lines(out, book, &space[..length])
 }
 
+// The number of the reader's answer, 0 for an accepted book.
+fn refusal_in(reading: Reading) -> u8
+    ensures { λ r. ⌜ r ≡ numberOf reading ⌝ }
+{
+    match reading {
+        Reading::Refused(number) => number,
+        Reading::Accepted {
+            steps: _,
+            blocks: _,
+        } => 0,
+    }
+}
+
 // What is written of a book, from the start of the buffer, and its length: the sheet of its published outcome, or the line of its refusal. No sheet has
 // more than 781 bytes. The rest of the buffer stays as it was.
 pub fn sheet(book: &[u8], out: &mut [u8; 781]) -> usize
     ensures { λ r. ⌜ Put (now (out .entry)) 0 (sheetOf (now (book .entry))) (now (out .exit)) r ⌝ }
     ensures fits { λ r. ⌜ r ≤ 781 ⌝ }
 {
-    let reading = read(book);
-    match reading {
-        Reading::Refused(number) => put_line(out, 0, b"refused;", number as u64),
-        Reading::Accepted {
-            steps: _,
-            blocks: _,
-        } => {
-            let mut space = [0u8; 8388]; // a result of 2048 records
-            put_outcome(out, book, &mut space)
-        }
+    let number = refusal_in(read(book));
+    if number == 0 {
+        let mut space = [0u8; 8388]; // a result of 2048 records
+        return put_outcome(out, book, &mut space);
     }
+    put_line(out, 0, b"refused;", number as u64)
 }

@@ -34,9 +34,9 @@ pub fn put_field(out: &mut [u8], at: usize, n: u64, end: u8) -> usize
     requires { ⌜ HasRoom (now out) at (field n end) ⌝ }
     ensures { λ r. ⌜ Put (now (out .entry)) at (field n end) (now (out .exit)) r ⌝ }
 {
-    let last = put_decimal(out, at, n);
-    out[last] = end;
-    last + 1
+    let behind = put_decimal(out, at, n);
+    out[behind] = end;
+    behind + 1
 }
 
 // The words, and the number n to the end of the line.
@@ -44,6 +44,6 @@ pub fn put_line(out: &mut [u8], at: usize, words: &[u8], n: u64) -> usize
     requires { ⌜ HasRoom (now out) at (now words ++ field n 10) ⌝ }
     ensures { λ r. ⌜ Put (now (out .entry)) at (now (words .entry) ++ field n 10) (now (out .exit)) r ⌝ }
 {
-    let behind = put_text(out, at, words);
-    put_field(out, behind, n, b'\n')
+    let behind_words = put_text(out, at, words);
+    put_field(out, behind_words, n, b'\n')
 }
