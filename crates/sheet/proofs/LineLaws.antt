@@ -1,5 +1,6 @@
 -- The lines of hours and of blocks, written one after another. Assumes nothing.
 use mathlib.Core.Path.{_≡_, refl, sym, ap, _∙_}
+use mathlib.Core.Bool.{Bool, cond}
 use mathlib.Core.List.{List, [], _∷_, _++_, append-assoc, append-nil}
 use Prim.Native.Nat.{ℕ, zero, suc, _+_, _-_, _≤_, _<_}
 use native.Mathlib.Omega.{arith}
@@ -11,14 +12,55 @@ use Rattle.book.specs.Records.{number}
 use Rattle.clearing.proofs.ByteLaws.{splice-none}
 use Rattle.orders.specs.Columns.{blockRecords}
 use Rattle.clearing.specs.Result.{welfareIn, priceIn, tradedIn}
-use Rattle.sheet.specs.Text.{text, field, lineFeed, HasRoom, Put}
+use Rattle.sheet.specs.Text.{text, field, semicolon, lineFeed, HasRoom, Put}
 use Rattle.sheet.specs.Sheet.{hourLine, hourLines, blockLine}
 use Rattle.sheet.specs.Lines.{takenAt, blockLinesIn, linesIn}
-use Rattle.sheet.proofs.TextLaws.{room-first, room-then, put-then}
+use Rattle.sheet.proofs.TextLaws.{room-is, room-first, room-then, put-then}
 
 -- nothing is put
 pub put-none : (l : List ℕ) (at : ℕ) → Put l at [] l at
 put-none l at = record { written = splice-none l at; ends = sym (add-zero at) }
+
+-- A LINE OF AN HOUR: three fields
+module _ (l : List ℕ) (at h price traded : ℕ) (room : HasRoom l at (hourLine h price traded)) where
+  room-line : HasRoom l at (field h semicolon ++ (field price semicolon ++ field traded lineFeed))
+  unfolding hourLine
+  room-line = room
+
+  pub room-hour : HasRoom l at (field h semicolon)
+  room-hour = room-first l at _ _ room-line
+
+  module _ (m₁ : List ℕ) (p₁ : ℕ) (put₁ : Put l at (field h semicolon) m₁ p₁) where
+    rest : HasRoom m₁ p₁ (field price semicolon ++ field traded lineFeed)
+    rest = room-then l at _ _ room-line m₁ p₁ put₁
+
+    pub room-price : HasRoom m₁ p₁ (field price semicolon)
+    room-price = room-first m₁ p₁ _ _ rest
+
+    module _ (m₂ : List ℕ) (p₂ : ℕ) (put₂ : Put m₁ p₁ (field price semicolon) m₂ p₂) where
+      pub room-traded : HasRoom m₂ p₂ (field traded lineFeed)
+      room-traded = room-then m₁ p₁ _ _ rest m₂ p₂ put₂
+
+      pub put-hour-line : (r : List ℕ) (q : ℕ) → Put m₂ p₂ (field traded lineFeed) r q → Put l at (hourLine h price traded) r q
+      unfolding hourLine
+      put-hour-line r q put₃ = put-then l at _ _ room-line m₁ p₁ put₁ r q (put-then m₁ p₁ _ _ rest m₂ p₂ put₂ r q put₃)
+
+-- A LINE OF A BLOCK: two fields
+module _ (l : List ℕ) (at number : ℕ) (taken : Bool) (room : HasRoom l at (blockLine number taken)) where
+  room-both : HasRoom l at (field number semicolon ++ field (cond taken 1 0) lineFeed)
+  unfolding blockLine
+  room-both = room
+
+  pub room-number : HasRoom l at (field number semicolon)
+  room-number = room-first l at _ _ room-both
+
+  module _ (m : List ℕ) (p : ℕ) (put₁ : Put l at (field number semicolon) m p) (flag : ℕ) (is : flag ≡ cond taken 1 0) where
+    pub room-flag : HasRoom m p (field flag lineFeed)
+    room-flag = rw is (room-then l at _ _ room-both m p put₁)
+
+    pub put-block-line : (r : List ℕ) (q : ℕ) → Put m p (field flag lineFeed) r q → Put l at (blockLine number taken) r q
+    unfolding blockLine
+    put-block-line r q put₂ = put-then l at _ _ room-both m p put₁ r q (rw is at put₂)
 
 -- HOURS
 module _ (price traded : ℕ → ℕ) where
@@ -35,10 +77,12 @@ module _ (price traded : ℕ → ℕ) where
   unfolding hourLines
   hours-shorter n zero = rw add-zero (omega arith)
   hours-shorter n (suc m) =
-      rw add-suc (omega (arith, hours-shorter n m, length-append (hourLines (n + m) price traded) (hourLine (suc (n + m)) (price (suc (n + m))) (traded (suc (n + m))))))
+      let last = hourLine (suc (n + m)) (price (suc (n + m))) (traded (suc (n + m))) in
+      rw add-suc (omega (arith, hours-shorter n m, length-append (hourLines (n + m) price traded) last))
 
-  module _ (l : List ℕ) (at h : ℕ) (below : h < 24) (fits : HasRoom l at (hourLines 24 price traded)) where
+  module _ (l : List ℕ) (at h : ℕ) (below : h < 24) (room : HasRoom l at (hourLines 24 price traded)) where
     hours-room : HasRoom l at (hourLines h price traded ++ hourLine (h + 1) (price (h + 1)) (traded (h + 1)))
+    unfolding HasRoom
     hours-room =
         let e : h + 1 + (23 - h) ≡ 24 = omega arith in
         let n = rw e at (hours-shorter (h + 1) (23 - h)) in
@@ -50,7 +94,8 @@ module _ (price traded : ℕ → ℕ) where
       hour-room = room-then l at _ _ hours-room m p before
 
       -- and is put
-      pub hour-put : (r : List ℕ) (q : ℕ) → Put m p (hourLine (h + 1) (price (h + 1)) (traded (h + 1))) r q → Put l at (hourLines (h + 1) price traded) r q
+      pub hour-put : (r : List ℕ) (q : ℕ) → Put m p (hourLine (h + 1) (price (h + 1)) (traded (h + 1))) r q →
+          Put l at (hourLines (h + 1) price traded) r q
       hour-put r q line = rw (hour-more h) (put-then l at _ _ hours-room m p before r q line)
 
 -- BLOCKS
@@ -84,12 +129,19 @@ module _ (b result : List ℕ) where
         ap (blockLinesIn b result) (rw (add-one, ← record-is) (take-suc records i 0 (omega arith)))
         ∙ blocks-append (take i records) (k ∷ []) ∙ rw (blocks-one k)
 
-    module _ (l : List ℕ) (at : ℕ) (fits : HasRoom l at (blockLinesIn b result records)) where
+    module _ (l : List ℕ) (at : ℕ) (room : HasRoom l at (blockLinesIn b result records)) where
       blocks-room : HasRoom l at (blockLinesIn b result (take i records) ++ line)
+      unfolding HasRoom
       blocks-room =
           let n = blocks-append (take (i + 1) records) (drop (i + 1) records) in
           let whole = ap (blockLinesIn b result) (take-append-drop (i + 1) records) in
-          rw (← block-more) (omega (arith, ap length (sym whole ∙ n), length-append (blockLinesIn b result (take (i + 1) records)) (blockLinesIn b result (drop (i + 1) records))))
+          rw (← block-more)
+          (omega (
+            arith,
+            ap length (sym whole ∙ n),
+            length-append (blockLinesIn b result (take (i + 1) records)) (blockLinesIn b result (drop (i + 1) records)),
+            room-is l at (blockLinesIn b result records) room,
+          ))
 
       module _ (m : List ℕ) (p : ℕ) (before : Put l at (blockLinesIn b result (take i records)) m p) where
         pub block-room : HasRoom m p (blockLine (number b (getD column i 0)) (takenAt b result (getD column i 0)))
@@ -148,7 +200,8 @@ module _ (b result l : List ℕ) (room : HasRoom l 0 (linesIn b result)) where
           pub room-welfare : HasRoom m₄ p₄ (text "welfare;" ++ field (welfareIn result) lineFeed)
           room-welfare = room-then m₃ p₃ blocks welfare rest₃ m₄ p₄ put₄
 
-          pub put-all : (r : List ℕ) (q : ℕ) → Put m₄ p₄ (text "welfare;" ++ field (welfareIn result) lineFeed) r q → Put l 0 (linesIn b result) r q
+          pub put-all : (r : List ℕ) (q : ℕ) → Put m₄ p₄ (text "welfare;" ++ field (welfareIn result) lineFeed) r q →
+              Put l 0 (linesIn b result) r q
           unfolding linesIn
           put-all r q put₅ =
               put-then l 0 heading _ room-all m₁ p₁ put₁ r q

@@ -71,7 +71,8 @@ module _ (b : List ℕ) (a : Accepted b) where
   unfolding linesIn outcomeSheet
   lines-are =
       rw (
-        hours-same 24 (priceIn result) (ofHour (published (ordersOf b) .prices)) (tradedIn result) (ofHour (published (ordersOf b) .traded)) prices-same traded-same,
+        hours-same 24 (priceIn result) (ofHour (published (ordersOf b) .prices)) (tradedIn result) (ofHour (published (ordersOf b) .traded)) prices-same
+            traded-same,
         blocks-all b a,
         blocks-same b result (blockChain b),
         taken-same,
@@ -94,7 +95,8 @@ field-length : (n end : ℕ) → length (field n end) ≡ length (decimal n) + 1
 unfolding field
 field-length n end = length-append (decimal n) (end ∷ [])
 
-hour-length : (h price traded : ℕ) → length (hourLine h price traded) ≡ length (decimal h) + length (decimal price) + length (decimal traded) + 3
+hour-length : (h price traded : ℕ) →
+    length (hourLine h price traded) ≡ length (decimal h) + length (decimal price) + length (decimal traded) + 3
 unfolding hourLine
 hour-length h price traded = rw (length-append, length-append, field-length, field-length, field-length) (omega arith)
 
@@ -122,9 +124,13 @@ most-24 : most 24 ≡ 471
 unfolding most decimal decimalIn
 most-24 = refl
 
-pub refused-short : (n : ℕ) → length (refusedLine n) ≤ 29
+refused-short : (n : ℕ) → length (refusedLine n) ≤ 29
 unfolding refusedLine text
 refused-short n = omega (arith, field-length n lineFeed, any-digits n)
+
+pub refused-room : (n : ℕ) (out : List ℕ) → length out ≡ 781 → HasRoom out 0 (refusedLine n)
+unfolding HasRoom
+refused-room n out whole = omega (arith, refused-short n)
 
 -- a block's number has 5 digits, its flag one
 flag-length : (taken : Bool) → length (decimal (cond taken 1 0)) ≤ 1
@@ -167,9 +173,11 @@ module _ (b : List ℕ) (bytes : (i : ℕ) → byteAt b i < 256) where
     unfolding linesIn text
     lines-short =
         let hours = hours-short (priceIn (resultBytes b)) (tradedIn (resultBytes b)) 24 hour-small in
-        let words : (length (text "hour;cents;tenths\n") ≡ 18) × (length (text "block;taken\n") ≡ 12) × (length (text "welfare;") ≡ 8) = (refl, refl, refl) in
+        let heading : length (text "hour;cents;tenths\n") ≡ 18 = refl in
+        let title : length (text "block;taken\n") ≡ 12 = refl in
+        let word : length (text "welfare;") ≡ 8 = refl in
         rw (length-append, length-append, length-append, length-append, length-append, field-length)
-        (omega (arith, words, most-24, hours, blocks-short (resultBytes b) (blockRecords b), block-records-fit b, welfare-digits))
+        (omega (arith, heading, title, word, most-24, hours, blocks-short (resultBytes b) (blockRecords b), block-records-fit b, welfare-digits))
 
   -- NO SHEET HAS MORE THAN 781 BYTES
   pub sheet-short : length (sheetOf b) ≤ 781
@@ -210,6 +218,7 @@ module _ (b space : List ℕ) (count : ℕ) (a : Accepted b) (counted : count �
     -- the lines have room in 781 bytes, and are the sheet
     pub lines-room : ((i : ℕ) → byteAt b i < 256) → (out : List ℕ) → 781 ≤ length out →
         HasRoom out 0 (linesIn b (take (196 + 4 * count) (after ++ drop (196 + 4 * count) space)))
+    unfolding HasRoom
     lines-room bytes out room = rw lines-in-front (omega (arith, sheet-short b bytes))
 
     pub lines-put : (out r : List ℕ) (q : ℕ) → Put out 0 (linesIn b (take (196 + 4 * count) (after ++ drop (196 + 4 * count) space))) r q →

@@ -20,29 +20,42 @@ pub splice-one : (l : List ℕ) (at x : ℕ) → at < length l → set l at x �
 unfolding splice
 splice-one l at x h = rw add-one (set-split l at x h)
 
+-- ROOM
+pub room-is : (l : List ℕ) (at : ℕ) (bytes : List ℕ) → HasRoom l at bytes → at + length bytes ≤ length l
+unfolding HasRoom
+room-is l at bytes room = room
+
+pub room-from : (l : List ℕ) (at : ℕ) (bytes : List ℕ) → at + length bytes ≤ length l → HasRoom l at bytes
+unfolding HasRoom
+room-from l at bytes room = room
+
 -- BYTES AFTER BYTES
-module _ (l : List ℕ) (at : ℕ) (a b : List ℕ) (fits : HasRoom l at (a ++ b)) where
+module _ (l : List ℕ) (at : ℕ) (a b : List ℕ) (room : HasRoom l at (a ++ b)) where
+  room-both : at + length a + length b ≤ length l
+  room-both = omega (arith, room-is l at (a ++ b) room, length-append a b)
+
   -- the first have room
   pub room-first : HasRoom l at a
-  room-first = omega (arith, length-append a b)
+  room-first = room-from l at a (omega (arith, room-both))
 
   module _ (m : List ℕ) (p : ℕ) (first : Put l at a m p) where
     -- the others have room behind them
     pub room-then : HasRoom m p b
     room-then =
-        rw (first .written, first .ends) (omega (arith, length-append a b, length-splice l at a room-first))
+        room-from m p b
+        (rw (first .written, first .ends) (omega (arith, room-both, length-splice l at a (omega (arith, room-both)))))
 
     -- and both together are put
     pub put-then : (r : List ℕ) (q : ℕ) → Put m p b r q → Put l at (a ++ b) r q
     put-then r q second =
         record {
-          written = then l m r at p a b (omega (arith, length-append a b)) (first .written) (first .ends) (second .written);
+          written = then l m r at p a b room-both (first .written) (first .ends) (second .written);
           ends = omega (arith, length-append a b, first .ends, second .ends);
         }
 
     -- so where the second is one byte
     pub room-byte : (x : ℕ) → b ≡ x ∷ [] → p < length m
-    room-byte x e = omega (arith, ap length e, room-then)
+    room-byte x e = omega (arith, ap length e, room-is m p b room-then)
 
     pub put-byte : (x : ℕ) → b ≡ x ∷ [] → Put l at (a ++ b) (set m p x) (p + 1)
     put-byte x e = put-then (set m p x) (p + 1) (record { written = splice-one m p x (room-byte x e) ∙ rw e; ends = omega (arith, ap length e) })
@@ -52,7 +65,8 @@ pub put-as : (l : List ℕ) (at : ℕ) (a b r : List ℕ) (q : ℕ) → a ≡ b 
 put-as l at a b r q e p = rw e at p
 
 -- for a caller that lends the part of the buffer up to `end`
-pub put-counts : (l : List ℕ) (at : ℕ) (bytes m : List ℕ) (p : ℕ) → Put l at bytes m p → p ≤ length l → (p ≤ length m) × (p ≡ length (take p m))
+pub put-counts : (l : List ℕ) (at : ℕ) (bytes m : List ℕ) (p : ℕ) → Put l at bytes m p → p ≤ length l →
+    (p ≤ length m) × (p ≡ length (take p m))
 put-counts l at bytes m p put inside =
     let n : length m ≡ length l = rw (put .written) (length-splice l at bytes (omega (arith, put .ends))) in
     (omega arith, sym (length-take-le p m (omega arith)))
@@ -60,7 +74,8 @@ put-counts l at bytes m p put inside =
 -- a turn of the loop that copies bytes
 pub copied-more : (l m words : List ℕ) (at i : ℕ) → HasRoom l at words → i < length words → m ≡ splice l at (take i words) →
     set m (at + i) (getD words i 0) ≡ splice l at (take (i + 1) words)
-copied-more l m words at i fits h e =
+unfolding HasRoom
+copied-more l m words at i room h e =
     let n : length (take i words) ≡ i = length-take-le i words (omega arith) in
     let all : take (i + 1) words ≡ take i words ++ (getD words i 0 ∷ []) = rw add-one (take-suc words i 0 h) in
     put-byte l at (take i words) (getD words i 0 ∷ []) (omega (arith, length-append (take i words) (getD words i 0 ∷ []))) m (at + i)
@@ -77,8 +92,8 @@ enough : (k n : ℕ) → n < 10 ^ suc k → decimalIn (suc (suc k)) n ≡ decima
 unfolding decimalIn
 enough zero n h = rw (lt-ltb n 10 h)
 enough (suc k) n h =
-    by-lt (λ t. cond t (digit n ∷ []) (decimalIn (suc (suc k)) (n / 10) ++ (digit n ∷ [])) ≡ cond t (digit n ∷ []) (decimalIn (suc k) (n / 10) ++ (digit n ∷ [])))
-    n 10 (λ g. refl) (λ g. let g : n < 10 ^ suc k * 10 = rw pow-suc at h in rw (enough k (n / 10) (omega arith)))
+    let one = digit n ∷ [] in
+    by-lt (λ t. cond t one (decimalIn (suc (suc k)) (n / 10) ++ one) ≡ cond t one (decimalIn (suc k) (n / 10) ++ one)) n 10 (λ g. refl) (λ g. let g : n < 10 ^ suc k * 10 = rw pow-suc at h in rw (enough k (n / 10) (omega arith)))
 
 last-digit : (k n : ℕ) → 10 ≤ n → decimalIn (suc k) n ≡ decimalIn k (n / 10) ++ (digit n ∷ [])
 unfolding decimalIn
@@ -117,24 +132,25 @@ any-digits n = any-digits-in 20 n
 
 -- THE WRITER OF A NUMBER
 -- one digit
-module _ (l : List ℕ) (at n : ℕ) (h : n < 10) (fits : HasRoom l at (decimal n)) where
+module _ (l : List ℕ) (at n : ℕ) (h : n < 10) (room : HasRoom l at (decimal n)) where
   pub digit-room : at < length l
+  unfolding HasRoom
   digit-room = omega (arith, ap length (one-digit n h))
 
   pub put-digit : Put l at (decimal n) (set l at (digit n)) (at + 1)
   put-digit = rw (one-digit n h) (record { written = splice-one l at (digit n) digit-room; ends = refl })
 
 -- the last of several, behind the others
-module _ (l : List ℕ) (at n : ℕ) (h : n < 2 ^ 64) (g : 10 ≤ n) (fits : HasRoom l at (decimal n)) where
-  digits-fit : HasRoom l at (decimal (n / 10) ++ (digit n ∷ []))
-  digits-fit = rw (more-digits n h g) at fits
+module _ (l : List ℕ) (at n : ℕ) (h : n < 2 ^ 64) (g : 10 ≤ n) (room : HasRoom l at (decimal n)) where
+  digits-room : HasRoom l at (decimal (n / 10) ++ (digit n ∷ []))
+  digits-room = rw (more-digits n h g) at room
 
   pub others-room : HasRoom l at (decimal (n / 10))
-  others-room = room-first l at (decimal (n / 10)) (digit n ∷ []) digits-fit
+  others-room = room-first l at (decimal (n / 10)) (digit n ∷ []) digits-room
 
   module _ (m : List ℕ) (p : ℕ) (others : Put l at (decimal (n / 10)) m p) where
     pub last-room : p < length m
-    last-room = room-byte l at (decimal (n / 10)) (digit n ∷ []) digits-fit m p others (digit n) refl
+    last-room = room-byte l at (decimal (n / 10)) (digit n ∷ []) digits-room m p others (digit n) refl
 
     pub put-last : Put l at (decimal n) (set m p (digit n)) (p + 1)
-    put-last = rw (more-digits n h g) (put-byte l at (decimal (n / 10)) (digit n ∷ []) digits-fit m p others (digit n) refl)
+    put-last = rw (more-digits n h g) (put-byte l at (decimal (n / 10)) (digit n ∷ []) digits-room m p others (digit n) refl)

@@ -1,4 +1,5 @@
--- THE SHEET (document 01, S5, and "It writes `refused;` and the number, or the sheet of S5"), for every byte string. Definitions only. Assumes nothing.
+-- THE SHEET (document 01, S5, and "It writes `refused;` and the number, or the sheet of S5"), of every byte string. Definitions only.
+-- Assumes nothing.
 use Prim.Native.Nat.{ℕ, zero, suc, _-_}
 use mathlib.Core.Bool.{Bool, cond}
 use mathlib.Core.List.{List, [], _∷_, _++_}

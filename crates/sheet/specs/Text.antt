@@ -39,7 +39,7 @@ unfoldable pub field : ℕ → ℕ → List ℕ
 field n end = decimal n ++ (end ∷ [])
 
 -- The bytes have room in a buffer from `at` on.
-abbrev pub HasRoom : List ℕ → ℕ → List ℕ → Type 0
+unfoldable pub HasRoom : List ℕ → ℕ → List ℕ → Type 0
 HasRoom buffer at bytes = at + length bytes ≤ length buffer
 
 -- The bytes stand in the buffer from `at` up to `end`; the rest of it is as it was.

@@ -39,8 +39,8 @@ fn refusal_in(reading: Reading) -> u8
     }
 }
 
-// What is written of a book, from the start of the buffer, and its length: the sheet of its published outcome, or the line of its refusal. No sheet has
-// more than 781 bytes. The rest of the buffer stays as it was.
+// What is written of a book, and its length: the sheet of its published outcome, or the line of its refusal, from the start of the buffer on. No sheet
+// has more than 781 bytes. The rest of the buffer stays as it was.
 pub fn sheet(book: &[u8], out: &mut [u8; 781]) -> usize
     ensures { λ r. ⌜ Put (now (out .entry)) 0 (sheetOf (now (book .entry))) (now (out .exit)) r ⌝ }
     ensures fits { λ r. ⌜ r ≤ 781 ⌝ }

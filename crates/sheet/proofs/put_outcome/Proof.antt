@@ -21,13 +21,13 @@ slice-relend-prefix-clear : tie.Need-slice-relend-prefix-clear
 slice-relend-prefix-clear c =
     let start = c .before .before .before .before in
     let count = c .record-count in
-    front-fits (start .args .book .now) (start .args .space .now) (count .result) (start .pre .0) (count .ensures) (start .pre .2)
+    front-fits _ (start .args .space .now) _ (start .pre .0) (count .ensures) (start .pre .2)
 
 slice-aggregate-clear : tie.Need-slice-aggregate-clear
 slice-aggregate-clear c =
     let start = c .before .before .before .before .before in
     let count = c .before .record-count in
-    front-length (start .args .book .now) (start .args .space .now) (count .result) (start .pre .0) (count .ensures) (start .pre .2)
+    front-length _ (start .args .space .now) _ (start .pre .0) (count .ensures) (start .pre .2)
 
 clear-requires : tie.Need-clear-requires
 clear-requires c κs = search needs
@@ -36,20 +36,20 @@ slice-reshare-prefix-put-lines : tie.Need-slice-reshare-prefix-put-lines
 slice-reshare-prefix-put-lines c =
     let start = c .before .before .before .before .before .before .before .before .before in
     let count = c .before .before .before .before .before .record-count in
-    again-fits (start .args .book .now) (start .args .space .now) (count .result) (start .pre .0) (count .ensures) (start .pre .2) _ _ (c .before .before .before .clear .ensures)
+    again-fits _ (start .args .space .now) _ (start .pre .0) (count .ensures) (start .pre .2) _ _ (c .before .before .before .clear .ensures)
 
 slice-aggregate-put-lines : tie.Need-slice-aggregate-put-lines
 slice-aggregate-put-lines c =
     let start = c .before .before .before .before .before .before .before .before .before .before in
     let count = c .before .before .before .before .before .before .record-count in
-    again-length (start .args .book .now) (start .args .space .now) (count .result) (start .pre .0) (count .ensures) (start .pre .2) _ _ (c .before .before .before .before .clear .ensures)
+    again-length _ (start .args .space .now) _ (start .pre .0) (count .ensures) (start .pre .2) _ _ (c .before .before .before .before .clear .ensures)
 
 put-lines-requires : tie.Need-put-lines-requires
 put-lines-requires c κs =
     let start = c .before .before .before .before .before .before .before .before .before .before in
     let count = c .before .before .before .before .before .before .record-count in
-    lines-room (start .args .book .now) (start .args .space .now) (count .result) (start .pre .0) (count .ensures) (start .pre .2) _ _ (c .before .before .before .before .clear .ensures)
-    (λ i. omega (arith, c .before .before .before .before .before .before .before .before .shared-slice-known .given i)) (start .args .out .now) (start .pre .1)
+    lines-room _ (start .args .space .now) _ (start .pre .0) (count .ensures) (start .pre .2) _ _ (c .before .before .before .before .clear .ensures)
+    (λ i. omega (arith, c .before .before .before .before .before .before .before .before .shared-slice-known .given i)) _ (start .pre .1)
 
 same-length : tie.Need-same-length
 same-length c = search needs
@@ -59,9 +59,11 @@ same-length-2 c = search needs
 
 returns : tie.Need-returns
 returns c =
-    let start = c .before .before .before .before .before .before .before .before .before .before .before .before .before in
-    let count = c .before .before .before .before .before .before .before .before .before .record-count in
-    lines-put (start .args .book .now) (start .args .space .now) (count .result) (start .pre .0) (count .ensures) (start .pre .2) _ _ (c .before .before .before .before .before .before .before .clear .ensures) _ _ _ (c .before .before .put-lines .ensures)
+    let cleared = c .before .before .before .before .before .before .before in
+    let count = cleared .before .before in
+    let start = count .before .before .before .before in
+    lines-put _ (start .args .space .now) _ (start .pre .0) (count .record-count .ensures) (start .pre .2) _ _ (cleared .clear .ensures)
+    _ _ _ (c .before .before .put-lines .ensures)
 
 pub put-outcome-spec : {M : Type 1} → statement M
 put-outcome-spec =

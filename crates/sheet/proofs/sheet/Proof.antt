@@ -9,7 +9,7 @@ use Rattle.book.proofs.Refused.{number-reading}
 use Rattle.sheet.specs.Text.{text}
 use Rattle.sheet.specs.Sheet.{refusedLine}
 use Rattle.sheet.proofs.TextLaws.{put-as}
-use Rattle.sheet.proofs.SheetLaws.{refused-short, sheet-refused, put-short}
+use Rattle.sheet.proofs.SheetLaws.{refused-room, sheet-refused, put-short}
 use borrow.Author.Needs.{needs}
 use Rattle.sheet.proofs.sheet.Statement.{statement}
 use Rattle.sheet.proofs.sheet.Tie as tie
@@ -48,7 +48,7 @@ put-line-requires : tie.Need-put-line-requires
 unfolding refusedLine text
 put-line-requires c κs =
     let room : length (c .before .before .before .before .before .before .args .out .now) ≡ 781 = search needs in
-    omega (arith, refused-short (c .before .before .before .refusal-in .result))
+    refused-room (c .before .before .before .refusal-in .result) _ room
 
 returns-2 : tie.Need-returns-2
 unfolding refusedLine text

@@ -43,7 +43,7 @@ put-block-requires c κs =
     let blocks = c .before .before .before .before .before .before .blocks-of in
     let loop = c .before .before .before .before .loop in
     rw (c .number-of .ensures, c .before .before .is-taken .ensures)
-    (block-room (start .args .book .now) (start .args .result .now) (blockRecords (start .args .book .now)) (blocks .result .records) (blocks .result .count) (loop .i) (blocks .ensures .recordsAre) (blocks .ensures .counted) (search needs) (start .args .out .now) (start .args .at) (start .pre) _ _ (loop .inv .2))
+    (block-room _ _ _ _ _ (loop .i) (blocks .ensures .recordsAre) (blocks .ensures .counted) (search needs) _ _ (start .pre) _ _ (loop .inv .2))
 
 add-i : tie.Need-add-i Inv-loop μ-loop
 add-i c = search needs
@@ -59,7 +59,7 @@ loop-again c =
     let line = c .before .before .put-block in (
       search needs,
       line .kept .0 ∙ loop .inv .1,
-      block-put (start .args .book .now) (start .args .result .now) (blockRecords (start .args .book .now)) (blocks .result .records) (blocks .result .count) (loop .i) (blocks .ensures .recordsAre) (blocks .ensures .counted) (search needs) (start .args .out .now) (start .args .at) (start .pre) _ _ (loop .inv .2) _ _
+      block-put _ _ _ _ _ (loop .i) (blocks .ensures .recordsAre) (blocks .ensures .counted) (search needs) _ _ (start .pre) _ _ (loop .inv .2) _ _
           (rw (c .before .before .before .number-of .ensures, c .before .before .before .before .before .is-taken .ensures) at (line .ensures)),
     )
 
@@ -68,7 +68,8 @@ same-length c = search needs
 
 returns : tie.Need-returns Inv-loop μ-loop
 returns c =
-    let all : c .before .loop .i ≡ length (blockRecords (c .before .before .before .before .before .before .before .args .book .now)) = omega (arith, c .before .before .before .blocks-of .ensures .counted) in
+    let blocks = c .before .before .before in
+    let all : c .before .loop .i ≡ length (blockRecords (blocks .before .before .before .before .args .book .now)) = omega (arith, blocks .blocks-of .ensures .counted) in
     rw (all, take-length) at (c .before .loop .inv .2)
 
 pub put-blocks-spec : {M : Type 1} → statement M

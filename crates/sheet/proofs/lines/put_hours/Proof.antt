@@ -44,7 +44,7 @@ unfolding priceIn tradedIn
 put-hour-requires c κs =
     let start = c .before .before .before .before .before .before .before in
     let loop = c .before .before .before .before .loop in
-    rw (c .before .before .u32-at .ensures, c .before .u32-at2 .ensures) (hour-room (priceIn (start .args .result .now)) (tradedIn (start .args .result .now)) (start .args .out .now) (start .args .at) (loop .h) (search needs) (start .pre) _ _ (loop .inv .2))
+    rw (c .before .before .u32-at .ensures, c .before .u32-at2 .ensures) (hour-room _ _ _ _ (loop .h) (search needs) (start .pre) _ _ (loop .inv .2))
 
 loop-less : tie.Need-loop-less Inv-loop μ-loop
 loop-less c = search needs
@@ -52,12 +52,15 @@ loop-less c = search needs
 loop-again : tie.Need-loop-again Inv-loop μ-loop
 unfolding priceIn tradedIn
 loop-again c =
-    let start = c .before .before .before .before .before .before .before .before .before .before in
-    let loop = c .before .before .before .before .before .before .before .loop in
-    let line = c .before .before .put-hour in (
+    let line = c .before .before in
+    let traded = line .before .before in
+    let price = traded .before in
+    let loop = price .before .before in
+    let start = loop .before .before .before in (
       search needs,
-      line .kept .0 ∙ loop .inv .1,
-      hour-put (priceIn (start .args .result .now)) (tradedIn (start .args .result .now)) (start .args .out .now) (start .args .at) (loop .h) (search needs) (start .pre) _ _ (loop .inv .2) _ _ (rw (c .before .before .before .before .before .u32-at .ensures, c .before .before .before .before .u32-at2 .ensures) at (line .ensures)),
+      line .put-hour .kept .0 ∙ loop .loop .inv .1,
+      hour-put _ _ _ _ (loop .loop .h) (search needs) (start .pre) _ _ (loop .loop .inv .2) _ _
+          (rw (price .u32-at .ensures, traded .u32-at2 .ensures) at (line .put-hour .ensures)),
     )
 
 same-length : tie.Need-same-length Inv-loop μ-loop

@@ -11,14 +11,13 @@ slice-aggregate-put-text c = search needs
 put-text-requires : tie.Need-put-text-requires
 unfolding text
 put-text-requires c κs =
-    let start = c .before .before .before .before .before in
-    room-heading (start .args .book .now) (start .args .result .now) (start .args .out .now) (start .pre)
+    room-heading _ _ _ (c .before .before .before .before .before .pre)
 
 put-hours-requires : tie.Need-put-hours-requires
 unfolding text
 put-hours-requires c κs =
-    let start = c .before .before .before .before .before .before .before .before .before in
-    room-hours (start .args .book .now) (start .args .result .now) (start .args .out .now) (start .pre) _ _ (c .before .before .before .put-text .ensures)
+    let heading = c .before .before .before in
+    room-hours _ _ _ (heading .before .before .before .before .before .before .pre) _ _ (heading .put-text .ensures)
 
 slice-aggregate-put-text-2 : tie.Need-slice-aggregate-put-text-2
 slice-aggregate-put-text-2 c = search needs
@@ -26,14 +25,17 @@ slice-aggregate-put-text-2 c = search needs
 put-text-requires-2 : tie.Need-put-text-requires-2
 unfolding text
 put-text-requires-2 c κs =
-    let start = c .before .before .before .before .before .before .before .before .before .before .before .before .before .before in
-    room-title (start .args .book .now) (start .args .result .now) (start .args .out .now) (start .pre) _ _ (c .before .before .before .before .before .before .before .before .put-text .ensures) _ _ (c .before .before .before .before .put-hours .ensures)
+    let hours = c .before .before .before .before in
+    let heading = hours .before .before .before .before in
+    room-title _ _ _ (heading .before .before .before .before .before .before .pre) _ _ (heading .put-text .ensures) _ _ (hours .put-hours .ensures)
 
 put-blocks-requires : tie.Need-put-blocks-requires
 unfolding text
 put-blocks-requires c κs =
-    let start = c .before .before .before .before .before .before .before .before .before .before .before .before .before .before .before .before .before .before in
-    room-blocks (start .args .book .now) (start .args .result .now) (start .args .out .now) (start .pre) _ _ (c .before .before .before .before .before .before .before .before .before .before .before .before .put-text .ensures) _ _ (c .before .before .before .before .before .before .before .before .put-hours .ensures) _ _ (c .before .before .before .put-text2 .ensures)
+    let title = c .before .before .before in
+    let hours = title .before .before .before .before .before in
+    let heading = hours .before .before .before .before in
+    room-blocks _ _ _ (heading .before .before .before .before .before .before .pre) _ _ (heading .put-text .ensures) _ _ (hours .put-hours .ensures) _ _ (title .put-text2 .ensures)
 
 slice-aggregate-put-line : tie.Need-slice-aggregate-put-line
 slice-aggregate-put-line c = search needs
@@ -44,8 +46,13 @@ welfare-of-requires c κs = search needs
 put-line-requires : tie.Need-put-line-requires
 unfolding text
 put-line-requires c κs =
-    let start = c .before .before .before .before .before .before .before .before .before .before .before .before .before .before .before .before .before .before .before .before .before .before .before .before in
-    rw (c .welfare-of .ensures) (room-welfare (start .args .book .now) (start .args .result .now) (start .args .out .now) (start .pre) _ _ (c .before .before .before .before .before .before .before .before .before .before .before .before .before .before .before .before .before .before .put-text .ensures) _ _ (c .before .before .before .before .before .before .before .before .before .before .before .before .before .before .put-hours .ensures) _ _ (c .before .before .before .before .before .before .before .before .before .put-text2 .ensures) _ _ (c .before .before .before .before .before .put-blocks .ensures))
+    let blocks = c .before .before .before .before .before in
+    let title = blocks .before .before .before .before in
+    let hours = title .before .before .before .before .before in
+    let heading = hours .before .before .before .before in
+    rw (c .welfare-of .ensures)
+    (room-welfare _ _ _ (heading .before .before .before .before .before .before .pre) _ _ (heading .put-text .ensures) _ _ (hours .put-hours .ensures) _ _ (title .put-text2 .ensures)
+    _ _ (blocks .put-blocks .ensures))
 
 same-length : tie.Need-same-length
 same-length c = search needs
@@ -53,8 +60,13 @@ same-length c = search needs
 returns : tie.Need-returns
 unfolding text
 returns c =
-    let start = c .before .before .before .before .before .before .before .before .before .before .before .before .before .before .before .before .before .before .before .before .before .before .before .before .before .before .before in
-    put-all (start .args .book .now) (start .args .result .now) (start .args .out .now) (start .pre) _ _ (c .before .before .before .before .before .before .before .before .before .before .before .before .before .before .before .before .before .before .before .before .before .put-text .ensures) _ _ (c .before .before .before .before .before .before .before .before .before .before .before .before .before .before .before .before .before .put-hours .ensures) _ _ (c .before .before .before .before .before .before .before .before .before .before .before .before .put-text2 .ensures) _ _ (c .before .before .before .before .before .before .before .before .put-blocks .ensures) _ _ (rw (c .before .before .before .welfare-of .ensures) at (c .before .before .put-line .ensures))
+    let line = c .before .before in
+    let blocks = c .before .before .before .before .before .before .before .before in
+    let title = blocks .before .before .before .before in
+    let hours = title .before .before .before .before .before in
+    let heading = hours .before .before .before .before in
+    put-all _ _ _ (heading .before .before .before .before .before .before .pre) _ _ (heading .put-text .ensures) _ _ (hours .put-hours .ensures) _ _ (title .put-text2 .ensures)
+    _ _ (blocks .put-blocks .ensures) _ _ (rw (line .before .welfare-of .ensures) at (line .put-line .ensures))
 
 pub put-lines-spec : {M : Type 1} → statement M
 put-lines-spec =

@@ -3,7 +3,7 @@ use native.Mathlib.Omega.{arith}
 use lib.ListN.{length-set}
 use Rattle.sheet.proofs.TextLaws.{digit-room, put-digit, others-room, last-room, put-last}
 use borrow.Author.Needs.{needs}
-use Prim.Native.Nat.{ℕ, _<_}
+use Prim.Native.Nat.{ℕ, _<_, _≤_}
 use borrow.Fn.Kinds.{In}
 use borrow.Fn.PlainCycle.{Measures, is, falls, and}
 use Rattle.sheet.proofs.text.put_decimal.Reads as put-decimal
@@ -35,12 +35,12 @@ put-decimal-cast-out t c = search needs
 put-decimal-slice-write-out : (t : ℕ) → put-decimal-lts.Need-slice-write-out (claims-put-decimal t) (put-decimal-at t) put-decimal.Post
 put-decimal-slice-write-out t c =
     let start = c .before .before in
-    digit-room (start .args .out .now) (start .args .at) (start .args .n) (c .if1 .taken) (start .pre .1)
+    digit-room _ _ (start .args .n) (omega (arith, c .if1 .taken)) (start .pre .1)
 
 put-decimal-add-result : (t : ℕ) → put-decimal-lts.Need-add-result (claims-put-decimal t) (put-decimal-at t) put-decimal.Post
 put-decimal-add-result t c =
     let start = c .before .before in
-    omega (arith, digit-room (start .args .out .now) (start .args .at) (start .args .n) (c .if1 .taken) (start .pre .1))
+    omega (arith, digit-room _ _ (start .args .n) (omega (arith, c .if1 .taken)) (start .pre .1))
 
 put-decimal-same-length : (t : ℕ) → put-decimal-lts.Need-same-length (claims-put-decimal t) (put-decimal-at t) put-decimal.Post
 put-decimal-same-length t c = search needs
@@ -48,12 +48,12 @@ put-decimal-same-length t c = search needs
 put-decimal-returns : (t : ℕ) → put-decimal-lts.Need-returns (claims-put-decimal t) (put-decimal-at t) put-decimal.Post
 put-decimal-returns t c =
     let start = c .before .before in
-    put-digit (start .args .out .now) (start .args .at) (start .args .n) (c .if1 .taken) (start .pre .1)
+    put-digit _ _ (start .args .n) (omega (arith, c .if1 .taken)) (start .pre .1)
 
 put-decimal-put-decimal-requires : (t : ℕ) → put-decimal-lts.Need-put-decimal-requires (claims-put-decimal t) (put-decimal-at t) put-decimal.Post
 put-decimal-put-decimal-requires t c κs =
     let start = c .before .before .before in
-    (omega (arith, start .pre .0), others-room (start .args .out .now) (start .args .at) (start .args .n) (start .fits .n .fits) (c .before .if1 .left) (start .pre .1))
+    (omega (arith, start .pre .0), others-room _ _ (start .args .n) (start .fits .n .fits) (omega (arith, c .before .if1 .left)) (start .pre .1))
 
 put-decimal-add-out-2 : (t : ℕ) → put-decimal-lts.Need-add-out-2 (claims-put-decimal t) (put-decimal-at t) put-decimal.Post
 put-decimal-add-out-2 t c = search needs
@@ -65,13 +65,15 @@ put-decimal-slice-write-out-2 : (t : ℕ) → put-decimal-lts.Need-slice-write-o
 put-decimal-slice-write-out-2 t c =
     let start = c .before .before .before .before .before .before in
     let others = c .before .before .put-decimal .ensures in
-    last-room (start .args .out .now) (start .args .at) (start .args .n) (start .fits .n .fits) (c .before .before .before .before .if1 .left) (start .pre .1) _ _ others
+    let several : 10 ≤ start .args .n = omega (arith, c .before .before .before .before .if1 .left) in
+    last-room _ _ (start .args .n) (start .fits .n .fits) several (start .pre .1) _ _ others
 
 put-decimal-add-result-2 : (t : ℕ) → put-decimal-lts.Need-add-result-2 (claims-put-decimal t) (put-decimal-at t) put-decimal.Post
 put-decimal-add-result-2 t c =
     let start = c .before .before .before .before .before .before in
     let others = c .before .before .put-decimal .ensures in
-    omega (arith, last-room (start .args .out .now) (start .args .at) (start .args .n) (start .fits .n .fits) (c .before .before .before .before .if1 .left) (start .pre .1) _ _ others)
+    let several : 10 ≤ start .args .n = omega (arith, c .before .before .before .before .if1 .left) in
+    omega (arith, last-room _ _ (start .args .n) (start .fits .n .fits) several (start .pre .1) _ _ others)
 
 put-decimal-same-length-2 : (t : ℕ) → put-decimal-lts.Need-same-length-2 (claims-put-decimal t) (put-decimal-at t) put-decimal.Post
 put-decimal-same-length-2 t c = simp length-set (c .before .before .put-decimal .kept .0)
@@ -80,7 +82,8 @@ put-decimal-returns-2 : (t : ℕ) → put-decimal-lts.Need-returns-2 (claims-put
 put-decimal-returns-2 t c =
     let start = c .before .before .before .before .before .before in
     let others = c .before .before .put-decimal .ensures in
-    put-last (start .args .out .now) (start .args .at) (start .args .n) (start .fits .n .fits) (c .before .before .before .before .if1 .left) (start .pre .1) _ _ others
+    let several : 10 ≤ start .args .n = omega (arith, c .before .before .before .before .if1 .left) in
+    put-last _ _ (start .args .n) (start .fits .n .fits) several (start .pre .1) _ _ others
 
 pub +put-decimal-spec : {M : Type 1} → statement M
 +put-decimal-spec = close μ-put-decimal λ t. put-decimal-lts.spec (claims-put-decimal t)

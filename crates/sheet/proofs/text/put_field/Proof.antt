@@ -12,21 +12,21 @@ put-decimal-requires : tie.Need-put-decimal-requires
 unfolding field
 put-decimal-requires c κs =
     let start = c .before .before in
-    room-first (start .args .out .now) (start .args .at) (decimal (start .args .n)) (start .args .end ∷ []) (start .pre)
+    room-first _ _ _ _ (start .pre)
 
 slice-write-out : tie.Need-slice-write-out
 unfolding field
 slice-write-out c =
     let start = c .before .before .before .before .before in
     let number = c .before .before .put-decimal in
-    room-byte (start .args .out .now) (start .args .at) (decimal (start .args .n)) (start .args .end ∷ []) (start .pre) _ _ (number .ensures) (start .args .end) refl
+    room-byte _ _ _ _ (start .pre) _ _ (number .ensures) _ refl
 
 add-result : tie.Need-add-result
 unfolding field
 add-result c =
     let start = c .before .before .before .before .before in
     let number = c .before .before .put-decimal in
-    omega (arith, room-byte (start .args .out .now) (start .args .at) (decimal (start .args .n)) (start .args .end ∷ []) (start .pre) _ _ (number .ensures) (start .args .end) refl)
+    omega (arith, room-byte _ _ _ _ (start .pre) _ _ (number .ensures) _ refl)
 
 same-length : tie.Need-same-length
 same-length c = search needs
@@ -36,7 +36,7 @@ unfolding field
 returns c =
     let start = c .before .before .before .before .before in
     let number = c .before .before .put-decimal in
-    put-byte (start .args .out .now) (start .args .at) (decimal (start .args .n)) (start .args .end ∷ []) (start .pre) _ _ (number .ensures) (start .args .end) refl
+    put-byte _ _ _ _ (start .pre) _ _ (number .ensures) _ refl
 
 pub put-field-spec : {M : Type 1} → statement M
 put-field-spec =

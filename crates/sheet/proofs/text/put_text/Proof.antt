@@ -6,6 +6,7 @@ use lib.ListN.{length, take, length-set}
 use lib.Seq.{take-all}
 use Rattle.clearing.specs.Rows.{splice}
 use Rattle.clearing.proofs.ByteLaws.{splice-none}
+use Rattle.sheet.specs.Text.{HasRoom}
 use Rattle.sheet.proofs.TextLaws.{copied-more}
 use borrow.Author.Needs.{needs}
 use Rattle.sheet.proofs.text.put_text.Statement.{statement}
@@ -24,9 +25,11 @@ shared-slice-read-out : tie.Need-shared-slice-read-out Inv-loop μ-loop
 shared-slice-read-out c = search needs
 
 add-out : tie.Need-add-out Inv-loop μ-loop
+unfolding HasRoom
 add-out c = search needs
 
 slice-write-out : tie.Need-slice-write-out Inv-loop μ-loop
+unfolding HasRoom
 slice-write-out c = search needs
 
 add-i : tie.Need-add-i Inv-loop μ-loop
@@ -42,6 +45,7 @@ loop-again c =
     (search needs, simp length-set (loop .inv .1), copied-more _ _ _ (start .args .at) (loop .i) (start .pre) (c .before .loop-test .taken) (loop .inv .2))
 
 add-result : tie.Need-add-result Inv-loop μ-loop
+unfolding HasRoom
 add-result c = search needs
 
 same-length : tie.Need-same-length Inv-loop μ-loop
