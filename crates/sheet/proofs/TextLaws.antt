@@ -7,8 +7,8 @@ use native.Mathlib.Omega.{arith}
 use native.Mathlib.Nat.{pow-suc}
 use native.Mathlib.Numerals.{add-one}
 use lib.Dec.{ltb}
-use lib.ListN.{length, take, set, getD, length-append}
-use lib.Seq.{length-take-le, take-all, take-suc, set-split}
+use lib.ListN.{length, take, drop, set, getD, length-append}
+use lib.Seq.{length-take-le, take-at, take-suc, set-split}
 use borrow.Author.Tests.{lt-ltb, le-ltb}
 use Rattle.clearing.specs.Rows.{splice}
 use Rattle.clearing.proofs.ByteLaws.{length-splice, splice-splice, then}
@@ -70,6 +70,11 @@ pub put-counts : (l : List ℕ) (at : ℕ) (bytes m : List ℕ) (p : ℕ) → Pu
 put-counts l at bytes m p put inside =
     let n : length m ≡ length l = rw (put .written) (length-splice l at bytes (omega (arith, put .ends))) in
     (omega arith, sym (length-take-le p m (omega arith)))
+
+-- and for one that reads them
+pub put-front : (l bytes m : List ℕ) (p : ℕ) → Put l 0 bytes m p → take p m ≡ bytes
+unfolding splice
+put-front l bytes m p put = rw (put .written) (take-at bytes (drop (0 + length bytes) l) p (omega (arith, put .ends)))
 
 -- a turn of the loop that copies bytes
 pub copied-more : (l m words : List ℕ) (at i : ℕ) → HasRoom l at words → i < length words → m ≡ splice l at (take i words) →

@@ -22,7 +22,7 @@ cast-result c = search needs
 
 returns : tie.Need-returns
 unfolding takenAt rowIn
-returns c = cc
+returns c = rw (c .before .u32-at .ensures, c .before .before .block-at .ensures)
 
 pub is-taken-spec : {M : Type 1} → statement M
 is-taken-spec =

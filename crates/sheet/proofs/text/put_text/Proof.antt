@@ -42,7 +42,7 @@ loop-again : tie.Need-loop-again Inv-loop μ-loop
 loop-again c =
     let start = c .before .before .before in
     let loop = c .before .before .loop in
-    (search needs, simp length-set (loop .inv .1), copied-more _ _ _ (start .args .at) (loop .i) (start .pre) (c .before .loop-test .taken) (loop .inv .2))
+    (search needs, simp length-set (loop .inv .1), copied-more _ _ _ (start .args .at) (loop .i) (start .pre) (omega (arith, c .before .loop-test .taken)) (loop .inv .2))
 
 add-result : tie.Need-add-result Inv-loop μ-loop
 unfolding HasRoom
