@@ -1,11 +1,10 @@
 -- A SHEET OUT OF THE RESULT'S BYTES IS THE SHEET, and no sheet has more than 781 bytes. Assumes nothing.
-use mathlib.Core.Path.{_≡_, refl, sym, ap, _∙_}
+use mathlib.Core.Path.{_≡_, refl, sym, _∙_}
 use mathlib.Core.Bool.{Bool, true, false, cond}
 use mathlib.Core.List.{List, [], _∷_, _++_, map}
 use Prim.Native.Nat.{ℕ, zero, suc, _+_, _*_, _^_, _≤_, _<_}
 use native.Mathlib.Omega.{arith}
-use lib.Dec.{eqb}
-use lib.ListN.{length, take, drop, getD, length-append}
+use lib.ListN.{length, take, drop, length-append}
 use lib.Seq.{length-take-le, take-at}
 use borrow.Author.Tests.{eq-eqb, ne-eqb}
 use Rattle.book.specs.Bytes.{byteAt, u16At}
@@ -13,7 +12,7 @@ use Rattle.book.specs.Records.{recordCount, number, blockAt}
 use Rattle.book.specs.Chains.{blockChain}
 use Rattle.book.specs.Refusals.{refusal, Accepted}
 use Rattle.book.proofs.Accepted.{accepted, accepted-zero, record-count}
-use Rattle.rules.specs.Day.{setPrices, traded}
+use Rattle.rules.specs.Day.{traded}
 use Rattle.rules.specs.Outcome.{published, outcome}
 use Rattle.rules.proofs.BoundsLaws.{price-small, welfare-small, traded-small}
 use Rattle.rules.proofs.Tests.{by-eq}

@@ -1,19 +1,18 @@
 -- Text put into a buffer, and how long numbers are in decimal. Assumes nothing.
 use mathlib.Core.Path.{_≡_, refl, sym, ap, _∙_}
-use mathlib.Core.Bool.{Bool, true, false, cond}
+use mathlib.Core.Bool.{cond}
 use mathlib.Core.List.{List, [], _∷_, _++_}
-use Prim.Native.Nat.{ℕ, zero, suc, _+_, _*_, _/_, _%_, _^_, _≤_, _<_, zero-le}
+use Prim.Native.Nat.{ℕ, zero, suc, _+_, _*_, _/_, _^_, _≤_, _<_, zero-le}
 use native.Mathlib.Omega.{arith}
 use native.Mathlib.Nat.{pow-suc}
 use native.Mathlib.Numerals.{add-one}
-use lib.Dec.{ltb}
 use lib.ListN.{length, take, drop, set, getD, length-append}
 use lib.Seq.{length-take-le, take-at, take-suc, set-split}
 use borrow.Author.Tests.{lt-ltb, le-ltb}
 use Rattle.clearing.specs.Rows.{splice}
-use Rattle.clearing.proofs.ByteLaws.{length-splice, splice-splice, then}
+use Rattle.clearing.proofs.ByteLaws.{length-splice, then}
 use Rattle.rules.proofs.Tests.{by-lt}
-use Rattle.sheet.specs.Text.{digit, decimalIn, decimal, field, HasRoom, Put}
+use Rattle.sheet.specs.Text.{digit, decimalIn, decimal, HasRoom, Put}
 
 -- ONE BYTE
 pub splice-one : (l : List ℕ) (at x : ℕ) → at < length l → set l at x ≡ splice l at (x ∷ [])
@@ -98,7 +97,8 @@ unfolding decimalIn
 enough zero n h = rw (lt-ltb n 10 h)
 enough (suc k) n h =
     let one = digit n ∷ [] in
-    by-lt (λ t. cond t one (decimalIn (suc (suc k)) (n / 10) ++ one) ≡ cond t one (decimalIn (suc k) (n / 10) ++ one)) n 10 (λ g. refl) (λ g. let g : n < 10 ^ suc k * 10 = rw pow-suc at h in rw (enough k (n / 10) (omega arith)))
+    by-lt (λ t. cond t one (decimalIn (suc (suc k)) (n / 10) ++ one) ≡ cond t one (decimalIn (suc k) (n / 10) ++ one)) n 10 (λ g. refl)
+    (λ g. let few : n < 10 ^ suc k * 10 = rw pow-suc at h in rw (enough k (n / 10) (omega arith)))
 
 last-digit : (k n : ℕ) → 10 ≤ n → decimalIn (suc k) n ≡ decimalIn k (n / 10) ++ (digit n ∷ [])
 unfolding decimalIn
@@ -116,7 +116,7 @@ few-digits-in (suc j) zero n h = rw (lt-ltb n 10 h) (omega arith)
 few-digits-in (suc j) (suc k) n h =
     by-lt (λ t. length (cond t (digit n ∷ []) (decimalIn j (n / 10) ++ (digit n ∷ []))) ≤ suc (suc k)) n 10 (λ g. omega arith)
     (λ g.
-    let g : n < 10 ^ suc k * 10 = rw pow-suc at h in
+    let few : n < 10 ^ suc k * 10 = rw pow-suc at h in
     omega (arith, length-append (decimalIn j (n / 10)) (digit n ∷ []), few-digits-in j k (n / 10) (omega arith)))
 
 pub few-digits : (k n : ℕ) → n < 10 ^ suc k → length (decimal n) ≤ suc k

@@ -1,15 +1,14 @@
 -- S5'S SHEET FROM THE DEFINITIONS: what is published of S5's book is a line of the worked books' table; the text computes. Assumes nothing.
-use mathlib.Core.Path.{_≡_, refl, ap, _∙_}
+use mathlib.Core.Path.{_≡_, refl}
 use mathlib.Core.Bool.{true}
-use mathlib.Core.List.{List, [], _∷_, _++_}
+use mathlib.Core.List.{[], _∷_}
 use borrow.Author.Tests.{eq-eqb}
 use Rattle.book.specs.Bytes.{u16At, u24At}
 use Rattle.book.specs.Records.{blockAt}
 use Rattle.book.specs.Chains.{chainFrom}
 use Rattle.book.specs.Refusals.{refusal}
-use Rattle.rules.specs.Orders.{Block, canonical}
+use Rattle.rules.specs.Orders.{canonical}
 use Rattle.rules.specs.Day.{dayOf}
-use Rattle.rules.specs.Outcome.{published}
 use Rattle.rules.specs.WorkedDays.{block12, baseDay, workedDays}
 use Rattle.orders.specs.Bridge.{blockFrom, ordersOf, dayFrom}
 use Rattle.orders.specs.WorkedBooks.{chained, bookOf, workedBooks, Worked}

@@ -9,6 +9,10 @@ use Rattle.clearing.specs.Result.{welfareIn, priceIn, tradedIn, rowIn}
 use Rattle.sheet.specs.Text.{text, field, lineFeed}
 use Rattle.sheet.specs.Sheet.{hourLines, blockLine}
 
+-- The lines of the hours, with the numbers in a result.
+abbrev pub hourLinesIn : List ℕ → List ℕ
+hourLinesIn result = hourLines 24 (priceIn result) (tradedIn result)
+
 -- The block of record k is taken: its row holds its quantity.
 unfoldable pub takenAt : List ℕ → List ℕ → ℕ → Bool
 takenAt b result k = eqb (rowIn result k) (blockAt b k .quantity)
@@ -18,9 +22,12 @@ unfoldable pub blockLinesIn : List ℕ → List ℕ → List ℕ → List ℕ
 blockLinesIn b result [] = []
 blockLinesIn b result (k ∷ records) = blockLine (number b k) (takenAt b result k) ++ blockLinesIn b result records
 
+-- A line for each of the book's blocks.
+abbrev pub allBlockLines : List ℕ → List ℕ → List ℕ
+allBlockLines b result = blockLinesIn b result (blockRecords b)
+
 -- The lines of a book's result.
 unfoldable pub linesIn : List ℕ → List ℕ → List ℕ
 linesIn b result =
     text "hour;cents;tenths\n"
-    ++ (hourLines 24 (priceIn result) (tradedIn result)
-    ++ (text "block;taken\n" ++ (blockLinesIn b result (blockRecords b) ++ (text "welfare;" ++ field (welfareIn result) lineFeed))))
+    ++ (hourLinesIn result ++ (text "block;taken\n" ++ (allBlockLines b result ++ (text "welfare;" ++ field (welfareIn result) lineFeed))))

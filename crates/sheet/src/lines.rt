@@ -1,10 +1,9 @@
 // The lines of a sheet, out of a book and the bytes of its result.
 ghost use mathlib.Core.Bool.{cond};
 ghost use mathlib.Core.Path.{_≡_};
-ghost use Rattle.clearing.specs.Result.{welfareIn, priceIn, tradedIn};
-ghost use Rattle.orders.specs.Columns.{blockRecords};
-ghost use Rattle.sheet.specs.Lines.{takenAt, blockLinesIn, linesIn};
-ghost use Rattle.sheet.specs.Sheet.{hourLine, hourLines, blockLine};
+ghost use Rattle.clearing.specs.Result.{welfareIn};
+ghost use Rattle.sheet.specs.Lines.{takenAt, hourLinesIn, allBlockLines, linesIn};
+ghost use Rattle.sheet.specs.Sheet.{hourLine, blockLine};
 ghost use Rattle.sheet.specs.Text.{HasRoom, Put};
 use crate::text::put_field;
 use crate::text::put_line;
@@ -26,8 +25,8 @@ fn put_hour(out: &mut [u8], at: usize, h: u32, price: u32, traded: u32) -> usize
 
 // The lines of the 24 hours.
 fn put_hours(out: &mut [u8], at: usize, result: &[u8]) -> usize
-    requires { ⌜ HasRoom (now out) at (hourLines 24 (priceIn (now result)) (tradedIn (now result))) ⌝ }
-    ensures { λ r. ⌜ Put (now (out .entry)) at (hourLines 24 (priceIn (now (result .entry))) (tradedIn (now (result .entry)))) (now (out .exit)) r ⌝ }
+    requires { ⌜ HasRoom (now out) at (hourLinesIn (now result)) ⌝ }
+    ensures { λ r. ⌜ Put (now (out .entry)) at (hourLinesIn (now (result .entry))) (now (out .exit)) r ⌝ }
 {
     let mut end = at;
     let mut h: u32 = 0;
@@ -67,8 +66,8 @@ fn put_block(out: &mut [u8], at: usize, number: u16, taken: bool) -> usize
 
 // The lines of the book's blocks.
 fn put_blocks(out: &mut [u8], at: usize, book: &[u8], result: &[u8]) -> usize
-    requires { ⌜ HasRoom (now out) at (blockLinesIn (now book) (now result) (blockRecords (now book))) ⌝ }
-    ensures { λ r. ⌜ Put (now (out .entry)) at (blockLinesIn (now (book .entry)) (now (result .entry)) (blockRecords (now (book .entry)))) (now (out .exit)) r ⌝ }
+    requires { ⌜ HasRoom (now out) at (allBlockLines (now book) (now result)) ⌝ }
+    ensures { λ r. ⌜ Put (now (out .entry)) at (allBlockLines (now (book .entry)) (now (result .entry))) (now (out .exit)) r ⌝ }
 {
     let blocks = blocks_of(book);
     let count = blocks.count;
@@ -98,9 +97,9 @@ pub fn put_lines(out: &mut [u8], book: &[u8], result: &[u8]) -> usize
     requires { ⌜ HasRoom (now out) 0 (linesIn (now book) (now result)) ⌝ }
     ensures { λ r. ⌜ Put (now (out .entry)) 0 (linesIn (now (book .entry)) (now (result .entry))) (now (out .exit)) r ⌝ }
 {
-    let hours = put_text(out, 0, b"hour;cents;tenths\n");
-    let heading = put_hours(out, hours, result);
-    let blocks = put_text(out, heading, b"block;taken\n");
-    let welfare = put_blocks(out, blocks, book, result);
-    put_line(out, welfare, b"welfare;", welfare_of(result))
+    let hours_at = put_text(out, 0, b"hour;cents;tenths\n");
+    let title_at = put_hours(out, hours_at, result);
+    let blocks_at = put_text(out, title_at, b"block;taken\n");
+    let welfare_at = put_blocks(out, blocks_at, book, result);
+    put_line(out, welfare_at, b"welfare;", welfare_of(result))
 }

@@ -1,6 +1,6 @@
 // Words and numbers put into a buffer: each call puts its bytes from `at` on and gives the place behind them.
-ghost use mathlib.Core.List.{[], _∷_, _++_};
-ghost use Rattle.sheet.specs.Text.{decimal, field, HasRoom, Put};
+ghost use mathlib.Core.List.{_++_};
+ghost use Rattle.sheet.specs.Text.{decimal, field, lineFeed, HasRoom, Put};
 
 // The bytes of `words`.
 pub fn put_text(out: &mut [u8], at: usize, words: &[u8]) -> usize
@@ -41,8 +41,8 @@ pub fn put_field(out: &mut [u8], at: usize, n: u64, end: u8) -> usize
 
 // The words, and the number n to the end of the line.
 pub fn put_line(out: &mut [u8], at: usize, words: &[u8], n: u64) -> usize
-    requires { ⌜ HasRoom (now out) at (now words ++ field n 10) ⌝ }
-    ensures { λ r. ⌜ Put (now (out .entry)) at (now (words .entry) ++ field n 10) (now (out .exit)) r ⌝ }
+    requires { ⌜ HasRoom (now out) at (now words ++ field n lineFeed) ⌝ }
+    ensures { λ r. ⌜ Put (now (out .entry)) at (now (words .entry) ++ field n lineFeed) (now (out .exit)) r ⌝ }
 {
     let behind_words = put_text(out, at, words);
     put_field(out, behind_words, n, b'\n')

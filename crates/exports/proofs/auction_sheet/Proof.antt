@@ -3,6 +3,7 @@ use Prim.Native.Nat.{_≤_}
 use mathlib.Core.Path.{_≡_, _∙_}
 use native.Mathlib.Omega.{arith}
 use lib.ListN.{length}
+use Rattle.clearing.specs.Rows.{splice}
 use Rattle.sheet.specs.Sheet.{sheetOf}
 use Rattle.sheet.proofs.TextLaws.{put-counts, put-front}
 use Rattle.exports.proofs.BufferLaws.{with-room, without-room}
@@ -43,9 +44,12 @@ same-length c = search needs
 returns-2 : tie.Need-returns-2
 returns-2 c =
     let sheet = c .before .before .before .before .before .before in
+    let start = sheet .before .before .before .before in
     let written = sheet .sheet .ensures .0 in
-    let count : sheet .sheet .result ≡ length (sheetOf (sheet .before .before .before .before .args .book .now)) = omega (arith, written .ends) in
-    (count, with-room _ _ _ (omega (arith, c .before .before .before .before .before .if1 .left)) (c .before .before .copy .ensures ∙ rw (put-front _ _ _ _ written)))
+    let count : sheet .sheet .result ≡ length (sheetOf (start .args .book .now)) = omega (arith, written .ends) in
+    let copied : c .before .before .copy .last .1 .0 ≡ splice (start .args .out .now) 0 (sheetOf (start .args .book .now)) =
+    c .before .before .copy .ensures ∙ rw (put-front _ _ _ _ written) in
+    (count, with-room _ _ _ (omega (arith, c .before .before .before .before .before .if1 .left)) copied)
 
 pub auction-sheet-spec : {M : Type 1} → statement M
 auction-sheet-spec =

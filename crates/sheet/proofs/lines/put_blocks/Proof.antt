@@ -69,7 +69,8 @@ same-length c = search needs
 returns : tie.Need-returns Inv-loop μ-loop
 returns c =
     let blocks = c .before .before .before in
-    let all : c .before .loop .i ≡ length (blockRecords (blocks .before .before .before .before .args .book .now)) = omega (arith, blocks .blocks-of .ensures .counted) in
+    let all : c .before .loop .i ≡ length (blockRecords (blocks .before .before .before .before .args .book .now)) =
+    omega (arith, blocks .blocks-of .ensures .counted) in
     rw (all, take-length) at (c .before .loop .inv .2)
 
 pub put-blocks-spec : {M : Type 1} → statement M

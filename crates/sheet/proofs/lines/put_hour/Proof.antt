@@ -26,7 +26,8 @@ returns c =
     let traded = c .before .before in
     let price = traded .before .before .before .before in
     let hour = price .before .before .before .before in
-    put-hour-line _ _ _ _ _ (hour .before .before .before .pre) _ _ (hour .put-field .ensures) _ _ (price .put-field2 .ensures) _ _ (traded .put-field3 .ensures)
+    let start = hour .before .before .before in
+    put-hour-line _ _ _ _ _ (start .pre) _ _ (hour .put-field .ensures) _ _ (price .put-field2 .ensures) _ _ (traded .put-field3 .ensures)
 
 pub put-hour-spec : {M : Type 1} → statement M
 put-hour-spec =

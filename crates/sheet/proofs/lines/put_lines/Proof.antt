@@ -27,7 +27,8 @@ unfolding text
 put-text-requires-2 c κs =
     let hours = c .before .before .before .before in
     let heading = hours .before .before .before .before in
-    room-title _ _ _ (heading .before .before .before .before .before .before .pre) _ _ (heading .put-text .ensures) _ _ (hours .put-hours .ensures)
+    let start = heading .before .before .before .before .before .before in
+    room-title _ _ _ (start .pre) _ _ (heading .put-text .ensures) _ _ (hours .put-hours .ensures)
 
 put-blocks-requires : tie.Need-put-blocks-requires
 unfolding text
@@ -35,7 +36,8 @@ put-blocks-requires c κs =
     let title = c .before .before .before in
     let hours = title .before .before .before .before .before in
     let heading = hours .before .before .before .before in
-    room-blocks _ _ _ (heading .before .before .before .before .before .before .pre) _ _ (heading .put-text .ensures) _ _ (hours .put-hours .ensures) _ _ (title .put-text2 .ensures)
+    let start = heading .before .before .before .before .before .before in
+    room-blocks _ _ _ (start .pre) _ _ (heading .put-text .ensures) _ _ (hours .put-hours .ensures) _ _ (title .put-text2 .ensures)
 
 slice-aggregate-put-line : tie.Need-slice-aggregate-put-line
 slice-aggregate-put-line c = search needs
@@ -50,8 +52,9 @@ put-line-requires c κs =
     let title = blocks .before .before .before .before in
     let hours = title .before .before .before .before .before in
     let heading = hours .before .before .before .before in
+    let start = heading .before .before .before .before .before .before in
     rw (c .welfare-of .ensures)
-    (room-welfare _ _ _ (heading .before .before .before .before .before .before .pre) _ _ (heading .put-text .ensures) _ _ (hours .put-hours .ensures) _ _ (title .put-text2 .ensures)
+    (room-welfare _ _ _ (start .pre) _ _ (heading .put-text .ensures) _ _ (hours .put-hours .ensures) _ _ (title .put-text2 .ensures)
     _ _ (blocks .put-blocks .ensures))
 
 same-length : tie.Need-same-length
@@ -65,7 +68,8 @@ returns c =
     let title = blocks .before .before .before .before in
     let hours = title .before .before .before .before .before in
     let heading = hours .before .before .before .before in
-    put-all _ _ _ (heading .before .before .before .before .before .before .pre) _ _ (heading .put-text .ensures) _ _ (hours .put-hours .ensures) _ _ (title .put-text2 .ensures)
+    let start = heading .before .before .before .before .before .before in
+    put-all _ _ _ (start .pre) _ _ (heading .put-text .ensures) _ _ (hours .put-hours .ensures) _ _ (title .put-text2 .ensures)
     _ _ (blocks .put-blocks .ensures) _ _ (rw (line .before .welfare-of .ensures) at (line .put-line .ensures))
 
 pub put-lines-spec : {M : Type 1} → statement M

@@ -1,8 +1,7 @@
 -- `put_field` meets its contract. Assumes nothing.
 use mathlib.Core.Path.{refl}
-use mathlib.Core.List.{[], _∷_}
 use native.Mathlib.Omega.{arith}
-use Rattle.sheet.specs.Text.{decimal, field}
+use Rattle.sheet.specs.Text.{field}
 use Rattle.sheet.proofs.TextLaws.{room-first, room-byte, put-byte}
 use borrow.Author.Needs.{needs}
 use Rattle.sheet.proofs.text.put_field.Statement.{statement}

@@ -1,5 +1,4 @@
 -- `put_line` meets its contract. Assumes nothing.
-use Rattle.sheet.specs.Text.{field}
 use Rattle.sheet.proofs.TextLaws.{room-first, room-then, put-then}
 use borrow.Author.Needs.{needs}
 use Rattle.sheet.proofs.text.put_line.Statement.{statement}

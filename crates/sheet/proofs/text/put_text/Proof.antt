@@ -1,5 +1,5 @@
 -- `put_text` meets its contract: the bytes before i are put. Assumes nothing.
-use Prim.Native.Nat.{_-_, _≤_}
+use Prim.Native.Nat.{_-_, _≤_, _<_}
 use mathlib.Core.Path.{_≡_, _∙_}
 use native.Mathlib.Omega.{arith}
 use lib.ListN.{length, take, length-set}
@@ -42,7 +42,8 @@ loop-again : tie.Need-loop-again Inv-loop μ-loop
 loop-again c =
     let start = c .before .before .before in
     let loop = c .before .before .loop in
-    (search needs, simp length-set (loop .inv .1), copied-more _ _ _ (start .args .at) (loop .i) (start .pre) (omega (arith, c .before .loop-test .taken)) (loop .inv .2))
+    let inside : loop .i < length (start .args .words .now) = omega (arith, c .before .loop-test .taken) in
+    (search needs, simp length-set (loop .inv .1), copied-more _ _ _ (start .args .at) (loop .i) (start .pre) inside (loop .inv .2))
 
 add-result : tie.Need-add-result Inv-loop μ-loop
 unfolding HasRoom
