@@ -1,0 +1,61 @@
+//! The prices that losses are counted at, by the proved code's rule.
+
+use super::hours::Hours;
+use super::orders::Orders;
+use super::ByHour;
+
+const MOVES: u32 = 200;
+
+/// All ones at the hours of a block.
+pub fn mask_of(hours: u32) -> ByHour<u32> {
+    std::array::from_fn(|h| 0u32.wrapping_sub((hours >> h) & 1))
+}
+
+/// The sum of prices over the hours of a mask.
+pub fn masked_sum(prices: &ByHour<u32>, mask: &ByHour<u32>) -> u32 {
+    prices.iter().zip(mask).map(|(price, mask)| price & mask).sum()
+}
+
+/// The price of each hour at its place.
+pub fn prices_at(hours: &Hours, places: &ByHour<u16>) -> ByHour<u32> {
+    std::array::from_fn(|h| hours.price(h, places[h]))
+}
+
+/// The empty set's prices, moved towards those at the average of the places at
+/// which the blocks that gain are taken.
+pub fn prices(orders: &Orders, hours: &Hours) -> ByHour<u32> {
+    let masks: Vec<ByHour<u32>> = orders.blocks.iter().map(|b| mask_of(b.hours)).collect();
+    let mut root = prices_at(hours, &hours.off);
+    let mut sum = hours.off.map(u32::from);
+    let mut moved = vec![false; orders.blocks.len()];
+    let mut places = [0u32; 24];
+    for n in 1..=MOVES {
+        for (i, block) in orders.blocks.iter().enumerate() {
+            let sum = masked_sum(&root, &masks[i]);
+            let gains = if block.sells { block.limit <= sum } else { sum <= block.limit };
+            // A sell moves its hours on where it is taken, a buy where it is left out.
+            let moves = gains == block.sells;
+            if moves != moved[i] {
+                moved[i] = moves;
+                let sign = if moves { block.quantity } else { block.quantity.wrapping_neg() };
+                for h in 0..24 {
+                    places[h] = places[h].wrapping_add(sign & masks[i][h]);
+                }
+            }
+        }
+        for h in 0..24 {
+            sum[h] += places[h];
+        }
+        let mean = sum.map(|sum| average(sum, n + 1));
+        let there = prices_at(hours, &mean);
+        for h in 0..24 {
+            root[h] = (7 * root[h] + there[h]) / 8;
+        }
+    }
+    root
+}
+
+/// `sum / n`, exactly: both are so small that the rounding does not reach the next number.
+fn average(sum: u32, n: u32) -> u16 {
+    (sum as f32 / n as f32) as u16
+}
