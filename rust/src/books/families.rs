@@ -29,14 +29,14 @@ pub const FAMILIES: [Family; 7] = [
 pub fn full_day(seed: u64, steps: usize, blocks: usize) -> Vec<u8> {
     let mut dice = Dice::new(seed);
     let mut orders = deep_steps(&mut dice, steps);
-    add_ordinary_blocks(&mut orders, &mut dice, blocks, usual_hours);
+    add_ordinary_blocks(&mut orders, &mut dice, blocks, usual_hours, 20);
     orders.book()
 }
 
 fn odd_day(seed: u64) -> Vec<u8> {
     let mut dice = Dice::new(seed);
     let mut orders = deep_steps(&mut dice, 2015);
-    add_ordinary_blocks(&mut orders, &mut dice, 32, odd_hours);
+    add_ordinary_blocks(&mut orders, &mut dice, 32, odd_hours, 20);
     orders.book()
 }
 
@@ -65,7 +65,7 @@ fn thin_day(seed: u64) -> Vec<u8> {
             push_step(&mut orders, side, hour, price, dice.between(20, 400));
         }
     }
-    add_ordinary_blocks(&mut orders, &mut dice, 32, usual_hours);
+    add_ordinary_blocks(&mut orders, &mut dice, 32, usual_hours, 300);
     orders.book()
 }
 
@@ -96,7 +96,7 @@ fn ties(seed: u64) -> Vec<u8> {
             push_step(&mut orders, side, hour, price, 40);
         }
     }
-    for _ in 0..24 {
+    for _ in 0..18 {
         let side = dice.pick(&[Side::Buy, Side::Sell]);
         let hours = standard_hours(&mut dice);
         push_block(&mut orders, side, hours, 5000, dice.between(10, 50));
@@ -137,7 +137,10 @@ fn deep_steps(dice: &mut Dice, count: usize) -> Orders {
         let price = match (at_any_price, side) {
             (true, Side::Buy) => 300_000,
             (true, Side::Sell) => 1,
-            _ => (dice.between(level / 3, level * 5 / 3) + dice.between(level / 3, level * 5 / 3)) / 2,
+            _ => {
+                (dice.between(level / 3, level * 5 / 3) + dice.between(level / 3, level * 5 / 3))
+                    / 2
+            }
         };
         push_step(&mut orders, side, hour as u32 + 1, price, quantity);
     }
@@ -156,18 +159,20 @@ fn push_block(orders: &mut Orders, side: Side, hours: u32, price: u32, quantity:
     orders.blocks.push(BlockOrder { number, side, hours, price, quantity, portfolio });
 }
 
-/// Blocks of either side with prices near what their hours pay without blocks.
+/// Blocks of either side with prices near what their hours pay without blocks, within
+/// so many thousandths.
 fn add_ordinary_blocks(
     orders: &mut Orders,
     dice: &mut Dice,
     count: usize,
     hours_of: fn(&mut Dice) -> u32,
+    thousandths: u32,
 ) {
     let prices = empty_prices(orders);
     for _ in 0..count {
         let side = dice.pick(&[Side::Buy, Side::Sell]);
         let hours = hours_of(dice);
-        let price = near_average(&prices, hours, 20, dice);
+        let price = near_average(&prices, hours, thousandths, dice);
         push_block(orders, side, hours, price, dice.between(10, 50));
     }
 }

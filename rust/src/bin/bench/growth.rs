@@ -47,7 +47,8 @@ fn group(name: &str, book: impl Fn(u64) -> Vec<u8>, options: &Options) -> bool {
     let whole = |value: Option<f64>| value.map_or("-".into(), |value| format!("{value:.0}"));
     let seconds = KINDS.map(|kind| of(&|one| one.seconds[kind as usize]));
     let nodes = KINDS.map(|kind| of(&|one| per_node(one, kind, options)));
-    let right = all.iter().all(|one| one.right);
+    let agree = all.iter().all(|one| one.agree);
+    let some_late = all.iter().find(|one| one.right() != "yes");
     let cells = [
         name.to_string(),
         subjects[0].steps().to_string(),
@@ -63,17 +64,15 @@ fn group(name: &str, book: impl Fn(u64) -> Vec<u8>, options: &Options) -> bool {
         whole(nodes[0]),
         whole(nodes[1]),
         whole(nodes[2]),
-        if right { "yes" } else { "NO" }.into(),
+        if !agree { "NO" } else { some_late.map_or("yes", Measured::right) }.into(),
     ];
     row(&cells, &WIDTHS);
-    right
+    agree
 }
 
 /// The middle one of the values, where more than half of them are known; one that is
 /// not known counts as more than any other.
 fn median(mut values: Vec<Option<f64>>) -> Option<f64> {
-    values.sort_by(|one, other| {
-        one.unwrap_or(f64::MAX).total_cmp(&other.unwrap_or(f64::MAX))
-    });
+    values.sort_by(|one, other| one.unwrap_or(f64::MAX).total_cmp(&other.unwrap_or(f64::MAX)));
     values[values.len() / 2]
 }

@@ -2,12 +2,14 @@
 //! bytes to its result, with the nodes of the search. `rust/bench` builds and runs it.
 //!
 //! - `clearers`: the three programs;
+//! - `clock`: processor time;
 //! - `subject`: a book, with what is expected of it where that is known;
 //! - `measure`: times and nodes on one book;
 //! - `report`: the tables;
 //! - `growth`: generated books: families, and by number of blocks and steps.
 
 mod clearers;
+mod clock;
 mod growth;
 mod measure;
 mod report;
@@ -49,23 +51,21 @@ fn work() -> ExitCode {
 }
 
 fn options(words: Vec<String>) -> Options {
-    let crates = concat!(env!("CARGO_MANIFEST_DIR"), "/../crates");
-    let twin = concat!(env!("CARGO_MANIFEST_DIR"), "/src/twin/by_value");
-    let differing = source::differences(Path::new(crates), Path::new(twin));
-    let mut options = Options {
-        limit: 5.0,
-        generated: true,
-        same_source: differing.is_ok_and(|files| files.is_empty()),
-        files: Vec::new(),
-    };
+    let package = Path::new(env!("CARGO_MANIFEST_DIR"));
+    let mut crates = package.join("../crates");
+    let mut options =
+        Options { limit: 5.0, generated: true, same_source: false, files: Vec::new() };
     let mut words = words.into_iter();
     while let Some(word) = words.next() {
         match word.as_str() {
             "--limit" => options.limit = words.next().map_or(5.0, |s| s.parse().expect("seconds")),
+            "--crates" => crates = words.next().expect("a folder of crates").into(),
             "--no-generated" => options.generated = false,
             _ => options.files.push(word),
         }
     }
+    let differences = source::differences(&crates, &package.join("src/twin/by_value"));
+    options.same_source = differences.is_ok_and(|files| files.is_empty());
     options
 }
 
@@ -77,10 +77,11 @@ fn once(kind: &str) {
     Clearer::new(Kind::named(kind)).clear(&book, &mut result);
 }
 
-/// The microseconds of the proved clearing of a book.
+/// The microseconds of the proved clearing of a book, and its welfare.
 fn time(file: &str) {
     let subject = subject::Subject::from_file(file);
-    println!("{:.1}", measure::proved_alone(&subject) * 1e6);
+    let (seconds, welfare) = measure::proved_alone(&subject);
+    println!("{:.1} {welfare}", seconds * 1e6);
 }
 
 /// The nodes that the by-value twin counts.

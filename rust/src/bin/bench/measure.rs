@@ -1,15 +1,20 @@
 //! Times and nodes on one book.
 
 use crate::clearers::{Clearer, Kind, KINDS};
+use crate::clock;
 use crate::subject::{result_length, Subject};
+use auction_listing::paper::Published;
 use auction_listing::twin::count::{self, Nodes};
 use std::io::Write;
 use std::process::{Command, Stdio};
 use std::time::{Duration, Instant};
 
-/// Seconds for a book, as long as no single clearing takes longer.
-const SECONDS_A_BOOK: f64 = 0.3;
-const MOST_ROUNDS: f64 = 300.0;
+/// Rounds on a book, and the seconds after which there are no more than the least
+/// rounds, or none.
+const LEAST_ROUNDS: u32 = 5;
+const MOST_ROUNDS: u32 = 300;
+const SECONDS_A_BOOK: f64 = 0.5;
+const MOST_SECONDS: f64 = 3.0;
 
 /// What was measured on a book. A time is missing where the clearing was given up.
 pub struct Measured {
@@ -20,11 +25,22 @@ pub struct Measured {
     pub nodes: Nodes,
     /// The nodes with the blocks priced out.
     pub nodes_outside: u64,
-    /// Whether the results are as expected and the same, and the twins' nodes too.
-    pub right: bool,
+    /// Whether the results are as expected and the same, and the twins' nodes too; of
+    /// the programs that were not given up.
+    pub agree: bool,
 }
 
 impl Measured {
+    /// In a word whether all is right.
+    pub fn right(&self) -> &'static str {
+        match (self.agree, self.seconds.iter().flatten().count()) {
+            (false, _) => "NO",
+            (true, 0) => "-",
+            (true, 3) => "yes",
+            (true, _) => "part",
+        }
+    }
+
     /// Nanoseconds for a node, where there are enough nodes to tell.
     pub fn per_node(&self, kind: Kind) -> Option<f64> {
         let nodes = self.nodes.all.checked_sub(self.nodes_outside + 500)? + 500;
@@ -39,11 +55,10 @@ pub fn measure(subject: &Subject, limit: f64) -> Measured {
     let runs: Vec<Kind> =
         KINDS.into_iter().filter(|&kind| ends_within(kind, book, limit)).collect();
     let priced_out = subject.priced_out();
-    let (mut right, nodes) = results_agree(subject, &runs);
+    let (agree, nodes) = results_agree(subject, &runs);
     let (seconds, outside) = shortest(&runs, book, &priced_out);
     let nodes_outside = nodes_of(Kind::InPlace, &priced_out).all;
-    right &= runs.contains(&Kind::InPlace);
-    Measured { seconds, outside, nodes, nodes_outside, right }
+    Measured { seconds, outside, nodes, nodes_outside, agree }
 }
 
 /// Whether a clearing ends in time, tried in a process of its own.
@@ -67,20 +82,20 @@ fn ends_within(kind: Kind, book: &[u8], limit: f64) -> bool {
 
 /// Whether all results are the same and as expected, and the nodes of the twins.
 fn results_agree(subject: &Subject, runs: &[Kind]) -> (bool, Nodes) {
-    let (mut right, mut nodes) = (true, None);
+    let (mut agree, mut nodes) = (true, None);
     let mut first: Option<Vec<u8>> = None;
     for &kind in runs {
         let mut result = vec![0; result_length(&subject.book)];
         count::taken();
         Clearer::new(kind).clear(&subject.book, &mut result);
         let counted = count::taken();
-        right &= subject.is_expected(&result);
-        right &= *first.get_or_insert_with(|| result.clone()) == result;
+        agree &= subject.is_expected(&result);
+        agree &= *first.get_or_insert_with(|| result.clone()) == result;
         if kind != Kind::Proved {
-            right &= *nodes.get_or_insert(counted) == counted;
+            agree &= *nodes.get_or_insert(counted) == counted;
         }
     }
-    (right, nodes.unwrap_or_default())
+    (agree, nodes.unwrap_or_default())
 }
 
 fn nodes_of(kind: Kind, book: &[u8]) -> Nodes {
@@ -102,14 +117,14 @@ fn shortest(runs: &[Kind], book: &[u8], priced_out: &[u8]) -> (ByKind, ByKind) {
     let mut clearers: Vec<(Kind, Clearer)> =
         runs.iter().map(|&kind| (kind, Clearer::new(kind))).collect();
     let (mut seconds, mut outside) = ([None; 3], [None; 3]);
-    let (start, mut rounds) = (Instant::now(), 0.0);
-    while rounds < 2.0 || (start.elapsed().as_secs_f64() < SECONDS_A_BOOK && rounds < MOST_ROUNDS) {
+    let start = Instant::now();
+    for round in 0..MOST_ROUNDS {
         for (kind, clearer) in &mut clearers {
             keep(&mut seconds[*kind as usize], || clearer.clear(book, &mut result));
             keep(&mut outside[*kind as usize], || clearer.clear(priced_out, &mut result));
         }
-        rounds += 1.0;
-        if start.elapsed().as_secs_f64() > 3.0 {
+        let spent = start.elapsed().as_secs_f64();
+        if spent > MOST_SECONDS || (spent > SECONDS_A_BOOK && round >= LEAST_ROUNDS) {
             break;
         }
     }
@@ -118,14 +133,17 @@ fn shortest(runs: &[Kind], book: &[u8], priced_out: &[u8]) -> (ByKind, ByKind) {
 
 /// Keeps the time of a call if it is the shortest so far.
 fn keep(shortest: &mut Option<f64>, call: impl FnOnce()) {
-    let start = Instant::now();
+    let start = clock::seconds();
     call();
-    let seconds = start.elapsed().as_secs_f64();
+    let seconds = clock::seconds() - start;
     *shortest = Some(shortest.map_or(seconds, |before| before.min(seconds)));
 }
 
-/// Seconds of the proved clearing by itself.
-pub fn proved_alone(subject: &Subject) -> f64 {
+/// Seconds of the proved clearing by itself, and the published welfare.
+pub fn proved_alone(subject: &Subject) -> (f64, u64) {
     let (seconds, _) = shortest(&[Kind::Proved], &subject.book, &subject.book);
-    seconds[Kind::Proved as usize].expect("it was run")
+    let mut result = vec![0; result_length(&subject.book)];
+    Clearer::new(Kind::Proved).clear(&subject.book, &mut result);
+    let welfare = Published::from_bytes(&result).welfare;
+    (seconds[Kind::Proved as usize].expect("it was run"), welfare)
 }

@@ -6,13 +6,17 @@ use crate::subject::Subject;
 use crate::Options;
 
 pub fn print_head(options: &Options) {
-    println!("Times from a book's bytes to its result, the shortest of interleaved runs; 'node' is a call of `explore`,");
-    println!("'cut' how many of them failed its test. Ratios: the proved clearing's time over the twin's.");
+    println!("Processor time from a book's bytes to its result, the shortest of interleaved runs. A node is a call of `explore`, 'cut' is");
+    println!("how many of them failed its test, 'of exp.' the nodes over those of expected.txt. Ratios: the proved clearing's time over the");
+    println!("twin's. Time per node: what the same book with its blocks priced out takes is taken off first. 'right': all results are the same,");
+    println!("and set, welfare and prices are those of expected.txt ('part': of the programs that were not given up).");
     if options.same_source {
-        println!("The by-value twin is the proved source of this repository without its contracts: the nodes are the same.");
+        println!(
+            "The by-value twin is the proved source without its contracts: the nodes are the same."
+        );
     } else {
-        println!("The by-value twin is NOT that of this repository's proved source (see `twin_source compare`): the proved");
-        println!("code's nodes are others, so its times per node are left out.");
+        println!("The by-value twin is NOT that of the proved source (see `twin_source compare`), so the proved code's nodes");
+        println!("may be others, and its times per node are left out.");
     }
 }
 
@@ -20,7 +24,7 @@ pub fn print_head(options: &Options) {
 pub fn micros(seconds: Option<f64>, options: &Options) -> String {
     match seconds {
         Some(seconds) => format!("{:.0}", seconds * 1e6),
-        None => format!("> {:.0} s", options.limit),
+        None => format!("> {} s", options.limit),
     }
 }
 
@@ -51,8 +55,8 @@ pub const WIDTHS: [usize; 15] = [22, 6, 6, 8, 8, 7, 8, 8, 8, 7, 7, 7, 7, 7, 6];
 
 pub fn titles(first: &str) {
     let words = [
-        first, "steps", "blocks", "nodes", "cut", "of exp.", "proved", "by value", "in place", "/value",
-        "/place", "proved", "value", "place", "right",
+        first, "steps", "blocks", "nodes", "cut", "of exp.", "proved", "by value", "in place",
+        "/value", "/place", "proved", "value", "place", "right",
     ];
     let mut groups = vec![String::new(); 15];
     groups[7] = "µs".into();
@@ -70,7 +74,7 @@ pub fn books(subjects: &[Subject], options: &Options) -> bool {
     for subject in subjects {
         let measured = measure(subject, options.limit);
         row(&cells(subject, &measured, options), &WIDTHS);
-        right &= measured.right;
+        right &= measured.agree;
     }
     right
 }
@@ -86,7 +90,7 @@ pub fn per_node(measured: &Measured, kind: Kind, options: &Options) -> Option<f6
 fn cells(subject: &Subject, measured: &Measured, options: &Options) -> Vec<String> {
     let seconds = |kind: Kind| measured.seconds[kind as usize];
     let node = |kind: Kind| nanos(per_node(measured, kind, options));
-    let nodes = measured.nodes.all as f64;
+    let nodes = Some(measured.nodes.all as f64).filter(|&nodes| nodes > 0.0);
     let of_expected = subject.expected.as_ref().map(|expected| expected.nodes as f64);
     vec![
         subject.name.clone(),
@@ -94,7 +98,7 @@ fn cells(subject: &Subject, measured: &Measured, options: &Options) -> Vec<Strin
         subject.blocks.to_string(),
         measured.nodes.all.to_string(),
         measured.nodes.cut.to_string(),
-        ratio(Some(nodes), of_expected),
+        ratio(nodes, of_expected),
         micros(seconds(Proved), options),
         micros(seconds(ByValue), options),
         micros(seconds(InPlace), options),
@@ -103,6 +107,6 @@ fn cells(subject: &Subject, measured: &Measured, options: &Options) -> Vec<Strin
         node(Proved),
         node(ByValue),
         node(InPlace),
-        if measured.right { "yes" } else { "NO" }.into(),
+        measured.right().into(),
     ]
 }

@@ -6,6 +6,10 @@ use super::root::{mask_of, masked_sum, prices_at};
 use super::ByHour;
 use crate::twin::count;
 
+/// Whether a node passes without a test where its last block was decided the only
+/// way that its losses allow. To be set as the proved `is_open` does it.
+const PASSES_FORCED: bool = false;
+
 /// The published set with the place of each hour.
 #[derive(Clone, Copy, Default)]
 pub struct Best {
@@ -129,8 +133,18 @@ impl<'a> Search<'a> {
         if self.limit <= loss {
             return false;
         }
+        if PASSES_FORCED && self.was_forced(at, set, loss) {
+            return true;
+        }
         self.fix(at, loss);
         self.passes(set, loss)
+    }
+
+    /// Whether the other decision of the last block would have lost the limit.
+    fn was_forced(&self, at: usize, set: u32, loss: u64) -> bool {
+        let Some(last) = at.checked_sub(1) else { return false };
+        let Choice { taken, left, .. } = self.choices[last];
+        self.limit <= loss + if (set >> last) & 1 == 1 { left } else { taken }
     }
 
     /// The test of the places in reach: every hour can balance, the least gaps do not
@@ -204,9 +218,8 @@ impl State {
     fn decide(&mut self, choice: &Choice, take: bool, sells: u32) {
         let up = take == choice.sells;
         let places = if up { &mut self.least } else { &mut self.most };
-        for h in 0..24 {
-            let row = choice.row[h];
-            places[h] = if up { places[h] + row } else { places[h] - row };
+        for (place, row) in places.iter_mut().zip(choice.row) {
+            *place = if up { *place + row } else { *place - row };
         }
         self.risk |= choice.near & if up { sells } else { !sells };
         self.changed = true;
@@ -214,14 +227,13 @@ impl State {
 
     /// The sum of the least gaps over the places in reach, if each hour has one.
     fn least_gaps(&self, hours: &Hours) -> Option<u64> {
-        let mut places = [0; 24];
         let mut balances = true;
-        for h in 0..24 {
+        let places: ByHour<u16> = std::array::from_fn(|h| {
             let from = self.least[h].max(hours.first[h]);
             let to = self.most[h].min(hours.last[h]);
             balances &= from <= to;
-            places[h] = hours.turn[h].max(from).min(to);
-        }
+            hours.turn[h].max(from).min(to)
+        });
         let gaps = || (0..24).map(|h| u64::from(hours.gap(h, places[h]))).sum();
         balances.then(gaps)
     }
