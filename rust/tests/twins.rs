@@ -1,11 +1,13 @@
 //! The two twins of the proved clearing against the listing of all sets, and
 //! against each other: the same bytes, and the same nodes.
 
-use auction_listing::books::{edge_books, reader_book, small_book, worked_days};
-use auction_listing::paper;
+use auction_listing::books::{edge_books, reader_book, small_book, worked_days, FAMILIES};
+use auction_listing::paper::{self, Published};
 use auction_listing::twin::by_value::clearing::{self, Clearing};
 use auction_listing::twin::count::{self, Nodes};
 use auction_listing::twin::in_place::{self, Workspace};
+use auction_listing::twin::source::differences;
+use std::path::Path;
 use std::sync::Mutex;
 
 /// The by-value twin keeps its tables on the stack.
@@ -50,15 +52,24 @@ fn size_for(book: &[u8]) -> usize {
         .map_or(196, |r| paper::result_length(usize::from(u16::from_be_bytes([r[0], r[1]]))))
 }
 
+/// Both twins against each other; the answer and the result.
+fn agreed(name: &str, book: &[u8], size: usize, space: &mut Workspace) -> (u32, Vec<u8>) {
+    let (one, other) = (by_value(book, size), in_place(book, size, space));
+    assert_eq!(one.2, other.2, "{name}: nodes by value and in place");
+    assert!(one == other, "{name}: other results by value and in place");
+    (one.0, one.1)
+}
+
 /// Both twins against the listing.
 fn compare(name: &str, book: &[u8], size: usize, space: &mut Workspace) {
     let expected = match paper::clear(book, size) {
         Ok(result) => (0, result),
         Err(refusal) => (u32::from(refusal), untouched(size)),
     };
-    let (one, other) = (by_value(book, size), in_place(book, size, space));
-    assert_eq!((one.0, &one.1), (expected.0, &expected.1), "{name}: by value");
-    assert!(one == other, "{name}: in place {:?} {:?}, by value {:?}", other.0, other.2, one.2);
+    assert!(
+        agreed(name, book, size, space) == expected,
+        "{name}: the listing gives another result"
+    );
 }
 
 #[test]
@@ -69,7 +80,7 @@ fn the_twins_clear_small_books_as_the_listing() {
             let book = orders.book();
             compare(name, &book, size_for(&book), &mut space);
         }
-        for seed in 0..400 {
+        for seed in 0..1000 {
             let book = small_book(seed);
             compare(&format!("small_book({seed})"), &book, size_for(&book), &mut space);
         }
@@ -90,4 +101,32 @@ fn the_twins_refuse_as_the_listing() {
             }
         }
     });
+}
+
+#[test]
+fn the_twins_agree_on_large_books() {
+    with_stack(|| {
+        let mut space = Workspace::default();
+        for (name, book) in FAMILIES {
+            let book = book(1);
+            let (answer, result) = agreed(name, &book, size_for(&book), &mut space);
+            assert_eq!(answer, 0, "{name}: refused");
+            let published = Published::from_bytes(&result);
+            let accepted = paper::read(&book).expect("accepted");
+            let outcome = paper::outcome(&accepted, published.set(&accepted)).expect("lawful");
+            assert!(
+                paper::result_bytes(&accepted, &outcome) == result,
+                "{name}: not its set's result"
+            );
+        }
+    });
+}
+
+#[test]
+#[ignore = "the twin's search is ahead of the proved one; to be run once both are the same"]
+fn the_by_value_twin_is_the_proved_source() {
+    let package = Path::new(env!("CARGO_MANIFEST_DIR"));
+    let crates = package.join("../crates");
+    let found = differences(&crates, &package.join("src/twin/by_value")).expect("both are there");
+    assert!(found.is_empty(), "run `cargo run --bin twin_source -- write`: {found:?}");
 }

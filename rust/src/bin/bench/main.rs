@@ -44,7 +44,7 @@ fn work() -> ExitCode {
     match words.first().map(String::as_str) {
         Some("--once") => once(&words[1]),
         Some("--time") => words[1..].iter().for_each(|file| time(file)),
-        Some("--nodes") => words[1..].iter().for_each(|file| nodes(file)),
+        Some("--nodes") => words[2..].iter().for_each(|file| nodes(&words[1], file)),
         _ => return tables(&options(words)),
     }
     ExitCode::SUCCESS
@@ -84,10 +84,10 @@ fn time(file: &str) {
     println!("{:.1} {welfare}", seconds * 1e6);
 }
 
-/// The nodes that the by-value twin counts.
-fn nodes(file: &str) {
+/// The nodes that a twin counts.
+fn nodes(kind: &str, file: &str) {
     let subject = subject::Subject::from_file(file);
-    println!("{}", measure::nodes_by_value(&subject).all);
+    println!("{}", measure::nodes_of(Kind::named(kind), &subject.book).all);
 }
 
 fn tables(options: &Options) -> ExitCode {

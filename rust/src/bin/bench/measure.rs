@@ -98,15 +98,12 @@ fn results_agree(subject: &Subject, runs: &[Kind]) -> (bool, Nodes) {
     (agree, nodes.unwrap_or_default())
 }
 
-fn nodes_of(kind: Kind, book: &[u8]) -> Nodes {
+/// The nodes that a twin counts on a book.
+pub fn nodes_of(kind: Kind, book: &[u8]) -> Nodes {
     let mut result = vec![0; result_length(book)];
     count::taken();
     Clearer::new(kind).clear(book, &mut result);
     count::taken()
-}
-
-pub fn nodes_by_value(subject: &Subject) -> Nodes {
-    nodes_of(Kind::ByValue, &subject.book)
 }
 
 type ByKind = [Option<f64>; 3];

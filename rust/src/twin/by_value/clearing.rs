@@ -43,19 +43,9 @@ fn clear_accepted(book: &[u8], result: &mut [u8])
         &mut low,
         &mut gap,
     );
-    let first = prepared.first;
-    let last = prepared.last;
-    let turn = prepared.turn;
+    let hours = prepared.hours;
     let columns = prepared.columns;
-    let best = find(
-        &low,
-        &gap,
-        &first,
-        &last,
-        &turn,
-        &columns,
-        blocks.count as u32,
-    );
+    let best = find(&low, &gap, &hours, &columns, blocks.count as u32);
     publish(
         count,
         &sides,

@@ -58,6 +58,16 @@ impl Hours {
         self.gap[h][usize::from(place)]
     }
 
+    /// The gap of an hour at the place of the empty set, for any price.
+    pub fn gap_at_off(&self, h: usize, price: u32) -> u64 {
+        let (off, unit) = (usize::from(self.off[h]), &self.unit[h]);
+        let above = &unit[off + 1..=usize::from(self.last[h])];
+        let below = &unit[usize::from(self.first[h]) + 1..=off];
+        let up = above.iter().take_while(|&&unit| unit > price).map(|unit| unit - price);
+        let down = below.iter().rev().take_while(|&&unit| unit < price).map(|unit| price - unit);
+        up.chain(down).map(u64::from).sum()
+    }
+
     /// The unit prices and the prices of every hour, up to the last place in reach.
     pub fn fill_prices(&mut self, orders: &Orders) {
         (self.off, self.most) = ([0; 24], [0; 24]);

@@ -1,10 +1,14 @@
 //! The prices that losses are counted at, by the proved code's rule.
 
 use super::hours::Hours;
-use super::orders::Orders;
+use super::orders::{Block, Orders};
 use super::ByHour;
 
 const MOVES: u32 = 200;
+
+/// Whether the empty set's prices are kept where the empty set loses no more at them
+/// than at the moved ones; to be set as in the proved code.
+const MAY_STAY: bool = false;
 
 /// All ones at the hours of a block.
 pub fn mask_of(hours: u32) -> ByHour<u32> {
@@ -21,9 +25,33 @@ pub fn prices_at(hours: &Hours, places: &ByHour<u16>) -> ByHour<u32> {
     std::array::from_fn(|h| hours.price(h, places[h]))
 }
 
+/// The prices that the search goes by.
+pub fn prices(orders: &Orders, hours: &Hours) -> ByHour<u32> {
+    let moved = moved_prices(orders, hours);
+    if MAY_STAY {
+        let empty = prices_at(hours, &hours.off);
+        if empty_loss(orders, hours, &empty) <= empty_loss(orders, hours, &moved) {
+            return empty;
+        }
+    }
+    moved
+}
+
+/// What the empty set loses at prices: the gaps at its places, and what the blocks
+/// would gain.
+fn empty_loss(orders: &Orders, hours: &Hours, root: &ByHour<u32>) -> u64 {
+    let gaps: u64 = (0..24).map(|h| hours.gap_at_off(h, root[h])).sum();
+    let gain = |block: &Block| {
+        let sum = masked_sum(root, &mask_of(block.hours));
+        let (less, more) = if block.sells { (block.limit, sum) } else { (sum, block.limit) };
+        u64::from(block.quantity * more.saturating_sub(less))
+    };
+    gaps + orders.blocks.iter().map(gain).sum::<u64>()
+}
+
 /// The empty set's prices, moved towards those at the average of the places at
 /// which the blocks that gain are taken.
-pub fn prices(orders: &Orders, hours: &Hours) -> ByHour<u32> {
+fn moved_prices(orders: &Orders, hours: &Hours) -> ByHour<u32> {
     let masks: Vec<ByHour<u32>> = orders.blocks.iter().map(|b| mask_of(b.hours)).collect();
     let mut root = prices_at(hours, &hours.off);
     let mut sum = hours.off.map(u32::from);

@@ -6,10 +6,6 @@ use super::root::{mask_of, masked_sum, prices_at};
 use super::ByHour;
 use crate::twin::count;
 
-/// Whether a node passes without a test where its last block was decided the only
-/// way that its losses allow. To be set as the proved `is_open` does it.
-const PASSES_FORCED: bool = false;
-
 /// The published set with the place of each hour.
 #[derive(Clone, Copy, Default)]
 pub struct Best {
@@ -31,6 +27,10 @@ struct Choice {
     near: u32,
     /// Its place in `Search::order`.
     rank: usize,
+    /// The bits of the twins that are taken next before it and next after it, of those
+    /// with lower numbers.
+    ahead: u32,
+    behind: u32,
 }
 
 /// What is known of a branch.
@@ -102,11 +102,17 @@ impl<'a> Search<'a> {
         if at == self.choices.len() {
             return self.decide(set, loss);
         }
-        let Choice { taken, left, .. } = self.choices[at];
+        let Choice { taken, left, ahead, behind, .. } = self.choices[at];
+        let is_barred = ahead & !set != 0;
+        let is_due = behind & set != 0;
         let here = self.state;
-        self.child(at, true, set | 1 << at, loss + taken);
-        self.state = here;
-        self.child(at, false, set, loss + left);
+        if !is_barred {
+            self.child(at, true, set | 1 << at, loss + taken);
+            self.state = here;
+        }
+        if is_barred || !is_due {
+            self.child(at, false, set, loss + left);
+        }
     }
 
     /// The branch in which block `at` is taken or left out. A node that its loss cuts
@@ -133,15 +139,16 @@ impl<'a> Search<'a> {
         if self.limit <= loss {
             return false;
         }
-        if PASSES_FORCED && self.was_forced(at, set, loss) {
+        if self.is_forced(at, set, loss) {
             return true;
         }
         self.fix(at, loss);
         self.passes(set, loss)
     }
 
-    /// Whether the other decision of the last block would have lost the limit.
-    fn was_forced(&self, at: usize, set: u32, loss: u64) -> bool {
+    /// Whether the other decision of the last block would have lost the limit: then what
+    /// can be reached is as it was before that block, and the node passes as it is.
+    fn is_forced(&self, at: usize, set: u32, loss: u64) -> bool {
         let Some(last) = at.checked_sub(1) else { return false };
         let Choice { taken, left, .. } = self.choices[last];
         self.limit <= loss + if (set >> last) & 1 == 1 { left } else { taken }
@@ -256,9 +263,45 @@ fn choices(orders: &Orders, root: &ByHour<u32>) -> Vec<Choice> {
             mask,
             near: bits_where(&orders.blocks, near),
             rank: 0,
+            ahead: 0,
+            behind: 0,
         }
     };
-    orders.blocks.iter().map(choice).collect()
+    let mut choices: Vec<Choice> = orders.blocks.iter().map(choice).collect();
+    for (i, choice) in choices.iter_mut().enumerate() {
+        (choice.ahead, choice.behind) = twins_of(&orders.blocks, i);
+    }
+    choices
+}
+
+/// The next twin that is taken before block i and the next one after it, as bits: a
+/// sell with a lower limit goes first, a buy with a higher one, of equals the earlier.
+/// Of several next ones that are equal it is the last, as in the proved code.
+fn twins_of(blocks: &[Block], i: usize) -> (u32, u32) {
+    let block = &blocks[i];
+    let is_twin = |other: &Block| {
+        (other.sells, other.hours, other.quantity) == (block.sells, block.hours, block.quantity)
+    };
+    let turn = |j: usize| {
+        let limit = i64::from(blocks[j].limit);
+        if block.sells {
+            limit
+        } else {
+            -limit
+        }
+    };
+    let (mut ahead, mut behind) = (None, None);
+    for j in (0..i).filter(|&j| is_twin(&blocks[j])) {
+        if turn(j) <= turn(i) {
+            if ahead.is_none_or(|found| turn(found) <= turn(j)) {
+                ahead = Some(j);
+            }
+        } else if behind.is_none_or(|found| turn(j) <= turn(found)) {
+            behind = Some(j);
+        }
+    }
+    let bit = |twin: Option<usize>| twin.map_or(0, |j| 1 << j);
+    (bit(ahead), bit(behind))
 }
 
 /// A bit for each block that is wanted.

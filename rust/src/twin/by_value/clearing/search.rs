@@ -126,43 +126,6 @@ fn keeps_limits(blocks: &[u32], count: usize, set: u32, high: [u32; 24], low: [u
     true
 }
 
-// All blocks are decided: the set becomes the best where it is lawful and loses less.
-fn decide(
-    low: &[u32],
-    gap: &[u32],
-    first: &[u32],
-    last: &[u32],
-    blocks: &[u32],
-    count: u32,
-    set: u32,
-    loss: u64,
-    places: [u32; 24],
-    best: Best,
-) -> Best
-{
-    let gaps = gaps_at(gap, first, last, places);
-    if !gaps.clears {
-        return best;
-    }
-    let total = loss + gaps.sum;
-    if best.limit <= total {
-        return best;
-    }
-    let prices = prices_at(low, places);
-    if !keeps_limits(blocks, count as usize, set, prices, prices) {
-        return best;
-    }
-    let day = Day {
-        prices: prices,
-        quantities: places,
-    };
-    Best {
-        limit: total,
-        set: set,
-        day: day,
-    }
-}
-
 // What is decided in a branch: its set, what that loses, and the hours' places.
 #[derive(Clone, Copy)]
 pub struct Node {
@@ -171,17 +134,67 @@ pub struct Node {
     pub places: [u32; 24],
 }
 
+// All blocks are decided: the set becomes the best where it is lawful and loses less.
+fn decide(
+    low: &[u32],
+    gap: &[u32],
+    hours: &[u32],
+    blocks: &[u32],
+    count: u32,
+    node: Node,
+    best: Best,
+) -> Best
+{
+    let places = node.places;
+    let gaps = gaps_at(gap, &hours[0..24], &hours[24..48], places);
+    if !gaps.clears {
+        return best;
+    }
+    let total = node.loss + gaps.sum;
+    if best.limit <= total {
+        return best;
+    }
+    let prices = prices_at(low, places);
+    if !keeps_limits(blocks, count as usize, node.set, prices, prices) {
+        return best;
+    }
+    let day = Day {
+        prices: prices,
+        quantities: places,
+    };
+    Best {
+        limit: total,
+        set: node.set,
+        day: day,
+    }
+}
+
+// The places with what block i trades in each hour more, where the test passes.
+fn moved_where(test: bool, places: [u32; 24], blocks: &[u32], i: usize) -> [u32; 24]
+{
+    let mut r = places;
+    if !test {
+        return r;
+    }
+    let row = 256 + 24 * i;
+    let mut h: usize = 0;
+    while h < 24 {
+        r[h] += blocks[row + h];
+        h += 1;
+    }
+    r
+}
+
 // The node with block number at taken: a sell moves the places on in its hours.
 fn take(blocks: &[u32], at: u32, node: Node) -> Node
 {
     let i = at as usize;
     let places = node.places;
-    let further = moved(places, blocks[32 + i], blocks[64 + i]);
-    let chosen = pick(blocks[i] != 0, further, places);
+    let moved = moved_where(blocks[i] != 0, places, blocks, i);
     Node {
         set: node.set + bit(at),
         loss: node.loss + (blocks[128 + i] as u64),
-        places: chosen,
+        places: moved,
     }
 }
 
@@ -190,12 +203,11 @@ fn leave(blocks: &[u32], at: u32, node: Node) -> Node
 {
     let i = at as usize;
     let places = node.places;
-    let further = moved(places, blocks[32 + i], blocks[64 + i]);
-    let chosen = pick(blocks[i] == 0, further, places);
+    let moved = moved_where(blocks[i] == 0, places, blocks, i);
     Node {
         set: node.set,
         loss: node.loss + (blocks[160 + i] as u64),
-        places: chosen,
+        places: moved,
     }
 }
 
@@ -211,38 +223,21 @@ fn smaller(a: u32, b: u32) -> u32
     if a <= b { a } else { b }
 }
 
-// The first number for a buy, the second for a sell.
-fn for_side(side: u32, a: u32, b: u32) -> u32
-{
-    if side == 0 { a } else { b }
-}
-
-// What an undecided block must add to the places of its hours, and what it may.
+// Whether an undecided block moves the places of its hours on for certain, and whether it may.
 #[derive(Clone, Copy)]
-pub struct Adds {
-    pub must: u32,
-    pub may: u32,
+pub struct Moves {
+    pub must: bool,
+    pub may: bool,
 }
 
-fn adds_of(blocks: &[u32], i: usize, loss: u64, limit: u64) -> Adds
+fn moves_of(blocks: &[u32], i: usize, loss: u64, limit: u64) -> Moves
 {
-    let side = blocks[i];
-    let quantity = blocks[64 + i];
-    if limit <= loss + (blocks[128 + i] as u64) {
-        return Adds {
-            must: for_side(side, quantity, 0),
-            may: 0,
-        };
-    }
-    if limit <= loss + (blocks[160 + i] as u64) {
-        return Adds {
-            must: for_side(side, 0, quantity),
-            may: 0,
-        };
-    }
-    Adds {
-        must: 0,
-        may: quantity,
+    let buys = blocks[i] == 0;
+    let left_out = limit <= loss + (blocks[128 + i] as u64);
+    let taken = limit <= loss + (blocks[160 + i] as u64);
+    Moves {
+        must: (left_out & buys) | (taken & !buys),
+        may: !left_out & !taken,
     }
 }
 
@@ -268,9 +263,9 @@ fn rest_of(
     let mut i = count;
     while at < i {
         i -= 1;
-        let adds = adds_of(blocks, i, loss, limit);
-        let more = moved(least, blocks[32 + i], adds.must);
-        let freer = moved(free, blocks[32 + i], adds.may);
+        let moves = moves_of(blocks, i, loss, limit);
+        let more = moved_where(moves.must, least, blocks, i);
+        let freer = moved_where(moves.may, free, blocks, i);
         least = more;
         free = freer;
     }
@@ -315,14 +310,28 @@ fn least_gaps(gap: &[u32], turn: &[u32], from: [u32; 24], to: [u32; 24]) -> u64
     sum
 }
 
+// Whether the other way to decide the block that was decided last loses the limit or more: then what a branch can reach is as it was before that block.
+fn is_forced(blocks: &[u32], at: usize, set: u32, loss: u64, limit: u64) -> bool
+{
+    if at == 0 {
+        return false;
+    }
+    let i = at - 1;
+    let taken = (set >> (i as u32)) % 2 == 1;
+    let other = if taken {
+        blocks[160 + i]
+    } else {
+        blocks[128 + i]
+    };
+    limit <= loss + (other as u64)
+}
+
 // Whether a completion of the node may be lawful and lose less than the limit. None does where the decided blocks lose as much already, where an hour can
 // no longer balance, where the least gaps within reach come to as much, or where a taken block misses its limit at the best prices within reach.
 fn is_open(
     low: &[u32],
     gap: &[u32],
-    first: &[u32],
-    last: &[u32],
-    turn: &[u32],
+    hours: &[u32],
     blocks: &[u32],
     count: u32,
     left: u32,
@@ -334,17 +343,20 @@ fn is_open(
         return false;
     }
     let at = (count - left) as usize;
+    if is_forced(blocks, at, node.set, node.loss, limit) {
+        return true;
+    }
     let places = node.places;
     let rest = rest_of(blocks, count as usize, at, node.loss, limit, places);
     let least = rest.least;
     let free = rest.free;
-    let reach = reach_of(first, last, least, free);
+    let reach = reach_of(&hours[0..24], &hours[24..48], least, free);
     if !reach.balances {
         return false;
     }
     let from = reach.from;
     let to = reach.to;
-    if limit <= node.loss + least_gaps(gap, turn, from, to) {
+    if limit <= node.loss + least_gaps(gap, &hours[48..72], from, to) {
         return false;
     }
     let high = prices_at(low, from);
@@ -352,13 +364,32 @@ fn is_open(
     keeps_limits(blocks, at, node.set, high, lowest)
 }
 
-// Every way to decide the blocks that are left, each first taken and then left out. Each branch has its own node by value, so nothing is released.
+// Whether a twin that is taken before block i is left out.
+fn is_barred(blocks: &[u32], i: usize, set: u32) -> bool
+{
+    let ahead = blocks[192 + i];
+    if ahead == 0 {
+        return false;
+    }
+    (set >> (ahead - 1)) % 2 == 0
+}
+
+// Whether a twin that is taken after block i is taken.
+fn is_due(blocks: &[u32], i: usize, set: u32) -> bool
+{
+    let behind = blocks[224 + i];
+    if behind == 0 {
+        return false;
+    }
+    (set >> (behind - 1)) % 2 == 1
+}
+
+// Every way to decide the blocks that are left, each first taken and then left out; of twins, the one that is taken before the other first. Each branch
+// has its own node by value, so nothing is released.
 fn explore(
     low: &[u32],
     gap: &[u32],
-    first: &[u32],
-    last: &[u32],
-    turn: &[u32],
+    hours: &[u32],
     blocks: &[u32],
     count: u32,
     left: u32,
@@ -367,72 +398,30 @@ fn explore(
 ) -> Best
 {
     crate::twin::count::node();
-    if !is_open(
-        low,
-        gap,
-        first,
-        last,
-        turn,
-        blocks,
-        count,
-        left,
-        node,
-        best.limit,
-    ) {
+    let limit = best.limit;
+    if !is_open(low, gap, hours, blocks, count, left, node, limit) {
         crate::twin::count::cut();
         return best;
     }
     if left == 0 {
-        let places = node.places;
-        return decide(
-            low,
-            gap,
-            first,
-            last,
-            blocks,
-            count,
-            node.set,
-            node.loss,
-            places,
-            best,
-        );
+        return decide(low, gap, hours, blocks, count, node, best);
     }
-    let taken = explore(
-        low,
-        gap,
-        first,
-        last,
-        turn,
-        blocks,
-        count,
-        left - 1,
-        take(blocks, count - left, node),
-        best,
-    );
-    explore(
-        low,
-        gap,
-        first,
-        last,
-        turn,
-        blocks,
-        count,
-        left - 1,
-        leave(blocks, count - left, node),
-        taken,
-    )
+    let at = count - left;
+    let after = left - 1;
+    let without = leave(blocks, at, node);
+    if is_barred(blocks, at as usize, node.set) {
+        return explore(low, gap, hours, blocks, count, after, without, best);
+    }
+    let with = take(blocks, at, node);
+    let taken = explore(low, gap, hours, blocks, count, after, with, best);
+    if is_due(blocks, at as usize, node.set) {
+        return taken;
+    }
+    explore(low, gap, hours, blocks, count, after, without, taken)
 }
 
 // The published set: a pass with a small threshold first, doubled until a pass finds a set. A pass that finds one has found the published one.
-pub fn find(
-    low: &[u32],
-    gap: &[u32],
-    first: &[u32],
-    last: &[u32],
-    turn: &[u32],
-    blocks: &[u32],
-    count: u32,
-) -> Best
+pub fn find(low: &[u32], gap: &[u32], hours: &[u32], blocks: &[u32], count: u32) -> Best
 {
     let day = Day {
         prices: [0; 24],
@@ -450,18 +439,7 @@ pub fn find(
             set: 0,
             day: day,
         };
-        let found = explore(
-            low,
-            gap,
-            first,
-            last,
-            turn,
-            blocks,
-            count,
-            count,
-            root,
-            start,
-        );
+        let found = explore(low, gap, hours, blocks, count, count, root, start);
         if found.limit < limit {
             return found;
         }
@@ -472,16 +450,5 @@ pub fn find(
         set: 0,
         day: day,
     };
-    explore(
-        low,
-        gap,
-        first,
-        last,
-        turn,
-        blocks,
-        count,
-        count,
-        root,
-        start,
-    )
+    explore(low, gap, hours, blocks, count, count, root, start)
 }

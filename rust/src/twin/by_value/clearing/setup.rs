@@ -27,13 +27,11 @@ pub struct Ranges {
     pub turn: [u32; 24],
 }
 
-// What the search is given besides the two tables: the hours' ranges, and the blocks' six columns.
+// What the search is given besides the two tables: the hours' three columns, and the blocks' columns and rows.
 #[derive(Clone, Copy)]
 pub struct Prepared {
-    pub first: [u32; 24],
-    pub last: [u32; 24],
-    pub turn: [u32; 24],
-    pub columns: [u32; 192],
+    pub hours: [u32; 72],
+    pub columns: [u32; 1024],
 }
 
 // The price table of an hour, whose steps stand from a up to e.
@@ -220,6 +218,126 @@ fn block_columns(
     columns
 }
 
+// The hours' three columns in one list.
+fn joined(first: [u32; 24], last: [u32; 24], turn: [u32; 24]) -> [u32; 72]
+{
+    let mut r = [0; 72];
+    let mut h: usize = 0;
+    while h < 24 {
+        r[h] = first[h];
+        r[24 + h] = last[h];
+        r[48 + h] = turn[h];
+        h += 1;
+    }
+    r
+}
+
+// The blocks' six columns with room for their twins and rows.
+fn widened(columns: [u32; 192]) -> [u32; 1024]
+{
+    let mut r = [0; 1024];
+    let mut k: usize = 0;
+    while k < 192 {
+        r[k] = columns[k];
+        k += 1;
+    }
+    r
+}
+
+// The same with a row for each block: what it trades in each of the 24 hours.
+fn with_rows(count: usize, blocks: [u32; 1024]) -> [u32; 1024]
+{
+    let mut r = blocks;
+    let mut k: usize = 0;
+    while k < 24 * count {
+        let runs = (blocks[32 + k / 24] >> (k % 24)) % 2;
+        r[256 + k] = runs * blocks[64 + k / 24];
+        k += 1;
+    }
+    r
+}
+
+// Whether two blocks are twins: of the same side, hours and quantity.
+fn are_twins(blocks: &[u32], a: usize, b: usize) -> bool
+{
+    let same_side = blocks[a] == blocks[b];
+    let same_hours = blocks[32 + a] == blocks[32 + b];
+    let same_quantity = blocks[64 + a] == blocks[64 + b];
+    (same_side & same_hours) & same_quantity
+}
+
+// Whether a limit is kept wherever another is: a buy's is no lower, a sell's no higher.
+fn is_no_worse(side: u32, limit: u32, other: u32) -> bool
+{
+    if side == 0 {
+        other <= limit
+    } else {
+        limit <= other
+    }
+}
+
+// The first number where the test passes, else the second.
+fn choose(test: bool, a: u32, b: u32) -> u32
+{
+    if test { a } else { b }
+}
+
+// Of the blocks before block i, the twin that is taken before it, the last by limit; its number and 1, or 0 for none.
+fn twin_ahead(blocks: &[u32], i: usize) -> u32
+{
+    let side = blocks[i];
+    let limit = blocks[96 + i];
+    let mut found: u32 = 0;
+    let mut edge = choose(side == 0, 4294967295, 0);
+    let mut j: usize = 0;
+    while j < i {
+        let here = blocks[96 + j];
+        let ahead = are_twins(blocks, j, i) & is_no_worse(side, here, limit);
+        let test = ahead & is_no_worse(side, edge, here);
+        let next = choose(test, (j + 1) as u32, found);
+        let nearer = choose(test, here, edge);
+        found = next;
+        edge = nearer;
+        j += 1;
+    }
+    found
+}
+
+// Of the blocks before block i, the twin that is taken after it, the first by limit; its number and 1, or 0 for none.
+fn twin_behind(blocks: &[u32], i: usize) -> u32
+{
+    let side = blocks[i];
+    let limit = blocks[96 + i];
+    let trades = 0 < blocks[64 + i];
+    let mut found: u32 = 0;
+    let mut edge = choose(side == 0, 0, 4294967295);
+    let mut j: usize = 0;
+    while j < i {
+        let here = blocks[96 + j];
+        let behind = (are_twins(blocks, i, j) & !is_no_worse(side, here, limit)) & trades;
+        let test = behind & is_no_worse(side, here, edge);
+        let next = choose(test, (j + 1) as u32, found);
+        let nearer = choose(test, here, edge);
+        found = next;
+        edge = nearer;
+        j += 1;
+    }
+    found
+}
+
+// The same with the twins of each block.
+fn with_twins(count: usize, blocks: [u32; 1024]) -> [u32; 1024]
+{
+    let mut r = blocks;
+    let mut i: usize = 0;
+    while i < count {
+        r[192 + i] = twin_ahead(&blocks, i);
+        r[224 + i] = twin_behind(&blocks, i);
+        i += 1;
+    }
+    r
+}
+
 // The places where each block that gains at the prices is taken, and no other.
 fn places_at(
     count: usize,
@@ -338,10 +456,10 @@ pub fn prepare(
     let first = ranges.first;
     let last = ranges.last;
     let turn = ranges.turn;
+    let wide = widened(columns);
+    let traded = with_rows(count, wide);
     Prepared {
-        first,
-        last,
-        turn,
-        columns,
+        hours: joined(first, last, turn),
+        columns: with_twins(count, traded),
     }
 }
