@@ -236,10 +236,11 @@ module _ (b ends stepRecords sides prices quantities : List ℕ) (count : ℕ) (
     is-ahead : (j a : ℕ) → j < count → aheadAt columns j ≡ suc a → (a < j) × Ahead (dayFrom b) (λ h. getD root (h - 1) 0) a j
     is-ahead j a k e =
         let f = all .ahead j k a e in
-        let below = f .0 in
-        (below,
-        twins-ahead a j (omega arith) k (f .1)
-        (rw (f .1 .sameSide) (no-worse-true (sideAt columns j) (limitAt columns a) (limitAt columns j) (f .2))) (λ n. absurd (omega arith)))
+        let below = f .0 in (
+          below,
+          twins-ahead a j (omega arith) k (f .1)
+              (rw (f .1 .sameSide) (no-worse-true (sideAt columns j) (limitAt columns a) (limitAt columns j) (f .2))) (λ n. absurd (omega arith)),
+        )
 
     is-behind : (j c : ℕ) → j < count → behindAt columns j ≡ suc c → (c < j) × Ahead (dayFrom b) (λ h. getD root (h - 1) 0) j c
     is-behind j c k e =

@@ -200,7 +200,7 @@ module _ (blocks : List ℕ) where
     fits = d .fits;
   }
 
--- TWINS: one of three tests that pass
+-- TWINS: three equalities that a test found
 pub twins-from : (blocks : List ℕ) (a b : ℕ) →
     ((eqb (sideAt blocks a) (sideAt blocks b) && eqb (hoursAt blocks a) (hoursAt blocks b)) && eqb (quantityAt blocks a) (quantityAt blocks b)) ≡ true →
     TwinsAt blocks a b

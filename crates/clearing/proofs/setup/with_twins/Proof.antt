@@ -51,7 +51,11 @@ loop-less : tie.Need-loop-less Inv-loop μ-loop
 loop-less c = search needs
 
 loop-again : tie.Need-loop-again Inv-loop μ-loop
-loop-again c = ?
+loop-again c =
+    let f = c .before .before in
+    let i = f .before .before in
+    let s = i .before .before in
+    twins-next _ _ _ _ _ _ (i .before .loop .inv) (s .pre .0) (i .loop-test .taken) (f .twin-ahead .ensures) (c .twin-behind .ensures)
 
 returns : tie.Need-returns Inv-loop μ-loop
 returns c = twins-all _ _ _ _ (c .before .loop .inv) (c .loop-test .left)
