@@ -14,3 +14,4 @@ pub mod paper;
 #[cfg(feature = "proved")]
 pub mod proved;
 pub mod text;
+pub mod twin;

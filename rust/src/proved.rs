@@ -9,6 +9,7 @@ extern "C" {
     fn auction_read(book: *const u8, book_len: usize) -> u32;
     fn auction_price(book: *const u8, book_len: usize, set: u32, hour: u32, part: u32) -> u32;
     fn auction_clear(book: *const u8, book_len: usize, result: *mut u8, result_len: usize) -> u32;
+    fn auction_sheet(book: *const u8, book_len: usize, out: *mut u8, out_len: usize) -> u32;
 }
 
 /// The proved reader's answer: 0 when the book is accepted, else its refusal.
@@ -41,4 +42,19 @@ pub fn price_only(book: &[u8], set: u32, hour: u32) -> u32 {
 pub fn clear(book: &[u8], result: &mut [u8]) -> u32 {
     // SAFETY: as in `read`; the result is one live slice that only this call writes.
     unsafe { auction_clear(book.as_ptr(), book.len(), result.as_mut_ptr(), result.len()) }
+}
+
+/// What the proved sheet writes of a book into a buffer: the sheet's length, and
+/// the sheet at the buffer's start where it has room.
+pub fn sheet_into(book: &[u8], out: &mut [u8]) -> usize {
+    // SAFETY: as in `clear`.
+    unsafe { auction_sheet(book.as_ptr(), book.len(), out.as_mut_ptr(), out.len()) as usize }
+}
+
+/// The proved sheet of a book. None has more than 781 bytes.
+pub fn sheet(book: &[u8]) -> Vec<u8> {
+    let mut out = vec![0; 781];
+    let length = sheet_into(book, &mut out);
+    out.truncate(length);
+    out
 }

@@ -11,7 +11,7 @@ use lib.Dec.{eqb, leb}
 use lib.ListN.{length, drop, getD, length-append}
 use lib.Seq.{drop-drop, getD-drop}
 use lib.Pow.{pow-mono}
-use borrow.Author.Tests.{eq-eqb, ne-eqb}
+use borrow.Author.Tests.{eqb-true, eqb-false, eq-eqb, ne-eqb, not-true}
 use Rattle.book.specs.Records.{holdsHour}
 use Rattle.orders.specs.Columns.{sideFor}
 use Rattle.rules.specs.Orders.{Side, buy, sell, Block}
@@ -45,6 +45,7 @@ use Rattle.rules.proofs.TableLaws.{unitPrice, unit-net, tablePrice}
 use Rattle.rules.proofs.NeighbourLaws.{slack}
 use Rattle.rules.proofs.LossLaws.{losses, lossOf, gaps, losses-taken, losses-left, bound-with}
 use Rattle.rules.proofs.LossSearchLaws as by-loss
+use Rattle.rules.proofs.TwinLaws.{Ahead, InTurn, turn-left, turn-taken}
 use Rattle.rules.proofs.SetBits.{bits-length, bits-at, bits-taken, bits-left, bits-room}
 use Rattle.rules.proofs.PlaceLaws.{
   place,
@@ -73,10 +74,14 @@ use Rattle.clearing.specs.Search.{
   PricesOf,
   sideAt,
   hoursAt,
-  quantityAt,
   limitAt,
   againstAt,
   gainAt,
+  aheadAt,
+  behindAt,
+  rowAt,
+  isBarred,
+  isDue,
   keepsAt,
   allKeep,
 }
@@ -281,7 +286,7 @@ module _ (day : Day) (p rest : ℕ → ℕ) (count left : ℕ) (d : List Bool) (
   pub as-it-was : ((t : List Bool) → length t ≡ left → lawful day (d ++ t) ≡ true → best .limit ≤ lossAbove day p rest (d ++ t)) →
       Outcome day p rest count left d best best
   as-it-was f = record {
-    explored = by-loss.branch-cut day (lossAbove day p rest) left d (bestAs count best) f;
+    explored = by-loss.branch-cut day (InTurn day p) (lossAbove day p rest) left d (bestAs count best) (λ t l law _. f t l law);
     same = λ _. refl;
     found = λ k. absurd (omega arith);
   }
@@ -293,7 +298,7 @@ module _ (day : Day) (p rest : ℕ → ℕ) (count : ℕ) (d : List Bool) (set :
   newly-found e room es el less law of =
       let is : decisions count (r .set) ≡ d = rw es e in
       record {
-        explored = rw (is, el) (by-loss.leaf-lowered day (lossAbove day p rest) d (bestAs count best) law (rw (sym el) less));
+        explored = rw (is, el) (by-loss.leaf-lowered day (InTurn day p) (lossAbove day p rest) d (bestAs count best) law (rw (sym el) less));
         same = λ z. absurd (omega arith);
         found = λ _. (rw es room, rw is of);
       }
@@ -304,7 +309,7 @@ module _ (low gap first last blocks : List ℕ) (count set loss : ℕ) (places :
   leaf-as-it-was : (day : Day) (p rest : ℕ → ℕ) (d : List Bool) → (lawful day d ≡ true → best .limit ≤ lossAbove day p rest d) →
       Outcome day p rest count 0 d best best
   leaf-as-it-was day p rest d f = record {
-    explored = by-loss.leaf-kept day (lossAbove day p rest) d (bestAs count best) f;
+    explored = by-loss.leaf-kept day (InTurn day p) (lossAbove day p rest) d (bestAs count best) (λ law _. f law);
     same = λ _. refl;
     found = λ k. absurd (omega arith);
   }
@@ -345,26 +350,6 @@ module _ (low gap first last blocks : List ℕ) (count set loss : ℕ) (places :
           (day-of day p rest low gap first last blocks count known set loss places d branch whole in-range prices priced)
 
 -- ONE MORE BLOCK, in the code's numbers
-module _ (side hours quantity : ℕ) (places further : List ℕ) (moved : (h : ℕ) → 1 ≤ h → h ≤ 24 →
-    ofHour further h ≡ ofHour places h + when (holdsHour hours h) quantity) where
-  -- a sell's places move on where it is taken
-  pub taken-places : (h : ℕ) → 1 ≤ h → h ≤ 24 →
-      ofHour (cond (not (eqb side 0)) further places) h ≡ ofHour places h + when (holdsHour hours h) (bySide (sideFor side) 0 quantity)
-  taken-places h a b = go side
-    where
-      go : (s : ℕ) → ofHour (cond (not (eqb s 0)) further places) h ≡ ofHour places h + when (holdsHour hours h) (bySide (sideFor s) 0 quantity)
-      go zero = omega (arith, when-zero (holdsHour hours h))
-      go (suc s) = rw (ne-eqb (suc s) 0 (omega arith)) (moved h a b)
-
-  -- a buy's where it is left out
-  pub left-places : (h : ℕ) → 1 ≤ h → h ≤ 24 →
-      ofHour (cond (eqb side 0) further places) h ≡ ofHour places h + when (holdsHour hours h) (bySide (sideFor side) quantity 0)
-  left-places h a b = go side
-    where
-      go : (s : ℕ) → ofHour (cond (eqb s 0) further places) h ≡ ofHour places h + when (holdsHour hours h) (bySide (sideFor s) quantity 0)
-      go zero = moved h a b
-      go (suc s) = rw (ne-eqb (suc s) 0 (omega arith)) (omega (arith, when-zero (holdsHour hours h)))
-
 -- places that grow by at most a block's quantity
 pub places-grow : (n : ℕ) (places r : List ℕ) → length r ≡ 24 → Small (n * 50000) places →
     ((h : ℕ) → 1 ≤ h → h ≤ 24 → ofHour r h ≤ ofHour places h + 50000) → Small ((n + 1) * 50000) r
@@ -376,53 +361,58 @@ places-grow n places r e small f i = at (native.Mathlib.Decide.decLe 24 i)
         let a = rw sub-one at (f (suc i) (omega arith) (omega (arith, native.Mathlib.Nat.lt-of-not-le k))) in
         omega (arith, small i)
 
-pub traded-le : (t : Bool) (side : Side) (q : ℕ) → (when t (bySide side q 0) ≤ q) × (when t (bySide side 0 q) ≤ q)
-traded-le t buy q = (when-le t q, omega (arith, when-zero t))
-traded-le t sell q = (omega (arith, when-zero t), when-le t q)
-
-cond-length : (t : Bool) (a b : List ℕ) (n : ℕ) → length a ≡ n → length b ≡ n → length (cond t a b) ≡ n
-cond-length true a b n ea eb = ea
-cond-length false a b n ea eb = eb
-
 -- the node with the block taken, and with it left out
-module _ (blocks : List ℕ) (at : ℕ) (node : Node) (further chosen : List ℕ) (sized : BlocksSized blocks) (inside : at < 32)
-    (fits : Fits at (node .set) (node .loss) (node .places)) (ef : length further ≡ 24) (ep : length (node .places) ≡ 24)
-    (moved : (h : ℕ) → 1 ≤ h → h ≤ 24 → ofHour further h ≡ ofHour (node .places) h + when (holdsHour (hoursAt blocks at) h) (quantityAt blocks at)) where
-  pub node-taken : (b : ℕ) → b ≡ 2 ^ at → againstAt blocks at < 2 ^ 32 → chosen ≡ cond (not (eqb (sideAt blocks at) 0)) further (node .places) →
-      Fits (at + 1) (node .set + b) (node .loss + againstAt blocks at) chosen
-      × TakenTo blocks at node record { set = node .set + b; loss = node .loss + againstAt blocks at; places = chosen }
-  node-taken b eb small e =
-      let placed : (h : ℕ) → 1 ≤ h → h ≤ 24 →
-      ofHour chosen h ≡ ofHour (node .places) h + when (holdsHour (hoursAt blocks at) h) (bySide (sideFor (sideAt blocks at)) 0 (quantityAt blocks at)) =
-      rw e (taken-places (sideAt blocks at) (hoursAt blocks at) (quantityAt blocks at) (node .places) further moved) in
-      let size : length chosen ≡ 24 = rw e (cond-length (not (eqb (sideAt blocks at) 0)) further (node .places) 24 ef ep) in (
-        record {
-          setFits = rw (eb, add-one) (bits-room at (node .set) (fits .setFits) .0);
-          lossFits = omega (arith, fits .lossFits);
-          placesSize = size;
-          placesFit = places-grow at (node .places) chosen size (fits .placesFit) (λ h i j.
-              omega (arith, placed h i j, traded-le (holdsHour (hoursAt blocks at) h) (sideFor (sideAt blocks at)) (quantityAt blocks at), sized .quantitiesFit at inside));
-        },
-        record { setIs = rw eb; lossIs = refl; placesAre = placed },
-      )
+module _ (blocks : List ℕ) (at : ℕ) (node : Node) (moved : List ℕ) (sized : BlocksSized blocks)
+    (fits : Fits at (node .set) (node .loss) (node .places)) (size : length moved ≡ 24) where
+  abbrev MovedBy : Bool → Type 0
+  MovedBy t = (h : ℕ) → 1 ≤ h → h ≤ 24 → ofHour moved h ≡ ofHour (node .places) h + when t (rowAt blocks at h)
 
-  pub node-left : gainAt blocks at < 2 ^ 32 → chosen ≡ cond (eqb (sideAt blocks at) 0) further (node .places) →
-      Fits (at + 1) (node .set) (node .loss + gainAt blocks at) chosen
-      × LeftTo blocks at node record { set = node .set; loss = node .loss + gainAt blocks at; places = chosen }
-  node-left small e =
-      let placed : (h : ℕ) → 1 ≤ h → h ≤ 24 →
-      ofHour chosen h ≡ ofHour (node .places) h + when (holdsHour (hoursAt blocks at) h) (bySide (sideFor (sideAt blocks at)) (quantityAt blocks at) 0) =
-      rw e (left-places (sideAt blocks at) (hoursAt blocks at) (quantityAt blocks at) (node .places) further moved) in
-      let size : length chosen ≡ 24 = rw e (cond-length (eqb (sideAt blocks at) 0) further (node .places) 24 ef ep) in (
-        record {
-          setFits = rw add-one (bits-room at (node .set) (fits .setFits) .1);
-          lossFits = omega (arith, fits .lossFits);
-          placesSize = size;
-          placesFit = places-grow at (node .places) chosen size (fits .placesFit) (λ h i j.
-              omega (arith, placed h i j, traded-le (holdsHour (hoursAt blocks at) h) (sideFor (sideAt blocks at)) (quantityAt blocks at), sized .quantitiesFit at inside));
-        },
-        record { setIs = refl; lossIs = refl; placesAre = placed },
-      )
+  moved-fits : (t : Bool) → MovedBy t → Small ((at + 1) * 50000) moved
+  moved-fits t m =
+      places-grow at (node .places) moved size (fits .placesFit) (λ h a b.
+      omega (arith, m h a b, when-le t (rowAt blocks at h), sized .rowsFit at h))
+
+  pub node-taken : (b : ℕ) → b ≡ 2 ^ at → againstAt blocks at < 2 ^ 32 → MovedBy (not (eqb (sideAt blocks at) 0)) →
+      Fits (at + 1) (node .set + b) (node .loss + againstAt blocks at) moved
+      × TakenTo blocks at node record { set = node .set + b; loss = node .loss + againstAt blocks at; places = moved }
+  node-taken b eb small m = (
+    record {
+      setFits = rw (eb, add-one) (bits-room at (node .set) (fits .setFits) .0);
+      lossFits = omega (arith, fits .lossFits);
+      placesSize = size;
+      placesFit = moved-fits (not (eqb (sideAt blocks at) 0)) m;
+    },
+    record { setIs = rw eb; lossIs = refl; placesAre = m },
+  )
+
+  pub node-left : gainAt blocks at < 2 ^ 32 → MovedBy (eqb (sideAt blocks at) 0) →
+      Fits (at + 1) (node .set) (node .loss + gainAt blocks at) moved
+      × LeftTo blocks at node record { set = node .set; loss = node .loss + gainAt blocks at; places = moved }
+  node-left small m = (
+    record {
+      setFits = rw add-one (bits-room at (node .set) (fits .setFits) .1);
+      lossFits = omega (arith, fits .lossFits);
+      placesSize = size;
+      placesFit = moved-fits (eqb (sideAt blocks at) 0) m;
+    },
+    record { setIs = refl; lossIs = refl; placesAre = m },
+  )
+
+-- what a block sells and buys in an hour, by its row
+sells-row : (side : ℕ) (t : Bool) (q : ℕ) → when t (bySide (sideFor side) 0 q) ≡ when (not (eqb side 0)) (when t q)
+sells-row zero t q = when-zero t
+sells-row (suc side) t q = rw (ne-eqb (suc side) 0 (omega arith))
+
+buys-row : (side : ℕ) (t : Bool) (q : ℕ) → when t (bySide (sideFor side) q 0) ≡ when (eqb side 0) (when t q)
+buys-row zero t q = refl
+buys-row (suc side) t q = rw (ne-eqb (suc side) 0 (omega arith)) (when-zero t)
+
+module _ (day : Day) (p : ℕ → ℕ) (blocks : List ℕ) (j : ℕ) (s : Shown day p blocks j) (h : ℕ) (a : 1 ≤ h) (b : h ≤ 24) where
+  pub sells-at : sells h (s .block) ≡ when (not (eqb (sideAt blocks j) 0)) (rowAt blocks j h)
+  sells-at = rw (s .sideIs, s .rowIs h a b) (sells-row (sideAt blocks j) (s .block .runs h) (s .block .quantity))
+
+  pub buys-at : buys h (s .block) ≡ when (eqb (sideAt blocks j) 0) (rowAt blocks j h)
+  buys-at = rw (s .sideIs, s .rowIs h a b) (buys-row (sideAt blocks j) (s .block .runs h) (s .block .quantity))
 
 -- the branch with the block taken, and with it left out
 module _ (day : Day) (p rest : ℕ → ℕ) (low gap first last blocks : List ℕ) (count : ℕ) (known : Known day p rest low gap first last blocks count)
@@ -430,12 +420,6 @@ module _ (day : Day) (p rest : ℕ → ℕ) (low gap first last blocks : List �
     (k : length d < count) where
   S : Shown day p blocks (length d)
   S = known .shown (length d) k
-
-  sells-is : (h : ℕ) → sells h (S .block) ≡ when (holdsHour (hoursAt blocks (length d)) h) (bySide (sideFor (sideAt blocks (length d))) 0 (quantityAt blocks (length d)))
-  sells-is h = rw (S .runsIs h, S .sideIs, S .quantityIs)
-
-  buys-is : (h : ℕ) → buys h (S .block) ≡ when (holdsHour (hoursAt blocks (length d)) h) (bySide (sideFor (sideAt blocks (length d))) (quantityAt blocks (length d)) 0)
-  buys-is h = rw (S .runsIs h, S .sideIs, S .quantityIs)
 
   longer : (x : Bool) → length (d ++ (x ∷ [])) ≡ suc (length d)
   longer x = length-append d (x ∷ []) ∙ omega arith
@@ -445,7 +429,7 @@ module _ (day : Day) (p rest : ℕ → ℕ) (low gap first last blocks : List �
     setIs = rw (longer true, t .setIs, bits-taken (length d) (node .set) room, branch .setIs);
     lossIs = t .lossIs ∙ rw (branch .lossIs, ← (S .againstIs)) (sym (losses-taken (day .hours) p (day .blocks) d (S .block) _ (S .next)));
     placesAre = λ h a b.
-        t .placesAre h a b ∙ rw (branch .placesAre h a b, ← (sells-is h)) (sym (place-taken (day .blocks) d (S .block) _ (S .next) h));
+        t .placesAre h a b ∙ rw (branch .placesAre h a b, ← (sells-at day p blocks (length d) S h a b)) (sym (place-taken (day .blocks) d (S .block) _ (S .next) h));
   }
 
   pub branch-left : LeftTo blocks (length d) node r → Branch day p (d ++ (false ∷ [])) (r .set) (r .loss) (r .places)
@@ -453,7 +437,7 @@ module _ (day : Day) (p rest : ℕ → ℕ) (low gap first last blocks : List �
     setIs = rw (longer false, t .setIs, bits-left (length d) (node .set) room, branch .setIs);
     lossIs = t .lossIs ∙ rw (branch .lossIs, ← (S .gainIs)) (sym (losses-left (day .hours) p (day .blocks) d (S .block) _ (S .next)));
     placesAre = λ h a b.
-        t .placesAre h a b ∙ rw (branch .placesAre h a b, ← (buys-is h)) (sym (place-left (day .blocks) d (S .block) _ (S .next) h));
+        t .placesAre h a b ∙ rw (branch .placesAre h a b, ← (buys-at day p blocks (length d) S h a b)) (sym (place-left (day .blocks) d (S .block) _ (S .next) h));
   }
 
 -- a set of fewer than 32 blocks and one more fits 32 bits
@@ -517,7 +501,7 @@ module _ (low gap first last blocks : List ℕ) (count : ℕ) where
         let lower₁ : m .limit ≤ best .limit = a .explored .noMore in
         let lower₂ : r .limit ≤ m .limit = b .explored .noMore in
         record {
-          explored = rw one at (by-loss.joined day (lossAbove day p rest) (left - 1) d _ _ _ (a .explored) (b .explored));
+          explored = rw one at (by-loss.joined day (InTurn day p) (lossAbove day p rest) (left - 1) d _ _ _ (a .explored) (b .explored));
           same = λ e. b .same (omega arith) ∙ a .same (omega arith);
           found = λ less. by-which less a b lower₂ (eq-or-lt-of-le lower₂);
         }
@@ -527,3 +511,60 @@ module _ (low gap first last blocks : List ℕ) (count : ℕ) where
             (r .limit ≡ m .limit) ⊎ (r .limit < m .limit) → (r .set < 2 ^ count) × DayOf day (decisions count (r .set)) (r .day)
         by-which less a b le (inl e) = rw (b .same e) (a .found (omega arith))
         by-which less a b le (inr e) = b .found e
+
+    -- of twins, one that is not taken after the other is left out, or taken
+    decided-bit : (day : Day) (p : ℕ → ℕ) (d : List Bool) (set loss : ℕ) (places : List ℕ) → Branch day p d set loss places → (a : ℕ) → a < length d →
+        getD d a false ≡ eqb (set / 2 ^ a % 2) 1
+    decided-bit day p d set loss places branch a k = rw (← (branch .setIs)) (bits-at (length d) set a k)
+
+    pub explored-left : (left : ℕ) (node left-node : Node) (best r : Best) → 0 < left → left ≤ count → node .set < 2 ^ (count - left) →
+        isBarred blocks (count - left) (node .set) ≡ true → LeftTo blocks (count - left) node left-node →
+        ExploredFrom low gap first last turn blocks count (left - 1) left-node best r →
+        ExploredFrom low gap first last turn blocks count left node best r
+    unfolding isBarred
+    explored-left left node nl best r pos le room barred l g day p rest d known turning branch size =
+        let at : count - left ≡ length d = omega arith in
+        let k : length d < count = omega arith in
+        let room′ : node .set < 2 ^ length d = rw (← at) room in
+        let bl = branch-left day p rest low gap first last blocks count known d node nl branch room′ k (rw at at l) in
+        let b = g day p rest (d ++ (false ∷ [])) known turning bl (omega (arith, length-append d (false ∷ []))) in
+        let one : suc (left - 1) ≡ left = omega arith in
+        let tests = both (not (eqb (aheadAt blocks (length d)) 0)) (eqb (node .set / 2 ^ (aheadAt blocks (length d) - 1) % 2) 0) (rw at at barred) in
+        let some = eqb-false (aheadAt blocks (length d)) 0 (not-true _ (tests .0)) in
+        let a = aheadAt blocks (length d) - 1 in
+        let is : aheadAt blocks (length d) ≡ suc (aheadAt blocks (length d) - 1) = omega arith in
+        let twin = known .ahead (length d) (aheadAt blocks (length d) - 1) k is in
+        let zero-bit = eqb-true (node .set / 2 ^ (aheadAt blocks (length d) - 1) % 2) 0 (tests .1) in
+        let out : getD d (aheadAt blocks (length d) - 1) false ≡ false =
+        decided-bit day p d _ _ _ branch (aheadAt blocks (length d) - 1) (twin .0) ∙ ne-eqb (node .set / 2 ^ (aheadAt blocks (length d) - 1) % 2) 1 (λ e. omega arith) in
+        record {
+          explored = rw one at (by-loss.only-left day (InTurn day p) (lossAbove day p rest) (left - 1) d _ _
+              (λ t _ _ kept. turn-left day p d (aheadAt blocks (length d) - 1) (twin .0) (twin .1) out t kept) (b .explored));
+          same = b .same;
+          found = b .found;
+        }
+
+    pub explored-taken : (left : ℕ) (node taken-node : Node) (best r : Best) → 0 < left → left ≤ count → node .set < 2 ^ (count - left) →
+        isDue blocks (count - left) (node .set) ≡ true → TakenTo blocks (count - left) node taken-node →
+        ExploredFrom low gap first last turn blocks count (left - 1) taken-node best r →
+        ExploredFrom low gap first last turn blocks count left node best r
+    unfolding isDue
+    explored-taken left node nt best r pos le room due t f day p rest d known turning branch size =
+        let at : count - left ≡ length d = omega arith in
+        let k : length d < count = omega arith in
+        let room′ : node .set < 2 ^ length d = rw (← at) room in
+        let bt = branch-taken day p rest low gap first last blocks count known d node nt branch room′ k (rw at at t) in
+        let b = f day p rest (d ++ (true ∷ [])) known turning bt (omega (arith, length-append d (true ∷ []))) in
+        let one : suc (left - 1) ≡ left = omega arith in
+        let tests = both (not (eqb (behindAt blocks (length d)) 0)) (eqb (node .set / 2 ^ (behindAt blocks (length d) - 1) % 2) 1) (rw at at due) in
+        let some = eqb-false (behindAt blocks (length d)) 0 (not-true _ (tests .0)) in
+        let is : behindAt blocks (length d) ≡ suc (behindAt blocks (length d) - 1) = omega arith in
+        let twin = known .behind (length d) (behindAt blocks (length d) - 1) k is in
+        let inside : getD d (behindAt blocks (length d) - 1) false ≡ true =
+        decided-bit day p d _ _ _ branch (behindAt blocks (length d) - 1) (twin .0) ∙ tests .1 in
+        record {
+          explored = rw one at (by-loss.only-taken day (InTurn day p) (lossAbove day p rest) (left - 1) d _ _
+              (λ s _ _ kept. turn-taken day p d (behindAt blocks (length d) - 1) (twin .0) (twin .1) inside s kept) (b .explored));
+          same = b .same;
+          found = b .found;
+        }

@@ -12,11 +12,12 @@ use lib.ListN.{length, getD, set, length-set, replicate}
 use lib.Seq.{getD-set-same, getD-set-other}
 use borrow.Author.Tests.{ltb-false, le-ltb, eq-eqb, ne-eqb}
 use Rattle.rules.specs.Orders.{sell}
+use Rattle.rules.specs.Hour.{when}
 use Rattle.rules.specs.Day.{sumTo}
 use Rattle.orders.specs.Columns.{sideFor}
 use Rattle.rules.proofs.Tests.{by-test, clash}
 use Rattle.book.proofs.Laws.{or-left, or-right}
-use Rattle.clearing.specs.Search.{Small, cell, ofHour, InRange, GapsOf, PricesOf, sideAt, hoursAt, limitAt, keepsAt, allKeep}
+use Rattle.clearing.specs.Search.{Small, cell, ofHour, InRange, GapsOf, PricesOf, sideAt, hoursAt, limitAt, rowAt, aheadAt, behindAt, isBarred, isDue, keepsAt, allKeep}
 
 -- what holds below h and at h holds below h + 1
 pub below-next : (P : ℕ → Type 0) (h k : ℕ) → (k < h → P k) → P h → k < suc h → P k
@@ -175,3 +176,53 @@ places-small first last places r small e i = at (native.Mathlib.Decide.decLe 24 
     at (no k) =
         let a = rw sub-one at (r (suc i) (omega arith) (omega (arith, native.Mathlib.Nat.lt-of-not-le k))) in
         omega (arith, a .1, small i)
+
+-- A ROW ADDED to places, hour by hour
+module _ (places blocks : List ℕ) (i : ℕ) where
+  pub record RowTo (h : ℕ) (r : List ℕ) : Type 0 where
+    pub inside : h ≤ 24
+    pub size : length r ≡ 24
+    pub done : (k : ℕ) → k < h → getD r k 0 ≡ getD places k 0 + getD blocks (256 + 24 * i + k) 0
+    pub ahead : (k : ℕ) → h ≤ k → getD r k 0 ≡ getD places k 0
+
+  pub row-start : length places ≡ 24 → RowTo 0 places
+  row-start e = record { inside = omega arith; size = e; done = λ k a. absurd (omega arith); ahead = λ k a. refl }
+
+  pub row-next : (h : ℕ) (r : List ℕ) → RowTo h r → h < 24 → RowTo (h + 1) (set r h (getD r h 0 + getD blocks (256 + 24 * i + h) 0))
+  row-next h r g k =
+      let inside : h < length r = omega (arith, g .size) in
+      let v = getD r h 0 + getD blocks (256 + 24 * i + h) 0 in
+      record {
+        inside = omega arith;
+        size = rw length-set (g .size);
+        done = λ j a. below-next (λ n. getD (set r h v) n 0 ≡ getD places n 0 + getD blocks (256 + 24 * i + n) 0) h j
+            (λ b. getD-set-other r h j v 0 (omega arith) ∙ g .done j b)
+            (getD-set-same r h v 0 inside ∙ rw (g .ahead h (omega arith))) (rw add-one at a);
+        ahead = λ j a. getD-set-other r h j v 0 (omega arith) ∙ g .ahead j (omega arith);
+      }
+
+  module _ (test : Bool) where
+    pub row-all : test ≡ true → (h : ℕ) (r : List ℕ) → RowTo h r → 24 ≤ h → (k : ℕ) → 1 ≤ k → k ≤ 24 →
+        getD r (k - 1) 0 ≡ getD places (k - 1) 0 + when test (rowAt blocks i k)
+    row-all t h r g e k a b = rw t (g .done (k - 1) (omega (arith, g .inside)))
+
+    pub row-none : test ≡ false → (k : ℕ) → 1 ≤ k → k ≤ 24 → getD places (k - 1) 0 ≡ getD places (k - 1) 0 + when test (rowAt blocks i k)
+    row-none t k a b = rw t (omega arith)
+
+-- TWINS
+module _ (blocks : List ℕ) (i chosen : ℕ) where
+  pub barred-none : aheadAt blocks i ≡ 0 → false ≡ isBarred blocks i chosen
+  unfolding isBarred
+  barred-none e = rw e
+
+  pub barred-some : (aheadAt blocks i ≡ 0 → ⊥) → eqb (chosen / 2 ^ (aheadAt blocks i - 1) % 2) 0 ≡ isBarred blocks i chosen
+  unfolding isBarred
+  barred-some e = rw (ne-eqb (aheadAt blocks i) 0 e)
+
+  pub due-none : behindAt blocks i ≡ 0 → false ≡ isDue blocks i chosen
+  unfolding isDue
+  due-none e = rw e
+
+  pub due-some : (behindAt blocks i ≡ 0 → ⊥) → eqb (chosen / 2 ^ (behindAt blocks i - 1) % 2) 1 ≡ isDue blocks i chosen
+  unfolding isDue
+  due-some e = rw (ne-eqb (behindAt blocks i) 0 e)

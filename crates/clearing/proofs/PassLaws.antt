@@ -16,6 +16,7 @@ use Rattle.rules.proofs.BoundLaws.{gain}
 use Rattle.rules.proofs.NeighbourLaws.{slack}
 use Rattle.rules.proofs.LossLaws.{losses, gaps, wholeOf, lossOf, losses-none, losses-empty, bound-with}
 use Rattle.rules.proofs.LossSearchLaws as by-loss
+use Rattle.rules.proofs.TwinLaws.{InTurn, outcome-in-turn}
 use Rattle.rules.proofs.PlaceLaws.{place, place-none}
 use Rattle.clearing.specs.Search.{Small, cell, ofHour, InRange, gainAt}
 use Rattle.clearing.specs.Meaning.{Sized, Fits, Shown, Known, Turning, Branch, lossAbove, bestAs, DayOf, Outcome, ExploredFrom, FoundIn}
@@ -89,18 +90,21 @@ module _ (low gap first last blocks : List ℕ) (count : ℕ) (few : count ≤ 3
     outcome-of : Outcome day p rest count count [] best r
     outcome-of = pass day p rest [] known turning (root-branch day p) (omega arith)
 
-    whole-pass : by-loss.Pass day (lossAbove day p rest) (bestAs count best) (bestAs count r)
+    whole-pass : by-loss.Pass day (InTurn day p) (lossAbove day p rest) (bestAs count best) (bestAs count r)
     whole-pass =
-        subst (λ n. by-loss.Explored day (lossAbove day p rest) n [] (bestAs count best) (bestAs count r)) (sym (known .counted)) (outcome-of .explored)
+        subst (λ n. by-loss.Explored day (InTurn day p) (lossAbove day p rest) n [] (bestAs count best) (bestAs count r)) (sym (known .counted)) (outcome-of .explored)
+
+    in-turn : InTurn day p (outcome day)
+    in-turn = outcome-in-turn day (known .prices) (known .hours) p
 
     pub pass-is : r .limit < best .limit → (decisions count (r .set) ≡ outcome day) × (r .set < 2 ^ count) × DayOf day (outcome day) (r .day)
     pass-is less =
         let o = outcome-of in
         let e : decisions count (r .set) ≡ outcome day =
-        by-loss.pass-outcome day (known .prices) (known .hours) (lossAbove day p rest) _ adds _ _ whole-pass less in
+        by-loss.pass-outcome day (InTurn day p) (known .prices) (known .hours) (lossAbove day p rest) _ adds _ _ whole-pass in-turn less in
         (e, o .found less .0, rw e at (o .found less .1))
 
     pub pass-found : 549755813888 ≤ best .limit → r .limit < best .limit
     pass-found k =
-        by-loss.pass-finds day (lossAbove day p rest) _ _ whole-pass
+        by-loss.pass-finds-any day (InTurn day p) (known .prices) (known .hours) (lossAbove day p rest) _ adds _ _ whole-pass in-turn
         (replicate (length (day .blocks)) false) (length-replicate _ _) (empty-lawful day (known .prices) (known .hours)) (omega (arith, empty-loss))

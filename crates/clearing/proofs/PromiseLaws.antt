@@ -125,7 +125,7 @@ module _ (b result : List ℕ) (a : Accepted b) (s : Says b result) where
       (blockRows-length b (blockChain b) (outcome (dayFrom b)) outcome-count) block-row)
 
   -- the blocks taken are those of the outcome
-  taken-is : takenIn b result ≡ outcome (dayFrom b)
+  pub taken-is : takenIn b result ≡ outcome (dayFrom b)
   unfolding takenIn
   taken-is = taken-read b result (blockChain b) (outcome (dayFrom b)) (block-records b a) outcome-count block-rows-read
 
@@ -236,7 +236,7 @@ row-place : (result : List ℕ) (k : ℕ) → rowIn result k ≡ u32At result (1
 unfolding rowIn
 row-place result k = refl
 
-result-says : (b : List ℕ) → Accepted b → Says b (resultBytes b)
+pub result-says : (b : List ℕ) → Accepted b → Says b (resultBytes b)
 unfolding published dayFrom
 result-says b a =
     record {

@@ -35,13 +35,15 @@ use Rattle.clearing.specs.Search.{
   PricesOf,
   sideAt,
   hoursAt,
-  quantityAt,
+  rowAt,
   limitAt,
   againstAt,
   gainAt,
   keepsAt,
-  mustAdd,
-  mayAdd,
+  isLeft,
+  isTaken,
+  mustMove,
+  mayMove,
   addedIn,
   RestOf,
   larger,
@@ -59,6 +61,8 @@ use Rattle.clearing.proofs.BranchLaws.{
   sumTo-add,
   daySum-plain,
   block-at,
+  sells-at,
+  buys-at,
   all-keep,
   price-at-table,
   places-grow,
@@ -107,80 +111,53 @@ nearest-least f n a b i x y falls rises =
     ])
     (λ z. falls i b x y (omega arith) (omega arith)))
 
+-- WHETHER ONE BLOCK MOVES its places on, in the code's form
+pub moves-are : (blocks : List ℕ) (loss limit i : ℕ) →
+    (((isLeft blocks loss limit i && eqb (sideAt blocks i) 0) || (isTaken blocks loss limit i && not (eqb (sideAt blocks i) 0))) ≡ mustMove blocks loss limit i)
+    × ((not (isLeft blocks loss limit i) && not (isTaken blocks loss limit i)) ≡ mayMove blocks loss limit i)
+unfolding mustMove mayMove
+moves-are blocks loss limit i = (refl, refl)
+
 -- WHAT ONE BLOCK ADDS to an hour: where it is taken, or left out, at a loss below the limit
-module _ (blocks : List ℕ) (loss limit i : ℕ) (runs : Bool) where
-  abbrev side : Side
-  side = sideFor (sideAt blocks i)
+module _ (blocks : List ℕ) (loss limit i row : ℕ) where
+  abbrev must-add : ℕ
+  must-add = when (mustMove blocks loss limit i) row
 
-  abbrev quantity : ℕ
-  quantity = quantityAt blocks i
+  abbrev may-add : ℕ
+  may-add = when (mayMove blocks loss limit i) row
 
-  pub adds-fit : (mustAdd blocks loss limit i ≤ quantity) × (mayAdd blocks loss limit i ≤ quantity)
-  unfolding mustAdd mayAdd
-  adds-fit = go side (leb limit (loss + againstAt blocks i)) (leb limit (loss + gainAt blocks i))
-    where
-      go : (s : Side) (t u : Bool) → (cond t (bySide s quantity 0) (cond u (bySide s 0 quantity) 0) ≤ quantity) × (cond t 0 (cond u 0 quantity) ≤ quantity)
-      go buy true u = (omega arith, omega arith)
-      go sell true u = (omega arith, omega arith)
-      go buy false true = (omega arith, omega arith)
-      go sell false true = (omega arith, omega arith)
-      go s false false = (omega arith, omega arith)
-
-  -- one law for each way through the tests
-  pub adds-if-left : limit ≤ loss + againstAt blocks i →
-      (bySide side quantity 0 ≡ mustAdd blocks loss limit i) × (_≡_ {A = ℕ} 0 (mayAdd blocks loss limit i))
-  unfolding mustAdd mayAdd
-  adds-if-left k = (rw (le-leb limit (loss + againstAt blocks i) k), rw (le-leb limit (loss + againstAt blocks i) k))
-
-  pub adds-if-taken : loss + againstAt blocks i < limit → limit ≤ loss + gainAt blocks i →
-      (bySide side 0 quantity ≡ mustAdd blocks loss limit i) × (_≡_ {A = ℕ} 0 (mayAdd blocks loss limit i))
-  unfolding mustAdd mayAdd
-  adds-if-taken k m =
-      let a = lt-leb limit (loss + againstAt blocks i) k in
-      let b = le-leb limit (loss + gainAt blocks i) m in
-      (rw (a, b), rw (a, b))
-
-  pub adds-if-free : loss + againstAt blocks i < limit → loss + gainAt blocks i < limit →
-      (_≡_ {A = ℕ} 0 (mustAdd blocks loss limit i)) × (quantity ≡ mayAdd blocks loss limit i)
-  unfolding mustAdd mayAdd
-  adds-if-free k m =
-      let a = lt-leb limit (loss + againstAt blocks i) k in
-      let b = lt-leb limit (loss + gainAt blocks i) m in
-      (rw (a, b), rw (a, b))
-
-  -- and what it comes to, where the block is decided
   pub taken-adds : loss + againstAt blocks i < limit →
-      (when runs (mustAdd blocks loss limit i) ≤ when runs (bySide side 0 quantity))
-      × (when runs (bySide side 0 quantity) ≤ when runs (mustAdd blocks loss limit i) + when runs (mayAdd blocks loss limit i))
-  unfolding mustAdd mayAdd
-  taken-adds k = rw (lt-leb limit (loss + againstAt blocks i) k) (go side (leb limit (loss + gainAt blocks i)))
+      (must-add ≤ when (not (eqb (sideAt blocks i) 0)) row) × (when (not (eqb (sideAt blocks i) 0)) row ≤ must-add + may-add)
+  unfolding mustMove mayMove
+  taken-adds k = rw (lt-leb limit (loss + againstAt blocks i) k) (go (eqb (sideAt blocks i) 0) (isTaken blocks loss limit i))
     where
-      go : (s : Side) (t : Bool) → (when runs (cond t (bySide s 0 quantity) 0) ≤ when runs (bySide s 0 quantity))
-          × (when runs (bySide s 0 quantity) ≤ when runs (cond t (bySide s 0 quantity) 0) + when runs (cond t 0 quantity))
-      go s true = (omega arith, omega arith)
-      go buy false = (omega arith, omega (arith, when-zero runs))
-      go sell false = (omega (arith, when-zero runs), omega arith)
+      go : (b t : Bool) → (when ((false && b) || (t && not b)) row ≤ when (not b) row)
+          × (when (not b) row ≤ when ((false && b) || (t && not b)) row + when (not false && not t) row)
+      go true true = (omega arith, omega arith)
+      go true false = (omega arith, omega arith)
+      go false true = (omega arith, omega arith)
+      go false false = (omega arith, omega arith)
 
   pub left-adds : loss + gainAt blocks i < limit →
-      (when runs (mustAdd blocks loss limit i) ≤ when runs (bySide side quantity 0))
-      × (when runs (bySide side quantity 0) ≤ when runs (mustAdd blocks loss limit i) + when runs (mayAdd blocks loss limit i))
-  unfolding mustAdd mayAdd
-  left-adds k = rw (lt-leb limit (loss + gainAt blocks i) k) (go side (leb limit (loss + againstAt blocks i)))
+      (must-add ≤ when (eqb (sideAt blocks i) 0) row) × (when (eqb (sideAt blocks i) 0) row ≤ must-add + may-add)
+  unfolding mustMove mayMove
+  left-adds k = rw (lt-leb limit (loss + gainAt blocks i) k) (go (eqb (sideAt blocks i) 0) (isLeft blocks loss limit i))
     where
-      go : (s : Side) (t : Bool) → (when runs (cond t (bySide s quantity 0) 0) ≤ when runs (bySide s quantity 0))
-          × (when runs (bySide s quantity 0) ≤ when runs (cond t (bySide s quantity 0) 0) + when runs (cond t 0 quantity))
-      go s true = (omega arith, omega arith)
-      go buy false = (omega (arith, when-zero runs), omega arith)
-      go sell false = (omega arith, omega (arith, when-zero runs))
+      go : (b l : Bool) → (when ((l && b) || (false && not b)) row ≤ when b row)
+          × (when b row ≤ when ((l && b) || (false && not b)) row + when (not l && not false) row)
+      go true true = (omega arith, omega arith)
+      go true false = (omega arith, omega arith)
+      go false true = (omega arith, omega arith)
+      go false false = (omega arith, omega arith)
 
 -- THE PLACE OF THE REST at a loss below the limit
 module _ (day : Day) (p rest : ℕ → ℕ) (low gap first last blocks : List ℕ) (count : ℕ) (known : Known day p rest low gap first last blocks count)
-    (loss limit h : ℕ) where
+    (loss limit h : ℕ) (hour-first : 1 ≤ h) (hour-last : h ≤ 24) where
   abbrev must : ℕ → ℕ → ℕ
-  must = addedIn blocks (mustAdd blocks loss limit) h
+  must = addedIn blocks (mustMove blocks loss limit) h
 
   abbrev may : ℕ → ℕ → ℕ
-  may = addedIn blocks (mayAdd blocks loss limit) h
+  may = addedIn blocks (mayMove blocks loss limit) h
 
   pub rest-within : (n i : ℕ) (t : List Bool) → i + n ≡ count → length t ≡ n → loss + losses (day .hours) p (drop i (day .blocks)) t < limit →
       (must n i ≤ place (drop i (day .blocks)) t h) × (place (drop i (day .blocks)) t h ≤ must n i + may n i)
@@ -191,18 +168,16 @@ module _ (day : Day) (p rest : ℕ → ℕ) (low gap first last blocks : List �
   rest-within (suc n) i (true ∷ t) e l k =
       let s = known .shown i (omega arith) in
       let k′ : loss + (against (day .hours) p (s .block) + losses (day .hours) p (drop (suc i) (day .blocks)) t) < limit = rw (s .next) at k in
-      let one = taken-adds blocks loss limit i (holdsHour (hoursAt blocks i) h) (omega (arith, s .againstIs)) in
+      let one = taken-adds blocks loss limit i (rowAt blocks i h) (omega (arith, s .againstIs)) in
       let more = rest-within n (suc i) t (omega arith) (suc-inj l) (omega arith) in
-      let adds : sells h (s .block) ≡ when (holdsHour (hoursAt blocks i) h) (bySide (sideFor (sideAt blocks i)) 0 (quantityAt blocks i)) =
-      rw (s .runsIs h, s .sideIs, s .quantityIs) in
+      let adds = sells-at day p blocks i s h hour-first hour-last in
       rw (s .next) (omega arith, omega arith)
   rest-within (suc n) i (false ∷ t) e l k =
       let s = known .shown i (omega arith) in
       let k′ : loss + (gain (day .hours) p (s .block) + losses (day .hours) p (drop (suc i) (day .blocks)) t) < limit = rw (s .next) at k in
-      let one = left-adds blocks loss limit i (holdsHour (hoursAt blocks i) h) (omega (arith, s .gainIs)) in
+      let one = left-adds blocks loss limit i (rowAt blocks i h) (omega (arith, s .gainIs)) in
       let more = rest-within n (suc i) t (omega arith) (suc-inj l) (omega arith) in
-      let adds : buys h (s .block) ≡ when (holdsHour (hoursAt blocks i) h) (bySide (sideFor (sideAt blocks i)) (quantityAt blocks i) 0) =
-      rw (s .runsIs h, s .sideIs, s .quantityIs) in
+      let adds = buys-at day p blocks i s h hour-first hour-last in
       rw (s .next) (omega arith, omega arith)
 
 -- LIMITS AT THE BEST PRICES WITHIN REACH, by the columns
@@ -283,7 +258,7 @@ module _ (low gap first last turn blocks : List ℕ) (count left : ℕ) (node : 
           let here : count - left ≡ length d = omega arith in
           let after : count - length d ≡ left = omega arith in
           let range = lawful-place low gap first last blocks count day p rest known (d ++ t) whole law h a b in
-          let within = rest-within day p rest low gap first last blocks count known (node .loss) limit h left (length d) t size l (rest-loses k) in
+          let within = rest-within day p rest low gap first last blocks count known (node .loss) limit h a b left (length d) t size l (rest-loses k) in
           let must = rw (here, after) at (added .leastIs h a b) in
           let may = rw (here, after) at (added .freeIs h a b) in
           let split = place-split (day .blocks) d t h in
@@ -392,16 +367,16 @@ module _ (first last least free : List ℕ) (balances : Bool) (from to : List �
 
 -- THE LOOPS: the undecided blocks from the last on
 module _ (blocks : List ℕ) (count at loss limit : ℕ) (places : List ℕ) where
-  abbrev added : (ℕ → ℕ) → ℕ → ℕ → ℕ
-  added add h i = addedIn blocks add h (count - i) i
+  abbrev added : (ℕ → Bool) → ℕ → ℕ → ℕ
+  added moves h i = addedIn blocks moves h (count - i) i
 
   pub record RestTo (i : ℕ) (least free : List ℕ) : Type 0 where
     pub from : at ≤ i
     pub to : i ≤ count
     pub leastSize : length least ≡ 24
     pub freeSize : length free ≡ 24
-    pub leastIs : (h : ℕ) → 1 ≤ h → h ≤ 24 → ofHour least h ≡ ofHour places h + added (mustAdd blocks loss limit) h i
-    pub freeIs : (h : ℕ) → 1 ≤ h → h ≤ 24 → ofHour free h ≡ added (mayAdd blocks loss limit) h i
+    pub leastIs : (h : ℕ) → 1 ≤ h → h ≤ 24 → ofHour least h ≡ ofHour places h + added (mustMove blocks loss limit) h i
+    pub freeIs : (h : ℕ) → 1 ≤ h → h ≤ 24 → ofHour free h ≡ added (mayMove blocks loss limit) h i
     pub leastFits : Small ((at + (count - i)) * 50000) least
     pub freeFits : Small ((count - i) * 50000) free
 
@@ -422,21 +397,20 @@ module _ (blocks : List ℕ) (count at loss limit : ℕ) (places : List ℕ) whe
       }
 
   -- one block more
-  one-more : (add : ℕ → ℕ) (h i : ℕ) → 0 < i → i ≤ count →
-      added add h (i - 1) ≡ when (holdsHour (hoursAt blocks (i - 1)) h) (add (i - 1)) + added add h i
+  one-more : (moves : ℕ → Bool) (h i : ℕ) → 0 < i → i ≤ count →
+      added moves h (i - 1) ≡ when (moves (i - 1)) (rowAt blocks (i - 1) h) + added moves h i
   unfolding addedIn
-  one-more add h i pos le =
+  one-more moves h i pos le =
       let e : count - (i - 1) ≡ suc (count - i) = omega arith in
       let f : suc (i - 1) ≡ i = omega arith in
       rw (e, f)
 
-  pub rest-next : (i : ℕ) (least free more freer : List ℕ) → RestTo i least free → at < i → quantityAt blocks (i - 1) ≤ 50000 →
+  pub rest-next : (i : ℕ) (least free more freer : List ℕ) → RestTo i least free → at < i → ((h : ℕ) → rowAt blocks (i - 1) h ≤ 50000) →
       length more ≡ 24 → length freer ≡ 24 →
-      ((h : ℕ) → 1 ≤ h → h ≤ 24 → ofHour more h ≡ ofHour least h + when (holdsHour (hoursAt blocks (i - 1)) h) (mustAdd blocks loss limit (i - 1))) →
-      ((h : ℕ) → 1 ≤ h → h ≤ 24 → ofHour freer h ≡ ofHour free h + when (holdsHour (hoursAt blocks (i - 1)) h) (mayAdd blocks loss limit (i - 1))) →
+      ((h : ℕ) → 1 ≤ h → h ≤ 24 → ofHour more h ≡ ofHour least h + when (mustMove blocks loss limit (i - 1)) (rowAt blocks (i - 1) h)) →
+      ((h : ℕ) → 1 ≤ h → h ≤ 24 → ofHour freer h ≡ ofHour free h + when (mayMove blocks loss limit (i - 1)) (rowAt blocks (i - 1) h)) →
       RestTo (i - 1) more freer
   rest-next i least free more freer r pos few sm sf m f =
-      let a = adds-fit blocks loss limit (i - 1) true in
       let n₁ : at + (count - (i - 1)) ≡ at + (count - i) + 1 = omega (arith, r .to) in
       let n₂ : count - (i - 1) ≡ count - i + 1 = omega (arith, r .to) in
       record {
@@ -445,12 +419,12 @@ module _ (blocks : List ℕ) (count at loss limit : ℕ) (places : List ℕ) whe
         leastSize = sm;
         freeSize = sf;
         leastIs = λ h x y.
-            omega (arith, m h x y, r .leastIs h x y, one-more (mustAdd blocks loss limit) h i (omega arith) (r .to));
-        freeIs = λ h x y. omega (arith, f h x y, r .freeIs h x y, one-more (mayAdd blocks loss limit) h i (omega arith) (r .to));
+            omega (arith, m h x y, r .leastIs h x y, one-more (mustMove blocks loss limit) h i (omega arith) (r .to));
+        freeIs = λ h x y. omega (arith, f h x y, r .freeIs h x y, one-more (mayMove blocks loss limit) h i (omega arith) (r .to));
         leastFits = rw n₁ (places-grow (at + (count - i)) least more sm (r .leastFits) (λ h x y.
-            omega (arith, m h x y, when-le (holdsHour (hoursAt blocks (i - 1)) h) (mustAdd blocks loss limit (i - 1)))));
+            omega (arith, m h x y, when-le (mustMove blocks loss limit (i - 1)) (rowAt blocks (i - 1) h), few h)));
         freeFits = rw n₂ (places-grow (count - i) free freer sf (r .freeFits) (λ h x y.
-            omega (arith, f h x y, when-le (holdsHour (hoursAt blocks (i - 1)) h) (mayAdd blocks loss limit (i - 1)))));
+            omega (arith, f h x y, when-le (mayMove blocks loss limit (i - 1)) (rowAt blocks (i - 1) h), few h)));
       }
 
   pub rest-all : (i : ℕ) (least free : List ℕ) → RestTo i least free → i ≤ at → count ≤ 32 → RestOf blocks count at loss limit places least free

@@ -1,2 +1,2 @@
--- The calls for other languages: answers as numbers. Definitions only.
+-- The calls for other languages: answers as numbers and bytes. Definitions only.
 pub mod Parts

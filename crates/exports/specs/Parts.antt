@@ -1,7 +1,10 @@
--- A PRICING ANSWER AS NUMBERS, for callers that take numbers only. Definitions only. Assumes nothing.
+-- ANSWERS AS NUMBERS AND BYTES, for callers that take nothing else. Definitions only. Assumes nothing.
 use Prim.Native.Nat.{ℕ}
 use mathlib.Core.Bool.{cond}
-use lib.Dec.{eqb}
+use mathlib.Core.List.{List}
+use lib.Dec.{eqb, leb}
+use lib.ListN.{length}
+use Rattle.clearing.specs.Rows.{splice}
 use Rattle.pricing.specs.declared.HourAnswer.{HourAnswer}
 use Rattle.pricing.specs.declared.HourAnswer.the-variants.{Cleared, NotClearing, Refused}
 
@@ -10,3 +13,7 @@ unfoldable pub answerPart : HourAnswer → ℕ → ℕ
 answerPart (Cleared low high price) part = cond (eqb part 1) low (cond (eqb part 2) high (cond (eqb part 3) price 0))
 answerPart NotClearing part = cond (eqb part 0) 9 0
 answerPart (Refused number) part = cond (eqb part 0) number 0
+
+-- A buffer after bytes were put at its start: with them where they have room, else as it was.
+unfoldable pub bufferAfter : List ℕ → List ℕ → List ℕ
+bufferAfter bytes buffer = cond (leb (length bytes) (length buffer)) (splice buffer 0 bytes) buffer

@@ -1,15 +1,20 @@
 // The public calls for programs in other languages: numbers and byte slices only. Assumes nothing.
 ghost use mathlib.Core.Path.{_≡_};
+ghost use Prim.Native.Nat.{_≤_};
+ghost use lib.ListN.{length};
 ghost use Rattle.book.specs.Refusals.{refusal};
-ghost use Rattle.pricing.specs.Answers.{hourAnswer};
-ghost use Rattle.exports.specs.Parts.{answerPart};
-use book::Reading;
 ghost use Rattle.clearing.specs.Promise.{clearRefusal, resultAfter};
+ghost use Rattle.clearing.specs.Rows.{splice};
+ghost use Rattle.pricing.specs.Answers.{hourAnswer};
+ghost use Rattle.sheet.specs.Sheet.{sheetOf};
+ghost use Rattle.exports.specs.Parts.{answerPart, bufferAfter};
+use book::Reading;
 use book::read;
 use clearing::Clearing;
 use clearing::clear;
 use pricing::HourAnswer;
 use pricing::price;
+use sheet::sheet;
 
 // The book's refusal, 0 for an accepted book.
 #[no_mangle]
@@ -60,4 +65,31 @@ pub extern "C" fn auction_clear(book: &[u8], result: &mut [u8]) -> u32
         Clearing::Refused(number) => number as u32,
         Clearing::Published => 0,
     }
+}
+
+// Copies the bytes to the start of a buffer.
+fn copy(bytes: &[u8], out: &mut [u8])
+    requires { ⌜ length (now bytes) ≤ length (now out) ⌝ }
+    ensures { λ _. ⌜ now (out .exit) ≡ splice (now (out .entry)) 0 (now (bytes .entry)) ⌝ }
+{
+    let mut i: usize = 0;
+    while i < bytes.len() {
+        out[i] = bytes[i];
+        i += 1;
+    }
+}
+
+// The length of what is written of a book, at most 781. The bytes are put at the start of `out` where they have room; else it stays as it was.
+#[no_mangle]
+pub extern "C" fn auction_sheet(book: &[u8], out: &mut [u8]) -> u32
+    ensures answer { λ r. ⌜ r ≡ length (sheetOf (now (book .entry))) ⌝ }
+    ensures bytes { λ _. ⌜ now (out .exit) ≡ bufferAfter (sheetOf (now (book .entry))) (now (out .entry)) ⌝ }
+{
+    let mut bytes = [0u8; 781];
+    let count = sheet(book, &mut bytes);
+    if out.len() < count {
+        return count as u32;
+    }
+    copy(&bytes[..count], out);
+    count as u32
 }

@@ -1,6 +1,6 @@
 -- HOW LARGE THE NUMBERS OF A DAY GET, for the code's number widths: of a day of at most 2,047 steps of at most 99,999 each and 32 blocks of at most
 -- 250 each, at prices up to 300000 and with no hour counted more than twice, value, cost and welfare are below 2 ^ 47, traded quantities below
--- 2 ^ 32, executed quantities at most 99,999; a price is at most 300000. Assumes nothing.
+-- 10 ^ 9, executed quantities at most 99,999; a price is at most 300000. Assumes nothing.
 use Prim.Native.Nat.{ℕ, zero, suc, _*_, _^_, _≤_, _<_}
 use mathlib.Core.Bool.{Bool, true, false}
 use mathlib.Core.List.{List, [], _∷_}
@@ -243,7 +243,7 @@ module _ (day : Day) (small : SmallDay day) (set : List Bool) where
   unfolding welfare
   welfare-small = omega (arith, dayValue-small (executed day T) (executed-own day T))
 
-  pub traded-small : (h : ℕ) → traded day (taken (day .blocks) set) h < 2 ^ 32
+  pub traded-small : (h : ℕ) → traded day (taken (day .blocks) set) h < 10 ^ 9
   unfolding traded
   traded-small h =
       omega (

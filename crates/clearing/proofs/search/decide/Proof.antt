@@ -3,6 +3,7 @@ use mathlib.Core.Path.{_≡_, sym, _∙_}
 use lib.ListN.{length}
 use native.Mathlib.Omega.{arith}
 use borrow.Author.Tests.{not-true, not-false}
+use Rattle.clearing.specs.Search.{firstOf, lastOf}
 use Rattle.clearing.proofs.LeafLaws.{places-small}
 use Rattle.clearing.proofs.BranchLaws.{decided-unclear, decided-worse, decided-broken, decided-better}
 use borrow.Author.Needs.{needs}
@@ -10,59 +11,78 @@ use Rattle.clearing.proofs.search.decide.Statement.{statement}
 use Rattle.clearing.proofs.search.decide.Tie as tie
 
 -- an array of 24
-size : (s : tie.Start) → length (s .args .places) ≡ 24
+size : (s : tie.Start) → length (s .args .node .places) ≡ 24
 size s = search needs
+
+sub-gaps-at : tie.Need-sub-gaps-at
+sub-gaps-at c = search needs
+
+part-gaps-at-start : tie.Need-part-gaps-at-start
+part-gaps-at-start c = search needs
+
+part-gaps-at-end : tie.Need-part-gaps-at-end
+part-gaps-at-end c = search needs
+
+sub-gaps-at-2 : tie.Need-sub-gaps-at-2
+sub-gaps-at-2 c = search needs
+
+part-gaps-at-start-2 : tie.Need-part-gaps-at-start-2
+part-gaps-at-start-2 c = search needs
+
+part-gaps-at-end-2 : tie.Need-part-gaps-at-end-2
+part-gaps-at-end-2 c = search needs
 
 gaps-at-requires : tie.Need-gaps-at-requires
 gaps-at-requires c κs =
-    let s = c .before .before .before .before .before .pre .0 in
+    let s = c .before .before .before .before .before .before .before .pre .0 in
     (s .gapRows, s .firstHours, s .lastHours, s .lastFits)
 
 returns : tie.Need-returns
-returns c =
-    let g = c .before .before .gaps-at .ensures in
-    decided-unclear _ _ _ _ _ _ _ _ _ _ _ _ g (not-true _ (c .if1 .taken))
+returns c = decided-unclear _ _ _ _ _ _ _ _ _ _ _ _ (c .before .before .gaps-at .ensures) (not-true _ (c .if1 .taken))
 
 add-total : tie.Need-add-total
-add-total c =
-    let s = c .before .before .before .before .before .before .before .before .before .pre in
-    omega (arith, c .before .before .before .gaps-at .ensures .fits, s .2)
+add-total c = omega (arith, c .before .before .before .before .gaps-at .ensures .fits, c .before .before .before .before .before .before .before .before .before .before .before .before .pre .3)
 
 returns-2 : tie.Need-returns-2
 returns-2 c =
-    let t = c .before .before .before in
-    decided-worse _ _ _ _ _ _ _ _ _ _ _ _ (t .before .before .gaps-at .ensures) (not-false _ (t .if1 .left)) (c .if2 .taken)
+    decided-worse _ _ _ _ _ _ _ _ _ _ _ _ (c .before .before .before .before .before .before .gaps-at .ensures) (not-false _ (c .before .before .before .before .if1 .left)) (c .if2 .taken)
 
 prices-at-requires : tie.Need-prices-at-requires
 prices-at-requires c κs =
-    let t = c .before .before .before in
-    let a = t .before .before .before .before .before .before .before .before in
-    let g = t .before .before .gaps-at .ensures in
-    (a .pre .0 .lowRows, a .pre .0 .lowFits, places-small (a .args .first .now) (a .args .last .now) (a .args .places) (g .inRange (not-false _ (t .if1 .left))) (a .pre .0 .lastFits) (size a))
+    let a = c .before .before .before .before .before .before .before .before .before .before .before .before .before .before in
+    let g = c .before .before .before .before .before .before .gaps-at .ensures in (
+      a .pre .0 .lowRows,
+      a .pre .0 .lowFits,
+      places-small (firstOf (a .args .hours .now)) (lastOf (a .args .hours .now)) (a .args .node .places)
+          (g .inRange (not-false _ (c .before .before .before .before .if1 .left))) (a .pre .0 .lastFits) (size a),
+    )
 
 keeps-limits-requires : tie.Need-keeps-limits-requires
 keeps-limits-requires c κs =
-    let a = c .before .before .before .before .before .before .before .before .before .before .before .before in
-    (a .pre .0 .blocksFit .columns, a .pre .1, c .prices-at .ensures .small, c .prices-at .ensures .small)
+    let a = c .before .before .before .before .before .before .before .before .before .before .before .before .before .before .before in
+    (a .pre .0 .blocksFit .columns, a .pre .2, c .prices-at .ensures .small, c .prices-at .ensures .small)
 
 returns-3 : tie.Need-returns-3
 returns-3 c =
-    let k = c .before in
-    let t = k .before .before .before .before .before in
-    decided-broken _ _ _ _ _ _ _ _ _ _ _ _ (t .before .before .gaps-at .ensures) (not-false _ (t .if1 .left)) _ (k .before .prices-at .ensures)
-    (sym (k .keeps-limits .ensures) ∙ not-true _ (c .if3 .taken))
+    decided-broken _ _ _ _ _ _ _ _ _ _ _ _ (c .before .before .before .before .before .before .before .before .before .gaps-at .ensures) (not-false _ (c .before .before .before .before .before .before .before .if1 .left)) _
+    (c .before .before .prices-at .ensures) (sym (c .before .keeps-limits .ensures) ∙ not-true _ (c .if3 .taken))
 
 returns-4 : tie.Need-returns-4
 returns-4 c =
-    let k = c .before in
-    let t = k .before .before .before .before .before in
-    decided-better _ _ _ _ _ _ _ _ _ _ _ _ (t .before .before .gaps-at .ensures) (not-false _ (t .if1 .left)) _ (k .before .prices-at .ensures)
-    (sym (k .keeps-limits .ensures) ∙ not-false _ (c .if3 .left)) (k .before .before .if2 .left)
+    decided-better _ _ _ _ _ _ _ _ _ _ _ _ (c .before .before .before .before .before .before .before .before .before .gaps-at .ensures) (not-false _ (c .before .before .before .before .before .before .before .if1 .left)) _
+    (c .before .before .prices-at .ensures) (sym (c .before .keeps-limits .ensures) ∙ not-false _ (c .if3 .left))
+    (c .before .before .before .if2 .left)
 
 pub decide-spec : {M : Type 1} → statement M
 decide-spec =
     tie.close
     (tie.spec
+    sub-gaps-at
+    part-gaps-at-start
+    part-gaps-at-end
+    sub-gaps-at-2
+    part-gaps-at-start-2
+    part-gaps-at-end-2
     gaps-at-requires
     returns
     add-total

@@ -8,26 +8,26 @@ use Rattle.clearing.proofs.search.find.Statement.{statement}
 use Rattle.clearing.proofs.search.find.Tie as tie
 
 abbrev Inv-loop : tie.InvT-loop
-Inv-loop low gap first last turn blocks count day root limit₀ limit = (1 ≤ limit) × (limit ≤ 1099511627776)
+Inv-loop low gap hours blocks count day root limit₀ limit = (1 ≤ limit) × (limit ≤ 1099511627776)
 
 abbrev μ-loop : tie.MeasureT-loop
-μ-loop low gap first last turn blocks count day root limit₀ limit = 1099511627776 - limit
+μ-loop low gap hours blocks count day root limit₀ limit = 1099511627776 - limit
 
 loop-holds : tie.Need-loop-holds Inv-loop μ-loop
 loop-holds c = (omega arith, omega arith)
 
 explore-requires : tie.Need-explore-requires Inv-loop μ-loop
 explore-requires c κs =
-    let a = c .before .before .before .before .before .before .before .before in
+    let a = c .before .before .before .before .before .before in
     let z : a .args .count - a .args .count ≡ 0 = omega arith in
     (a .pre .0, a .pre .1, a .pre .2, omega arith, rw z root-fits)
 
 returns : tie.Need-returns Inv-loop μ-loop
 returns c =
-    let a = c .before .before .before .before .before .before .before .before .before .before .before in
+    let a = c .before .before .before .before .before .before .before .before .before in
     λ day p rest known turning.
-    pass-is _ _ _ _ _ _ (a .pre .2) (λ i. omega (arith, c .before .before .before .before .before .shared-slice-known6 .given i))
-    (λ i. omega (arith, c .before .before .before .before .before .before .before .before .before .shared-slice-known2 .given i)) day p rest known _ turning _ _ (c .before .before .explore .ensures) (c .if1 .taken)
+    pass-is _ _ _ _ _ _ (a .pre .2) (λ i. omega (arith, c .before .before .before .before .before .shared-slice-known4 .given i))
+    (λ i. omega (arith, c .before .before .before .before .before .before .before .shared-slice-known2 .given i)) day p rest known _ turning _ _ (c .before .before .explore .ensures) (c .if1 .taken)
 
 mul-limit : tie.Need-mul-limit Inv-loop μ-loop
 mul-limit c = search needs
@@ -40,18 +40,18 @@ loop-again c = (omega (arith, c .before .before .before .before .loop .inv), ome
 
 explore-requires-2 : tie.Need-explore-requires-2 Inv-loop μ-loop
 explore-requires-2 c κs =
-    let a = c .before .before .before .before .before .before .before .before in
+    let a = c .before .before .before .before .before .before in
     let z : a .args .count - a .args .count ≡ 0 = omega arith in
     (a .pre .0, a .pre .1, a .pre .2, omega arith, rw z root-fits)
 
 returns-2 : tie.Need-returns-2 Inv-loop μ-loop
 returns-2 c =
-    let a = c .before .before .before .before .before .before .before .before .before in
+    let a = c .before .before .before .before .before .before .before in
     λ day p rest known turning.
-    pass-is _ _ _ _ _ _ (a .pre .2) (λ i. omega (arith, c .before .before .before .shared-slice-known6 .given i))
-    (λ i. omega (arith, c .before .before .before .before .before .before .before .shared-slice-known2 .given i)) day p rest known _ turning _ _ (c .explore2 .ensures)
-    (pass-found _ _ _ _ _ _ (a .pre .2) (λ i. omega (arith, c .before .before .before .shared-slice-known6 .given i))
-    (λ i. omega (arith, c .before .before .before .before .before .before .before .shared-slice-known2 .given i)) day p rest known _ turning _ _ (c .explore2 .ensures) (c .before .loop-test .left))
+    pass-is _ _ _ _ _ _ (a .pre .2) (λ i. omega (arith, c .before .before .before .shared-slice-known4 .given i))
+    (λ i. omega (arith, c .before .before .before .before .before .shared-slice-known2 .given i)) day p rest known _ turning _ _ (c .explore2 .ensures)
+    (pass-found _ _ _ _ _ _ (a .pre .2) (λ i. omega (arith, c .before .before .before .shared-slice-known4 .given i))
+    (λ i. omega (arith, c .before .before .before .before .before .shared-slice-known2 .given i)) day p rest known _ turning _ _ (c .explore2 .ensures) (c .before .loop-test .left))
 
 pub find-spec : {M : Type 1} → statement M
 find-spec =

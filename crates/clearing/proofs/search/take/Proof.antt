@@ -1,100 +1,66 @@
+-- `clearing::search::take` meets its contract: the set, the loss and the places of the node with the block taken. Assumes nothing.
 use Prim.Native.Nat.{_+_}
-use Rattle.clearing.proofs.BranchLaws.{node-taken, set-room}
 use native.Mathlib.Omega.{arith}
+use Rattle.clearing.proofs.BranchLaws.{node-taken, set-room}
 use borrow.Author.Needs.{needs}
 use Rattle.clearing.proofs.search.take.Statement.{statement}
 use Rattle.clearing.proofs.search.take.Tie as tie
-use Rattle.clearing.proofs.search.take.Reads as reads
-use Rattle.clearing.proofs.search.take.Lts as lts
-use Rattle.clearing.proofs.search.bit.Reads as bit-reads
-use Rattle.clearing.proofs.search.moved.Reads as moved-reads
-use Rattle.clearing.proofs.search.pick.Reads as pick-reads
 
-add-moved : tie.Need-add-moved
-add-moved c = search needs
+mul-moved-where : tie.Need-mul-moved-where
+mul-moved-where c = search needs
 
-mul-moved : tie.Need-mul-moved
-mul-moved c = search needs
+shared-slice-read-moved-where : tie.Need-shared-slice-read-moved-where
+shared-slice-read-moved-where c = search needs
 
-shared-slice-read-moved : tie.Need-shared-slice-read-moved
-shared-slice-read-moved c = search needs
-
-add-moved-2 : tie.Need-add-moved-2
-add-moved-2 c = search needs
-
-mul-moved-2 : tie.Need-mul-moved-2
-mul-moved-2 c = search needs
-
-shared-slice-read-moved-2 : tie.Need-shared-slice-read-moved-2
-shared-slice-read-moved-2 c = search needs
-
-moved-requires : tie.Need-moved-requires
-moved-requires c κs =
-    let a = c .before .before .before .before in
-    (λ i. omega (arith, a .pre .1, a .pre .2 .placesFit i), a .pre .0 .quantitiesFit (a .args .at) (a .pre .1))
-
-mul-pick : tie.Need-mul-pick
-mul-pick c = search needs
-
-shared-slice-read-pick : tie.Need-shared-slice-read-pick
-shared-slice-read-pick c = search needs
-
-pick-requires : tie.Need-pick-requires
-pick-requires c κs = search needs
+moved-where-requires : tie.Need-moved-where-requires
+moved-where-requires c κs =
+    let a = c .before .before .before in
+    (a .pre .0, a .pre .1, λ i. omega (arith, a .pre .1, a .pre .2 .placesFit i))
 
 bit-requires : tie.Need-bit-requires
 bit-requires c κs = search needs
 
-add-t15 : tie.Need-add-t15
-add-t15 c =
-    let a = c .before .before .before .before .before .before .before .before .before in
+add-t11 : tie.Need-add-t11
+add-t11 c =
+    let a = c .before .before .before .before .before .before in
     record { fits = set-room (a .args .at) _ _ (a .pre .1) (a .pre .2 .setFits) (c .before .bit .ensures) }
 
-add-t13 : tie.Need-add-t13
-add-t13 c = search needs
+add-t7 : tie.Need-add-t7
+add-t7 c = search needs
 
-mul-t8 : tie.Need-mul-t8
-mul-t8 c = search needs
+mul-t12 : tie.Need-mul-t12
+mul-t12 c = search needs
 
-shared-slice-read-t19 : tie.Need-shared-slice-read-t19
-shared-slice-read-t19 c = search needs
+shared-slice-read-t14 : tie.Need-shared-slice-read-t14
+shared-slice-read-t14 c = search needs
 
-cast-t20 : tie.Need-cast-t20
-cast-t20 c = omega (arith, c .shared-slice-known5 .given (128 + c .before .before .before .before .before .before .before .before .before .before .args .at))
+cast-t15 : tie.Need-cast-t15
+cast-t15 c = omega (arith, c .shared-slice-known3 .given (128 + c .before .before .before .before .before .before .before .args .at))
 
-add-t21 : tie.Need-add-t21
-add-t21 c =
-    let a = c .before .before .before .before .before .before .before .before .before .before .before in
-    omega (arith, c .before .shared-slice-known5 .given (128 + a .args .at), a .pre .2 .lossFits, a .pre .1)
+add-t16 : tie.Need-add-t16
+add-t16 c =
+    let a = c .before .before .before .before .before .before .before .before in
+    omega (arith, c .before .shared-slice-known3 .given (128 + a .args .at), a .pre .2 .lossFits, a .pre .1)
 
 returns : tie.Need-returns
 returns c =
-    let b = c .before .before .before in
-    let k = b .before in
-    let m = k .before .before in
-    let a = m .before .before .before .before .before in
-    node-taken _ _ _ _ _ (a .pre .0) (a .pre .1) (a .pre .2) (m .moved .ensures .0) (a .pre .2 .placesSize) (m .moved .ensures .1) _ (b .bit .ensures)
-    (omega (arith, c .before .shared-slice-known5 .given (128 + a .args .at))) (k .pick .ensures)
+    let a = c .before .before .before .before .before .before .before .before in
+    let m = c .before .before .before .before .moved-where .ensures in
+    node-taken _ _ _ _ (a .pre .0) (a .pre .2) (m .0) _ (c .before .before .before .bit .ensures)
+    (omega (arith, c .before .shared-slice-known3 .given (128 + a .args .at))) (m .1)
 
 pub take-spec : {M : Type 1} → statement M
 take-spec =
     tie.close
     (tie.spec
-    add-moved
-    mul-moved
-    shared-slice-read-moved
-    add-moved-2
-    mul-moved-2
-    shared-slice-read-moved-2
-    moved-requires
-    mul-pick
-    shared-slice-read-pick
-    pick-requires
+    mul-moved-where
+    shared-slice-read-moved-where
+    moved-where-requires
     bit-requires
-    add-t15
-    add-t13
-    mul-t8
-    shared-slice-read-t19
-    cast-t20
-    add-t21
+    add-t11
+    add-t7
+    mul-t12
+    shared-slice-read-t14
+    cast-t15
+    add-t16
     returns)

@@ -1,13 +1,13 @@
--- `clearing::setup::root_prices` meets its contract: each round ends at prices again, and the places so far add up to at most 1,600 for each.
+-- `clearing::setup::moved_prices` meets its contract: each round ends at prices again, and the places so far add up to at most 1,600 for each.
 -- Assumes nothing.
 use Prim.Native.Nat.{_-_, _*_, _≤_}
 use native.Mathlib.Omega.{arith}
 use Rattle.clearing.specs.Search.{Small}
 use borrow.Author.Needs.{needs}
-use Rattle.clearing.proofs.setup.root_prices.Statement.{statement}
-use Rattle.clearing.proofs.setup.root_prices.Tie as tie
-use Rattle.clearing.proofs.setup.root_prices.Reads as reads
-use Rattle.clearing.proofs.setup.root_prices.Lts as lts
+use Rattle.clearing.proofs.setup.moved_prices.Statement.{statement}
+use Rattle.clearing.proofs.setup.moved_prices.Tie as tie
+use Rattle.clearing.proofs.setup.moved_prices.Reads as reads
+use Rattle.clearing.proofs.setup.moved_prices.Lts as lts
 use Rattle.clearing.proofs.search.prices_at.Reads as prices-at-reads
 use Rattle.clearing.proofs.setup.added.Reads as added-reads
 use Rattle.clearing.proofs.setup.averaged.Reads as averaged-reads
@@ -64,8 +64,8 @@ loop-again c =
 returns : tie.Need-returns Inv-loop μ-loop
 returns c = c .before .loop .inv .2
 
-pub root-prices-spec : {M : Type 1} → statement M
-root-prices-spec =
+pub moved-prices-spec : {M : Type 1} → statement M
+moved-prices-spec =
     tie.close
     (tie.spec
     Inv-loop

@@ -1,0 +1,28 @@
+-- S5'S SHEET FROM THE DEFINITIONS: what is published of S5's book is a line of the worked books' table; the text computes. Assumes nothing.
+use mathlib.Core.Path.{_≡_, refl}
+use mathlib.Core.Bool.{true}
+use mathlib.Core.List.{[], _∷_}
+use borrow.Author.Tests.{eq-eqb}
+use Rattle.book.specs.Bytes.{u16At, u24At}
+use Rattle.book.specs.Records.{blockAt}
+use Rattle.book.specs.Chains.{chainFrom}
+use Rattle.book.specs.Refusals.{refusal}
+use Rattle.rules.specs.Orders.{canonical}
+use Rattle.rules.specs.Day.{dayOf}
+use Rattle.rules.specs.WorkedDays.{block12, baseDay, workedDays}
+use Rattle.orders.specs.Bridge.{blockFrom, ordersOf, dayFrom}
+use Rattle.orders.specs.WorkedBooks.{chained, bookOf, workedBooks, Worked}
+use Rattle.orders.proofs.WorkedBookLaws.{worked-books-hold}
+use Rattle.sheet.specs.Text.{text, decimalIn, decimal, field}
+use Rattle.sheet.specs.Sheet.{hourLine, hourLines, ofHour, blockLine, blockLines, outcomeSheet, sheetOf}
+use Rattle.sheet.specs.WorkedSheet.{s5Book, s5Sheet}
+
+-- the fifth line of the table
+s5-worked : Worked s5Book (baseDay (block12 1 2900 ∷ []) 3000 100 (true ∷ []) (100 ∷ 50 ∷ 100 ∷ 50 ∷ []) 410000 [])
+unfolding workedBooks workedDays
+s5-worked = worked-books-hold .1 .1 .1 .1 .0
+
+pub s5-sheet : sheetOf s5Book ≡ s5Sheet
+unfolding sheetOf s5Sheet outcomeSheet hourLines hourLine ofHour blockLines blockLine field decimal decimalIn text dayFrom dayOf canonical ordersOf
+    blockFrom blockAt chainFrom u16At u24At bookOf chained
+s5-sheet = rw (eq-eqb (refusal s5Book) 0 (s5-worked .accepted), s5-worked .publishes) refl

@@ -1,0 +1,221 @@
+//! Books in families for the benchmark, each settled by its seed.
+
+use super::builder::{hour_bits, BlockOrder, Orders, StepOrder};
+use super::dice::Dice;
+use crate::paper::{self, Side};
+
+/// About the price of each hour of a full day.
+const LEVELS: [u32; 24] = [
+    4300, 3700, 3300, 3200, 3300, 3500, 4600, 5000, 5600, 6000, 5500, 5400, 4900, 4700, 4800, 4900,
+    5600, 5400, 6000, 6400, 5800, 5600, 5200, 4000,
+];
+
+/// A family: its name and the book of a seed.
+pub type Family = (&'static str, fn(u64) -> Vec<u8>);
+
+/// The families of the benchmark.
+pub const FAMILIES: [Family; 7] = [
+    ("full days", |seed| full_day(seed, 2015, 32)),
+    ("full days, odd hours", odd_day),
+    ("identical blocks", identical_blocks),
+    ("thin days", thin_day),
+    ("blocks only", blocks_only),
+    ("ties", ties),
+    ("cliffs", cliffs),
+];
+
+/// A day with deep curves in every hour and ordinary blocks, most of which have
+/// prices within 2 % of what their hours pay.
+pub fn full_day(seed: u64, steps: usize, blocks: usize) -> Vec<u8> {
+    let mut dice = Dice::new(seed);
+    let mut orders = deep_steps(&mut dice, steps);
+    add_ordinary_blocks(&mut orders, &mut dice, blocks, usual_hours, 20);
+    orders.book()
+}
+
+fn odd_day(seed: u64) -> Vec<u8> {
+    let mut dice = Dice::new(seed);
+    let mut orders = deep_steps(&mut dice, 2015);
+    add_ordinary_blocks(&mut orders, &mut dice, 32, odd_hours, 20);
+    orders.book()
+}
+
+/// Six groups of blocks that are alike, at a few prices.
+fn identical_blocks(seed: u64) -> Vec<u8> {
+    let mut dice = Dice::new(seed);
+    let mut orders = deep_steps(&mut dice, 2015);
+    let prices = empty_prices(&orders);
+    for group in 0..6 {
+        let (side, hours) = (dice.pick(&[Side::Buy, Side::Sell]), usual_hours(&mut dice));
+        let price = near_average(&prices, hours, 5, &mut dice);
+        for _ in 0..5 {
+            push_block(&mut orders, side, hours, price, 20 + 5 * group);
+        }
+    }
+    orders.book()
+}
+
+/// Four steps an hour, so that a block moves the price far.
+fn thin_day(seed: u64) -> Vec<u8> {
+    let mut dice = Dice::new(seed);
+    let mut orders = Orders::new();
+    for (hour, level) in (1..).zip(LEVELS) {
+        for side in [Side::Sell, Side::Buy, Side::Sell, Side::Buy] {
+            let price = dice.between(level * 6 / 10, level * 14 / 10);
+            push_step(&mut orders, side, hour, price, dice.between(20, 400));
+        }
+    }
+    add_ordinary_blocks(&mut orders, &mut dice, 32, usual_hours, 300);
+    orders.book()
+}
+
+/// No steps: blocks balance among themselves, or nothing is traded.
+fn blocks_only(seed: u64) -> Vec<u8> {
+    let mut dice = Dice::new(seed);
+    let mut orders = Orders::new();
+    let halves = [hour_bits(&[1, 2, 3, 4]), hour_bits(&[5, 6, 7, 8])];
+    let hours = [halves[0], halves[1], halves[0] | halves[1]];
+    for _ in 0..32 {
+        let side = dice.pick(&[Side::Buy, Side::Sell]);
+        let price = match side {
+            Side::Buy => dice.between(150_000, 250_000),
+            Side::Sell => dice.between(50_000, 160_000),
+        };
+        push_block(&mut orders, side, dice.pick(&hours), price, 10 * dice.between(1, 5));
+    }
+    orders.book()
+}
+
+/// The same curves in every hour, and blocks that all have the same price.
+fn ties(seed: u64) -> Vec<u8> {
+    let mut dice = Dice::new(seed);
+    let mut orders = Orders::new();
+    for hour in 1..=24 {
+        for price in 4980..5020 {
+            let side = if price % 2 == 0 { Side::Sell } else { Side::Buy };
+            push_step(&mut orders, side, hour, price, 40);
+        }
+    }
+    for _ in 0..18 {
+        let side = dice.pick(&[Side::Buy, Side::Sell]);
+        let hours = standard_hours(&mut dice);
+        push_block(&mut orders, side, hours, 5000, dice.between(10, 50));
+    }
+    orders.book()
+}
+
+/// Sell blocks that all gain until an hour's price falls far below their limit.
+fn cliffs(seed: u64) -> Vec<u8> {
+    let mut dice = Dice::new(seed);
+    let mut orders = Orders::new();
+    let mut offered = [0; 24];
+    for _ in 0..18 {
+        let hours = run_of_hours(&mut dice, 3, 12);
+        let quantity = dice.between(10, 50);
+        for (h, offered) in offered.iter_mut().enumerate() {
+            *offered += ((hours >> h) & 1) * quantity;
+        }
+        push_block(&mut orders, Side::Sell, hours, 4000, quantity);
+    }
+    for (hour, offered) in (1..).zip(offered) {
+        push_step(&mut orders, Side::Buy, hour, 5000, 1 + offered / 2);
+        push_step(&mut orders, Side::Buy, hour, 4010, 40);
+        push_step(&mut orders, Side::Buy, hour, 100, 2000);
+    }
+    orders.book()
+}
+
+/// Steps of both sides around the level of each hour, and some at any price.
+fn deep_steps(dice: &mut Dice, count: usize) -> Orders {
+    let mut orders = Orders::new();
+    for index in 0..count {
+        let hour = index % 24;
+        let level = LEVELS[hour];
+        let side = if index / 24 % 2 == 0 { Side::Sell } else { Side::Buy };
+        let at_any_price = index / 24 < 2 || (index / 24) % 16 < 2;
+        let quantity = if at_any_price { 4 * dice.between(30, 250) } else { dice.between(20, 250) };
+        let price = match (at_any_price, side) {
+            (true, Side::Buy) => 300_000,
+            (true, Side::Sell) => 1,
+            _ => {
+                (dice.between(level / 3, level * 5 / 3) + dice.between(level / 3, level * 5 / 3))
+                    / 2
+            }
+        };
+        push_step(&mut orders, side, hour as u32 + 1, price, quantity);
+    }
+    orders
+}
+
+fn push_step(orders: &mut Orders, side: Side, hour: u32, price: u32, quantity: u32) {
+    let number = orders.steps.len() as u32 + 1;
+    let portfolio = 1 + number % 60;
+    orders.steps.push(StepOrder { number, side, hour, price, quantity, portfolio });
+}
+
+fn push_block(orders: &mut Orders, side: Side, hours: u32, price: u32, quantity: u32) {
+    let number = orders.blocks.len() as u32 + 1;
+    let portfolio = 100 + (number - 1) / 5;
+    orders.blocks.push(BlockOrder { number, side, hours, price, quantity, portfolio });
+}
+
+/// Blocks of either side with prices near what their hours pay without blocks, within
+/// so many thousandths.
+fn add_ordinary_blocks(
+    orders: &mut Orders,
+    dice: &mut Dice,
+    count: usize,
+    hours_of: fn(&mut Dice) -> u32,
+    thousandths: u32,
+) {
+    let prices = empty_prices(orders);
+    for _ in 0..count {
+        let side = dice.pick(&[Side::Buy, Side::Sell]);
+        let hours = hours_of(dice);
+        let price = near_average(&prices, hours, thousandths, dice);
+        push_block(orders, side, hours, price, dice.between(10, 50));
+    }
+}
+
+/// The prices of the steps alone.
+fn empty_prices(orders: &Orders) -> [u32; 24] {
+    let book = paper::read(&orders.book()).expect("the steps are right");
+    paper::outcome(&book, 0).expect("the empty set is lawful").prices
+}
+
+/// The average price over hours, moved by up to so many thousandths.
+fn near_average(prices: &[u32; 24], hours: u32, thousandths: u32, dice: &mut Dice) -> u32 {
+    let sum: u32 = (0..24).map(|h| ((hours >> h) & 1) * prices[h]).sum();
+    let moved = 1000 - thousandths + dice.between(0, 2 * thousandths);
+    (sum / hours.count_ones() * moved / 1000).clamp(1, 300_000)
+}
+
+/// All day, by day, by night.
+fn standard_hours(dice: &mut Dice) -> u32 {
+    let (all, day) = ((1 << 24) - 1, 0x000f_ff00);
+    dice.pick(&[all, day, all & !day])
+}
+
+fn usual_hours(dice: &mut Dice) -> u32 {
+    if dice.once_in(3) {
+        run_of_hours(dice, 3, 8)
+    } else {
+        standard_hours(dice)
+    }
+}
+
+/// Hours that follow each other.
+fn run_of_hours(dice: &mut Dice, least: u32, most: u32) -> u32 {
+    let length = dice.between(least, most);
+    ((1 << length) - 1) << dice.between(0, 24 - length)
+}
+
+/// Two hours or more, each as likely as not.
+fn odd_hours(dice: &mut Dice) -> u32 {
+    loop {
+        let hours = dice.bits() as u32 & ((1 << 24) - 1);
+        if hours.count_ones() >= 2 {
+            return hours;
+        }
+    }
+}

@@ -1,0 +1,15 @@
+//! The proved source without its contracts. Nothing below is written by hand:
+//! see [`source`](super::source).
+
+#[allow(clippy::all, unused)]
+#[rustfmt::skip]
+pub mod book;
+#[allow(clippy::all, unused)]
+#[rustfmt::skip]
+pub mod clearing;
+#[allow(clippy::all, unused)]
+#[rustfmt::skip]
+pub mod orders;
+#[allow(clippy::all, unused)]
+#[rustfmt::skip]
+pub mod pricing;

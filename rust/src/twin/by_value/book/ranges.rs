@@ -1,0 +1,76 @@
+// Written by `twin_source` from crates/book/src/ranges.rt.
+// The ranges of a record's fields (document 01, "The book in bytes"): cause 4 at one record, and the limits of an edition. Assumes nothing.
+use crate::twin::by_value::book::Block;
+use crate::twin::by_value::book::Step;
+use crate::twin::by_value::book::records::STEP;
+use crate::twin::by_value::book::records::block_at;
+use crate::twin::by_value::book::records::edition_of;
+use crate::twin::by_value::book::records::hour_byte;
+use crate::twin::by_value::book::records::hour_count;
+use crate::twin::by_value::book::records::side_byte;
+use crate::twin::by_value::book::records::step_at;
+
+// Whether x is from low to high.
+pub fn is_within(low: u32, x: u32, high: u32) -> bool
+{
+    (low <= x) & (x <= high)
+}
+
+// The largest quantity of a block in edition 1.
+const BLOCK_QUANTITY: u32 = 50;
+
+// The most blocks of one portfolio in edition 1.
+const BLOCKS_OF_PORTFOLIO: u16 = 5;
+
+// The largest quantity of a block; every edition has that of edition 1 today.
+fn most_block_quantity(edition: u8) -> u32
+{
+    BLOCK_QUANTITY
+}
+
+// The most blocks that one portfolio may have; every edition has that of edition 1 today.
+pub fn most_blocks_of_portfolio(edition: u8) -> u16
+{
+    BLOCKS_OF_PORTFOLIO
+}
+
+// Whether a step's fields, its side apart, are in their ranges.
+fn step_fits(step: Step) -> bool
+{
+    is_within(1, step.hour as u32, 24)
+        & is_within(1, step.portfolio as u32, 255)
+        & is_within(1, step.price, 300000)
+        & is_within(1, step.quantity, 99999)
+}
+
+// Whether a block's fields, its side and byte 6 apart, are in their ranges.
+fn block_fits(edition: u8, block: Block) -> bool
+{
+    is_within(1, block.portfolio as u32, 255)
+        & (2 <= hour_count(block.hours))
+        & is_within(1, block.price, 300000)
+        & is_within(1, block.quantity as u32, most_block_quantity(edition))
+}
+
+// Whether record i of the step chain has its fields in range.
+fn is_step_in_range(book: &[u8], i: u16) -> bool
+{
+    is_within(0, side_byte(book, i) as u32, 1) & step_fits(step_at(book, i))
+}
+
+// Whether record i of the block chain has its fields in range.
+fn is_block_in_range(book: &[u8], i: u16) -> bool
+{
+    is_within(0, side_byte(book, i) as u32, 1)
+        & (hour_byte(book, i) == 0)
+        & block_fits(edition_of(book), block_at(book, i))
+}
+
+// Whether record i of a chain of this kind has a field outside its range.
+pub fn is_out_of_range(book: &[u8], kind: u8, i: u16) -> bool
+{
+    if kind == STEP {
+        return !is_step_in_range(book, i);
+    }
+    !is_block_in_range(book, i)
+}

@@ -1,0 +1,137 @@
+// Written by `twin_source` from crates/book/src/records.rt.
+// The fields of the head and of record k, and a record as a step or a block (document 01, "The book in bytes").
+// Record k starts at byte 16 * k. Assumes nothing.
+use crate::twin::by_value::book::Block;
+use crate::twin::by_value::book::Record;
+use crate::twin::by_value::book::Side;
+use crate::twin::by_value::book::Step;
+use crate::twin::by_value::book::bytes::byte_at;
+use crate::twin::by_value::book::bytes::u16_at;
+use crate::twin::by_value::book::bytes::u24_at;
+use crate::twin::by_value::book::bytes::u32_at;
+
+// The kind of a step.
+pub const STEP: u8 = 1;
+
+// The kind of a block.
+pub const BLOCK: u8 = 2;
+
+// The head's fields.
+pub fn record_count(book: &[u8]) -> u16
+{
+    u16_at(book, 0)
+}
+
+pub fn first_step(book: &[u8]) -> u16
+{
+    u16_at(book, 2)
+}
+
+pub fn first_block(book: &[u8]) -> u16
+{
+    u16_at(book, 4)
+}
+
+pub fn day_hours(book: &[u8]) -> u8
+{
+    byte_at(book, 6)
+}
+
+pub fn edition_of(book: &[u8]) -> u8
+{
+    byte_at(book, 7)
+}
+
+// The fields that steps and blocks share.
+pub fn kind_of(book: &[u8], k: u16) -> u8
+{
+    byte_at(book, 16 * (k as u32))
+}
+
+pub fn side_byte(book: &[u8], k: u16) -> u8
+{
+    byte_at(book, 16 * (k as u32) + 1)
+}
+
+pub fn next_of(book: &[u8], k: u16) -> u16
+{
+    u16_at(book, 16 * (k as u32) + 2)
+}
+
+pub fn number_of(book: &[u8], k: u16) -> u16
+{
+    u16_at(book, 16 * (k as u32) + 4)
+}
+
+// A step's hour; 0 in a block.
+pub fn hour_byte(book: &[u8], k: u16) -> u8
+{
+    byte_at(book, 16 * (k as u32) + 6)
+}
+
+pub fn portfolio_of(book: &[u8], k: u16) -> u8
+{
+    byte_at(book, 16 * (k as u32) + 7)
+}
+
+fn side_of(byte: u8) -> Side
+{
+    if byte == 0 { Side::Buy } else { Side::Sell }
+}
+
+// Record k read as a step, whatever its kind.
+pub fn step_at(book: &[u8], k: u16) -> Step
+{
+    let at = 16 * (k as u32);
+    Step {
+        side: side_of(side_byte(book, k)),
+        number: number_of(book, k),
+        hour: hour_byte(book, k),
+        portfolio: portfolio_of(book, k),
+        price: u32_at(book, at + 8),
+        quantity: u32_at(book, at + 12),
+    }
+}
+
+// Record k read as a block, whatever its kind.
+pub fn block_at(book: &[u8], k: u16) -> Block
+{
+    let at = 16 * (k as u32);
+    Block {
+        side: side_of(side_byte(book, k)),
+        number: number_of(book, k),
+        portfolio: portfolio_of(book, k),
+        hours: u24_at(book, at + 8),
+        price: u24_at(book, at + 11),
+        quantity: u16_at(book, at + 14),
+    }
+}
+
+// Record k as its kind says.
+pub fn record_at(book: &[u8], k: u16) -> Record
+{
+    let kind = kind_of(book, k);
+    if kind == STEP {
+        return Record::Step(step_at(book, k));
+    }
+    if kind == BLOCK {
+        return Record::Block(block_at(book, k));
+    }
+    Record::Other
+}
+
+// How many of the 24 hours are set.
+pub fn hour_count(hours: u32) -> u32
+{
+    let mut count = 0;
+    let mut rest = hours;
+    let mut h: u32 = 0;
+    while h < 24 {
+        if rest % 2 == 1 {
+            count += 1;
+        }
+        rest = rest / 2;
+        h += 1;
+    }
+    count
+}

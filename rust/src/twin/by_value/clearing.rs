@@ -1,0 +1,81 @@
+// Written by `twin_source` from crates/clearing/src/lib.rt.
+// The clearing: layer 3, above pricing.
+use crate::twin::by_value::clearing::publish::publish;
+use crate::twin::by_value::clearing::search::find;
+use crate::twin::by_value::clearing::setup::prepare;
+use crate::twin::by_value::book::Reading;
+use crate::twin::by_value::book::read;
+use crate::twin::by_value::book::record_count;
+use crate::twin::by_value::orders::blocks_of;
+use crate::twin::by_value::orders::steps_of;
+
+mod publish; // the published set as the result
+mod result; // the result's bytes
+mod search; // the published set
+mod setup; // the tables of the search
+
+// What a clearing answers: the outcome is published, or refused with its number.
+#[derive(Clone, Copy)]
+pub enum Clearing {
+    Published,
+    Refused(u8),
+}
+
+// The outcome of an accepted book into a result of the right size.
+fn clear_accepted(book: &[u8], result: &mut [u8])
+{
+    let count = record_count(book) as usize;
+    let steps = steps_of(book);
+    let sides = steps.sides;
+    let prices = steps.prices;
+    let quantities = steps.quantities;
+    let records = steps.records;
+    let ends = steps.ends;
+    let blocks = blocks_of(book);
+    let mut low = [0; 38448];
+    let mut gap = [0; 38448];
+    let prepared = prepare(
+        &sides,
+        &prices,
+        &quantities,
+        ends,
+        blocks,
+        &mut low,
+        &mut gap,
+    );
+    let hours = prepared.hours;
+    let columns = prepared.columns;
+    let best = find(&low, &gap, &hours, &columns, blocks.count as u32);
+    publish(
+        count,
+        &sides,
+        &prices,
+        &quantities,
+        &records,
+        ends,
+        blocks,
+        best.set,
+        best.day,
+        result,
+    );
+}
+
+// The auction's outcome for a book, written to the result; or the first refusal whose cause holds, and the result as it was.
+pub fn clear(book: &[u8], result: &mut [u8]) -> Clearing
+{
+    let reading = read(book);
+    match reading {
+        Reading::Refused(number) => Clearing::Refused(number),
+        Reading::Accepted {
+            steps: _,
+            blocks: _,
+        } => {
+            if result.len() == 196 + 4 * (record_count(book) as usize) {
+                clear_accepted(book, result);
+                Clearing::Published
+            } else {
+                Clearing::Refused(7)
+            }
+        }
+    }
+}

@@ -1,0 +1,274 @@
+// Written by `twin_source` from crates/clearing/src/publish.rt.
+// The publication: what the steps of each hour get at its price, what is traded, the welfare, and with them the
+// result's bytes. Assumes nothing.
+use crate::twin::by_value::clearing::result::block_values;
+use crate::twin::by_value::clearing::result::with_rows;
+use crate::twin::by_value::clearing::result::write_result;
+use crate::twin::by_value::clearing::search::Day;
+use crate::twin::by_value::book::hour_count;
+use crate::twin::by_value::orders::Blocks;
+use crate::twin::by_value::pricing::blocks::trades_of;
+use crate::twin::by_value::pricing::execution::amounts_at;
+use crate::twin::by_value::pricing::execution::share_out;
+
+// What quantities of steps buy, and what they are worth: the value of the buys and the cost of the sells.
+#[derive(Clone, Copy)]
+pub struct Sums {
+    pub bought: u64,
+    pub value: u64,
+    pub cost: u64,
+}
+
+impl Sums {
+    // One quantity more, with what it is worth.
+    fn add(mut self, side: u8, quantity: u64, worth: u64) -> Sums
+    {
+        if side == 0 {
+            self.bought += quantity;
+            self.value += worth;
+        } else {
+            self.cost += worth;
+        }
+        self
+    }
+}
+
+// The sums of the columns' steps with a quantity for each.
+fn sums_of(sides: &[u8], prices: &[u32], values: &[u32]) -> Sums
+{
+    let mut sums = Sums {
+        bought: 0,
+        value: 0,
+        cost: 0,
+    };
+    let mut i: usize = 0;
+    while i < sides.len() {
+        let quantity = values[i] as u64;
+        let worth = quantity * (prices[i] as u64);
+        sums = sums.add(sides[i], quantity, worth);
+        i += 1;
+    }
+    sums
+}
+
+// What the steps of an hour get, into out, and its sums.
+fn fill_hour(
+    sides: &[u8],
+    prices: &[u32],
+    quantities: &[u32],
+    sales: u64,
+    buys: u64,
+    price: u32,
+    out: &mut [u32],
+) -> Sums
+{
+    let net = (2097152 + sales - buys) as u32;
+    let amounts = amounts_at(sides, prices, quantities, net, price);
+    share_out(sides, prices, quantities, price, amounts, out);
+    sums_of(sides, prices, out)
+}
+
+// The same for the steps of the columns from one place to another, into the same places of values.
+fn put_hour(
+    sides: &[u8],
+    prices: &[u32],
+    quantities: &[u32],
+    from: usize,
+    to: usize,
+    sales: u64,
+    buys: u64,
+    price: u32,
+    values: &mut [u32],
+) -> Sums
+{
+    fill_hour(
+        &sides[from..to],
+        &prices[from..to],
+        &quantities[from..to],
+        sales,
+        buys,
+        price,
+        &mut values[from..to],
+    )
+}
+
+// What a block is worth: its quantity times its limit over all its hours, if it is chosen (1 for yes).
+fn block_worth(chosen: u32, hours: u32, price: u32, quantity: u32) -> u64
+{
+    if chosen == 1 {
+        let limit = price * hour_count(hours);
+        return (quantity * limit) as u64;
+    }
+    0
+}
+
+// The value and the cost of the blocks that the set holds, the lowest bit for the first block.
+fn blocks_worth(sides: &[u8], hours: &[u32], prices: &[u32], quantities: &[u32], set: u32) -> Sums
+{
+    let mut sums = Sums {
+        bought: 0,
+        value: 0,
+        cost: 0,
+    };
+    let mut rest = set;
+    let mut i: usize = 0;
+    while i < sides.len() {
+        let worth = block_worth(rest % 2, hours[i], prices[i], quantities[i]);
+        sums = sums.add(sides[i], 0, worth);
+        rest = rest / 2;
+        i += 1;
+    }
+    sums
+}
+
+// What is traded in each hour, and the value and the cost of all steps.
+#[derive(Clone, Copy)]
+pub struct Hours {
+    pub traded: [u32; 24],
+    pub value: u64,
+    pub cost: u64,
+}
+
+// What the steps of each hour get, hour after hour, into values.
+fn fill_hours(
+    sides: &[u8],
+    prices: &[u32],
+    quantities: &[u32],
+    ends: [u16; 25],
+    bsides: &[u8],
+    bhours: &[u32],
+    bquantities: &[u32],
+    set: u32,
+    middles: [u32; 24],
+    values: &mut [u32],
+) -> Hours
+{
+    let mut traded = [0u32; 24];
+    let mut value: u64 = 0;
+    let mut cost: u64 = 0;
+    let mut h: usize = 0;
+    while h < 24 {
+        let from = ends[h] as usize;
+        let to = ends[h + 1] as usize;
+        let trades = trades_of(bsides, bhours, bquantities, set, (h + 1) as u32);
+        let sums = put_hour(
+            sides,
+            prices,
+            quantities,
+            from,
+            to,
+            trades.sales,
+            trades.buys,
+            middles[h],
+            values,
+        );
+        traded[h] = (sums.bought + trades.buys) as u32;
+        value += sums.value;
+        cost += sums.cost;
+        h += 1;
+    }
+    Hours {
+        traded: traded,
+        value: value,
+        cost: cost,
+    }
+}
+
+// The difference, or 0.
+fn less(a: u64, b: u64) -> u64
+{
+    if b <= a { a - b } else { 0 }
+}
+
+// The row of each record: a step's value, a block's quantity if the set holds it, else 0.
+fn rows_of(
+    records: &[u16],
+    values: &[u32],
+    brecords: &[u16],
+    bquantities: &[u32],
+    set: u32,
+) -> [u32; 2048]
+{
+    let m = brecords.len();
+    let bvalues = block_values(m, bquantities, set);
+    let rows = with_rows([0; 2048], brecords, &bvalues[..m]);
+    with_rows(rows, records, values)
+}
+
+// The result out of the columns, the set and its prices.
+fn publish_columns(
+    count: usize,
+    sides: &[u8],
+    prices: &[u32],
+    quantities: &[u32],
+    records: &[u16],
+    ends: [u16; 25],
+    brecords: &[u16],
+    bsides: &[u8],
+    bhours: &[u32],
+    bprices: &[u32],
+    bquantities: &[u32],
+    set: u32,
+    middles: [u32; 24],
+    result: &mut [u8],
+)
+{
+    let n = ends[24] as usize;
+    let mut values = [0; 2048];
+    let hours = fill_hours(
+        sides,
+        prices,
+        quantities,
+        ends,
+        bsides,
+        bhours,
+        bquantities,
+        set,
+        middles,
+        &mut values,
+    );
+    let worth = blocks_worth(bsides, bhours, bprices, bquantities, set);
+    let welfare = less(hours.value + worth.value, hours.cost + worth.cost);
+    let rows = rows_of(&records[..n], &values[..n], brecords, bquantities, set);
+    let traded = hours.traded;
+    write_result(result, count, welfare, middles, traded, &rows);
+}
+
+// The result of a book of so many records: its steps' columns, its blocks, the published set and its day.
+pub fn publish(
+    count: usize,
+    sides: &[u8],
+    prices: &[u32],
+    quantities: &[u32],
+    records: &[u16],
+    ends: [u16; 25],
+    blocks: Blocks,
+    set: u32,
+    day: Day,
+    result: &mut [u8],
+)
+{
+    let m = blocks.count;
+    let brecords = blocks.records;
+    let bsides = blocks.sides;
+    let bhours = blocks.hours;
+    let bprices = blocks.prices;
+    let bquantities = blocks.quantities;
+    let middles = day.prices;
+    publish_columns(
+        count,
+        sides,
+        prices,
+        quantities,
+        records,
+        ends,
+        &brecords[..m],
+        &bsides[..m],
+        &bhours[..m],
+        &bprices[..m],
+        &bquantities[..m],
+        set,
+        middles,
+        result,
+    );
+}

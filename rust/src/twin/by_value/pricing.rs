@@ -1,0 +1,84 @@
+// Written by `twin_source` from crates/pricing/src/lib.rt.
+// Pricing one hour under a set of blocks: layer 2, above the reader.
+use crate::twin::by_value::pricing::blocks::trades_of;
+use crate::twin::by_value::pricing::hour::answer_of;
+use crate::twin::by_value::book::Reading;
+use crate::twin::by_value::book::read;
+use crate::twin::by_value::orders::blocks_of;
+use crate::twin::by_value::orders::steps_of;
+
+pub mod blocks;
+pub mod execution;
+pub mod hour;
+pub mod table;
+
+// What pricing an hour gives: L, H and the price; that the hour does not clear; or a refusal with its number.
+#[derive(Clone, Copy)]
+pub enum HourAnswer {
+    Cleared { low: u32, high: u32, price: u32 },
+    NotClearing,
+    Refused(u8),
+}
+
+// Whether the set names a block position that is not there: a bit at or past the count.
+fn names_absent(set: u32, count: u32) -> bool
+{
+    if count < 32 {
+        (set >> count) != 0
+    } else {
+        false
+    }
+}
+
+// N of an hour under a set of an accepted book's blocks: the bias, plus block sales, less block purchases.
+fn net_in(book: &[u8], set: u32, hour: u32) -> u32
+{
+    let found = blocks_of(book);
+    let count = found.count;
+    let sides = found.sides;
+    let hours = found.hours;
+    let quantities = found.quantities;
+    let trades = trades_of(
+        &sides[..count],
+        &hours[..count],
+        &quantities[..count],
+        set,
+        hour,
+    );
+    (2097152 + trades.sales - trades.buys) as u32
+}
+
+// The answer of an hour of an accepted book, for N.
+fn answer_in(book: &[u8], hour: u32, net: u32) -> HourAnswer
+{
+    let steps = steps_of(book);
+    let ends = steps.ends;
+    let h = hour as usize;
+    let from = ends[h - 1] as usize;
+    let to = ends[h] as usize;
+    let sides = steps.sides;
+    let prices = steps.prices;
+    let quantities = steps.quantities;
+    answer_of(
+        &sides[from..to],
+        &prices[from..to],
+        &quantities[from..to],
+        net,
+    )
+}
+
+// The price of one hour under a set of blocks, the lowest bit for the first block of the chain: the book's own refusals, then 8, then the rules' answer.
+pub fn price(book: &[u8], set: u32, hour: u32) -> HourAnswer
+{
+    let reading = read(book);
+    match reading {
+        Reading::Refused(number) => HourAnswer::Refused(number),
+        Reading::Accepted { steps: _, blocks } => {
+            if (hour < 1) | (24 < hour) | names_absent(set, blocks as u32) {
+                HourAnswer::Refused(8)
+            } else {
+                answer_in(book, hour, net_in(book, set, hour))
+            }
+        }
+    }
+}

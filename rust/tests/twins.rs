@@ -1,0 +1,132 @@
+//! The two twins of the proved clearing against the listing of all sets, and
+//! against each other: the same bytes, and the same nodes.
+
+use auction_listing::books::{edge_books, reader_book, small_book, worked_days, FAMILIES};
+use auction_listing::paper::{self, Published};
+use auction_listing::twin::by_value::clearing::{self, Clearing};
+use auction_listing::twin::count::{self, Nodes};
+use auction_listing::twin::in_place::{self, Workspace};
+use auction_listing::twin::source::differences;
+use std::path::Path;
+use std::sync::Mutex;
+
+/// The by-value twin keeps its tables on the stack.
+const STACK: usize = 64 << 20;
+
+/// The counters are shared by all threads.
+static COUNTED: Mutex<()> = Mutex::new(());
+
+fn with_stack(compare: fn()) {
+    let alone = COUNTED.lock().unwrap_or_else(|broken| broken.into_inner());
+    let thread = std::thread::Builder::new().stack_size(STACK).spawn(compare);
+    thread.expect("a thread").join().expect("both sides agree");
+    drop(alone);
+}
+
+/// The answer, the result's bytes and the nodes.
+type Run = (u32, Vec<u8>, Nodes);
+
+fn untouched(size: usize) -> Vec<u8> {
+    (0..size).map(|i| (i * 7 + 3) as u8).collect()
+}
+
+fn by_value(book: &[u8], size: usize) -> Run {
+    let mut result = untouched(size);
+    count::taken();
+    let answer = match clearing::clear(book, &mut result) {
+        Clearing::Published => 0,
+        Clearing::Refused(number) => u32::from(number),
+    };
+    (answer, result, count::taken())
+}
+
+fn in_place(book: &[u8], size: usize, space: &mut Workspace) -> Run {
+    let mut result = untouched(size);
+    count::taken();
+    let answer = in_place::clear(book, &mut result, space);
+    (answer, result, count::taken())
+}
+
+fn size_for(book: &[u8]) -> usize {
+    book.get(..2)
+        .map_or(196, |r| paper::result_length(usize::from(u16::from_be_bytes([r[0], r[1]]))))
+}
+
+/// Both twins against each other; the answer and the result.
+fn agreed(name: &str, book: &[u8], size: usize, space: &mut Workspace) -> (u32, Vec<u8>) {
+    let (one, other) = (by_value(book, size), in_place(book, size, space));
+    assert_eq!(one.2, other.2, "{name}: nodes by value and in place");
+    assert!(one == other, "{name}: other results by value and in place");
+    (one.0, one.1)
+}
+
+/// Both twins against the listing.
+fn compare(name: &str, book: &[u8], size: usize, space: &mut Workspace) {
+    let expected = match paper::clear(book, size) {
+        Ok(result) => (0, result),
+        Err(refusal) => (u32::from(refusal), untouched(size)),
+    };
+    assert!(
+        agreed(name, book, size, space) == expected,
+        "{name}: the listing gives another result"
+    );
+}
+
+#[test]
+fn the_twins_clear_small_books_as_the_listing() {
+    with_stack(|| {
+        let mut space = Workspace::default();
+        for (name, orders) in worked_days() {
+            let book = orders.book();
+            compare(name, &book, size_for(&book), &mut space);
+        }
+        for seed in 0..1000 {
+            let book = small_book(seed);
+            compare(&format!("small_book({seed})"), &book, size_for(&book), &mut space);
+        }
+    });
+}
+
+#[test]
+fn the_twins_refuse_as_the_listing() {
+    with_stack(|| {
+        let mut space = Workspace::default();
+        let damaged = (0..400).map(reader_book);
+        for (i, book) in edge_books().into_iter().chain(damaged).enumerate() {
+            if paper::read(&book).is_ok_and(|accepted| accepted.blocks.len() > 9) {
+                continue; // the listing of all sets takes too long
+            }
+            for size in [size_for(&book), size_for(&book) + 1, 0] {
+                compare(&format!("damaged book {i}"), &book, size, &mut space);
+            }
+        }
+    });
+}
+
+#[test]
+fn the_twins_agree_on_large_books() {
+    with_stack(|| {
+        let mut space = Workspace::default();
+        for (name, book) in FAMILIES {
+            let book = book(1);
+            let (answer, result) = agreed(name, &book, size_for(&book), &mut space);
+            assert_eq!(answer, 0, "{name}: refused");
+            let published = Published::from_bytes(&result);
+            let accepted = paper::read(&book).expect("accepted");
+            let outcome = paper::outcome(&accepted, published.set(&accepted)).expect("lawful");
+            assert!(
+                paper::result_bytes(&accepted, &outcome) == result,
+                "{name}: not its set's result"
+            );
+        }
+    });
+}
+
+#[test]
+#[ignore = "the twin's search is ahead of the proved one; to be run once both are the same"]
+fn the_by_value_twin_is_the_proved_source() {
+    let package = Path::new(env!("CARGO_MANIFEST_DIR"));
+    let crates = package.join("../crates");
+    let found = differences(&crates, &package.join("src/twin/by_value")).expect("both are there");
+    assert!(found.is_empty(), "run `cargo run --bin twin_source -- write`: {found:?}");
+}
