@@ -32,7 +32,7 @@ bit-times-le x n = rw (bit-times x n) (when-le (eqb (x % 2) 1) n)
 pub halved : (x h : ℕ) → x / 2 ^ h / 2 ≡ x / 2 ^ (h + 1)
 halved x h = shr-shr x h 1
 
-hour-bit : (hours h : ℕ) → holdsHour hours (suc h) ≡ eqb (hours / 2 ^ h % 2) 1
+pub hour-bit : (hours h : ℕ) → holdsHour hours (suc h) ≡ eqb (hours / 2 ^ h % 2) 1
 hour-bit hours h = rw sub-one
 
 -- A QUANTITY ADDED in each hour of a block

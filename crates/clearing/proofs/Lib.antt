@@ -12,6 +12,7 @@ pub mod ReachLaws
 pub mod PassLaws
 pub mod SetupTableLaws
 pub mod SetupBlockLaws
+pub mod SetupTwinLaws
 pub mod SetupLaws
 pub mod SumLaws
 pub mod WorthLaws

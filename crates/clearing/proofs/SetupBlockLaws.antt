@@ -15,7 +15,6 @@ use Rattle.rules.specs.Orders.{Side, buy, sell}
 use Rattle.rules.specs.Hour.{bySide, when}
 use Rattle.rules.proofs.CurveLaws.{when-le}
 use Rattle.clearing.specs.Search.{Small, sideAt, hoursAt, quantityAt, limitAt, againstAt, gainAt, sumOfHours}
-use Rattle.clearing.specs.Meaning.{BlocksSized}
 use Rattle.clearing.specs.Setup.{BlocksHeld, sumBelow, boughtIn, written, Written}
 use Rattle.clearing.proofs.LeafLaws.{zeros}
 
@@ -295,6 +294,5 @@ module _ (sides hours prices quantities root : List ℕ) where
       ]
 
   pub written-all : (count i : ℕ) (columns : List ℕ) → WrittenTo count i columns → count ≤ i →
-      BlocksSized columns × ((j : ℕ) → j < count → Written sides hours prices quantities root columns j)
-  written-all count i columns w k =
-      (record { columns = w .size; quantitiesFit = λ j b. omega (arith, w .small j b) }, λ j a. w .done j (omega (arith, w .inside)))
+      ((j : ℕ) → j < 32 → quantityAt columns j ≤ 50) × ((j : ℕ) → j < count → Written sides hours prices quantities root columns j)
+  written-all count i columns w k = (w .small, λ j a. w .done j (omega (arith, w .inside)))

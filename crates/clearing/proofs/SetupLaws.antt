@@ -30,10 +30,11 @@ use Rattle.rules.proofs.NeighbourLaws.{slack}
 use Rattle.rules.proofs.BoundLaws.{gain}
 use Rattle.rules.proofs.LossLaws.{against}
 use Rattle.rules.proofs.PlaceLaws.{hourAt}
+use Rattle.rules.proofs.TwinLaws.{limitOf, Ahead, ahead-by-limits}
 use Rattle.pricing.specs.Tables.{UnitPrices, NotRising}
 use Rattle.pricing.proofs.LevelLaws.{table-in-range, table-not-rising}
 use Rattle.pricing.proofs.GapLaws.{gap-table, gap-falls, gap-rises}
-use Rattle.clearing.specs.Search.{Small, cell, ofHour, sumOfHours}
+use Rattle.clearing.specs.Search.{Small, cell, ofHour, sideAt, quantityAt, limitAt, aheadAt, behindAt, sumOfHours}
 use Rattle.clearing.specs.Meaning.{BlocksSized, Sized, Shown, Known, Turning}
 use Rattle.clearing.specs.Setup.{
   StepsHeld,
@@ -47,9 +48,11 @@ use Rattle.clearing.specs.Setup.{
   sumBelow,
   boughtIn,
   Written,
+  TwinsAt,
   ReadyFor,
 }
 use Rattle.clearing.proofs.BranchLaws.{daySum-plain}
+use Rattle.clearing.proofs.SetupTwinLaws.{Completed, no-worse-true, no-worse-false}
 use Rattle.clearing.proofs.SetupTableLaws.{take-drop, row-length, range-holds}
 
 -- THE BLOCKS OF THE COLUMNS
@@ -165,7 +168,10 @@ module _ (b ends stepRecords sides prices quantities : List ℕ) (count : ℕ) (
       ))
 
   -- A BLOCK OF THE COLUMNS, at the prices root
-  module _ (root columns : List ℕ) (j : ℕ) (k : j < count) (w : Written blockSides hours blockPrices blockQuantities root columns j) where
+  module _ (root columns : List ℕ) (all : Completed blockSides hours blockPrices blockQuantities root count columns) (j : ℕ) (k : j < count) where
+    w : Written blockSides hours blockPrices blockQuantities root columns j
+    w = all .columns j k
+
     abbrev priceOf : ℕ → ℕ
     priceOf h = getD root (h - 1) 0
 
@@ -177,6 +183,9 @@ module _ (b ends stepRecords sides prices quantities : List ℕ) (count : ℕ) (
     limit-is =
         rw (hour-count (dayFrom b .hours) (number b (getD records j 0)) (getD blockSides j 0) (getD hours j 0) (getD blockPrices j 0)
         (getD blockQuantities j 0))
+
+    limit-at : limitOf (dayFrom b .hours) (blockHere j) ≡ limitAt columns j
+    limit-at = limit-is ∙ sym (w .limitIs)
 
     against-is : against (dayFrom b .hours) priceOf (blockHere j)
         ≡ getD blockQuantities j 0
@@ -198,17 +207,53 @@ module _ (b ends stepRecords sides prices quantities : List ℕ) (count : ℕ) (
       next = block-next j k;
       sideIs = rw (w .sideIs);
       runsIs = λ h. rw (w .hoursIs);
-      quantityIs = sym (w .quantityIs);
-      limitIs = limit-is ∙ sym (w .limitIs);
+      rowIs = λ h from to. all .row j h k from to ∙ rw (w .hoursIs, w .quantityIs);
+      limitIs = limit-at;
       againstIs = against-is ∙ sym (w .againstIs);
       gainIs = gain-is ∙ sym (w .gainIs);
     }
+
+  -- TWINS OF THE COLUMNS: block i is ahead of block j where its limit is no worse
+  module _ (root columns : List ℕ) (all : Completed blockSides hours blockPrices blockQuantities root count columns) where
+    twins-ahead : (i j : ℕ) (ki : i < count) (kj : j < count) → TwinsAt columns i j →
+        bySide (sideFor (sideAt columns i)) (limitAt columns j) (limitAt columns i)
+        ≤ bySide (sideFor (sideAt columns i)) (limitAt columns i) (limitAt columns j) →
+        (j < i → (1 ≤ quantityAt columns i)
+        × (bySide (sideFor (sideAt columns i)) (limitAt columns j) (limitAt columns i)
+        < bySide (sideFor (sideAt columns i)) (limitAt columns i) (limitAt columns j))) →
+        Ahead (dayFrom b) (λ h. getD root (h - 1) 0) i j
+    twins-ahead i j ki kj t le less =
+        let wi = all .columns i ki in
+        let wj = all .columns j kj in
+        let mine = limit-at root columns all i ki in
+        let yours = limit-at root columns all j kj in
+        let hour : getD hours i 0 ≡ getD hours j 0 = sym (wi .hoursIs) ∙ t .sameHours ∙ wj .hoursIs in
+        ahead-by-limits (dayFrom b) _ i j (blockHere i) (blockHere j) (block-next i ki) (block-next j kj)
+        (ap sideFor (sym (wi .sideIs) ∙ t .sameSide ∙ wj .sideIs)) (λ h. rw hour) (sym (wi .quantityIs) ∙ t .sameQuantity ∙ wj .quantityIs)
+        (rw (mine, yours, ← wi .sideIs) le)
+        (λ n. (rw (← wi .quantityIs) (less n .0), rw (mine, yours, ← wi .sideIs) (less n .1)))
+
+    is-ahead : (j a : ℕ) → j < count → aheadAt columns j ≡ suc a → (a < j) × Ahead (dayFrom b) (λ h. getD root (h - 1) 0) a j
+    is-ahead j a k e =
+        let f = all .ahead j k a e in
+        let below = f .0 in (
+          below,
+          twins-ahead a j (omega arith) k (f .1)
+              (rw (f .1 .sameSide) (no-worse-true (sideAt columns j) (limitAt columns a) (limitAt columns j) (f .2))) (λ n. absurd (omega arith)),
+        )
+
+    is-behind : (j c : ℕ) → j < count → behindAt columns j ≡ suc c → (c < j) × Ahead (dayFrom b) (λ h. getD root (h - 1) 0) j c
+    is-behind j c k e =
+        let f = all .behind j k c e in
+        let below = f .0 in
+        let less = no-worse-false (sideAt columns j) (limitAt columns c) (limitAt columns j) (f .2) in
+        (below, twins-ahead j c k (omega arith) (f .1) (omega (arith, less)) (λ n. (f .3, less)))
 
   -- THE HOURS
   module _ (off root low gap first last turn columns : List ℕ) (lowSize : length low ≡ 38448) (offFits : Small 1600 off)
       (offIs : (h : ℕ) → 1 ≤ h → h ≤ 24 → getD off (h - 1) 0 ≡ boughtIn count blockSides hours blockQuantities h)
       (rows : RowsAre sides prices quantities ends off low) (ranges : RangesAre sides prices quantities ends off root low gap first last turn)
-      (blocks : (j : ℕ) → j < count → Written blockSides hours blockPrices blockQuantities root columns j) where
+      (blocks : Completed blockSides hours blockPrices blockQuantities root count columns) where
     abbrev rootOf : ℕ → ℕ
     rootOf h = getD root (h - 1) 0
 
@@ -303,7 +348,9 @@ module _ (b ends stepRecords sides prices quantities : List ℕ) (count : ℕ) (
       clears = λ h i from to. clears-at h from to i;
       clearsOnly = λ h i from to. clears-only h from to i;
       gapIs = λ h i from to. gap-is h from to i;
-      shown = λ j k. block-shown root columns j k (blocks j k);
+      shown = block-shown root columns blocks;
+      ahead = is-ahead root columns blocks;
+      behind = is-behind root columns blocks;
     }
 
     pub turning : Turning gap first last turn
@@ -328,7 +375,7 @@ pub ready : (sides prices quantities ends : List ℕ) (count : ℕ) (records blo
     (off root low gap first last turn columns : List ℕ) → length low ≡ 38448 → Small 1600 off →
     ((h : ℕ) → 1 ≤ h → h ≤ 24 → getD off (h - 1) 0 ≡ boughtIn count blockSides hours blockQuantities h) →
     RowsAre sides prices quantities ends off low → RangesAre sides prices quantities ends off root low gap first last turn →
-    ((j : ℕ) → j < count → Written blockSides hours blockPrices blockQuantities root columns j) →
+    Completed blockSides hours blockPrices blockQuantities root count columns →
     ReadyFor sides prices quantities ends count records blockSides hours blockPrices blockQuantities low gap first last turn columns
 ready sides prices quantities ends count records blockSides hours blockPrices blockQuantities off root low gap first last turn columns l s o rows
     ranges w b stepRecords a sc bc =
