@@ -357,7 +357,7 @@ fn twin_behind(blocks: &[u32], i: usize) -> u32
     while j < i {
         let here = blocks[96 + j];
         let behind = (are_twins(blocks, i, j) & !is_no_worse(side, here, limit)) & trades;
-        let test = behind & is_no_worse(side, here, edge);
+        let test = behind & !is_no_worse(side, edge, here);
         let next = choose(test, (j + 1) as u32, found);
         let nearer = choose(test, here, edge);
         found = next;

@@ -73,12 +73,6 @@ slice-aggregate-find-3 c = search needs
 slice-aggregate-find-4 : tie.Need-slice-aggregate-find-4
 slice-aggregate-find-4 c = search needs
 
-slice-aggregate-find-5 : tie.Need-slice-aggregate-find-5
-slice-aggregate-find-5 c = search needs
-
-slice-aggregate-find-6 : tie.Need-slice-aggregate-find-6
-slice-aggregate-find-6 c = search needs
-
 cast-find : tie.Need-cast-find
 cast-find c = search needs
 
@@ -86,20 +80,20 @@ find-requires : tie.Need-find-requires
 find-requires c κs = search needs
 
 slice-aggregate-publish : tie.Need-slice-aggregate-publish
-slice-aggregate-publish c = sym (size-sides (c .before .before .before .before .before .before .before .before .before .before .before .before .before .before .before .before .before .before .before .before .before .before .before .before .before .before .before))
+slice-aggregate-publish c = sym (size-sides (c .before .before .before .before .before .before .before .before .before .before .before .before .before .before .before .before .before .before .before .before .before .before .before))
 
 slice-aggregate-publish-2 : tie.Need-slice-aggregate-publish-2
-slice-aggregate-publish-2 c = sym (size-prices (c .before .before .before .before .before .before .before .before .before .before .before .before .before .before .before .before .before .before .before .before .before .before .before .before .before .before .before .before))
+slice-aggregate-publish-2 c = sym (size-prices (c .before .before .before .before .before .before .before .before .before .before .before .before .before .before .before .before .before .before .before .before .before .before .before .before))
 
 slice-aggregate-publish-3 : tie.Need-slice-aggregate-publish-3
-slice-aggregate-publish-3 c = sym (size-quantities (c .before .before .before .before .before .before .before .before .before .before .before .before .before .before .before .before .before .before .before .before .before .before .before .before .before .before .before .before .before))
+slice-aggregate-publish-3 c = sym (size-quantities (c .before .before .before .before .before .before .before .before .before .before .before .before .before .before .before .before .before .before .before .before .before .before .before .before .before))
 
 slice-aggregate-publish-4 : tie.Need-slice-aggregate-publish-4
-slice-aggregate-publish-4 c = sym (size-records (c .before .before .before .before .before .before .before .before .before .before .before .before .before .before .before .before .before .before .before .before .before .before .before .before .before .before .before .before .before .before))
+slice-aggregate-publish-4 c = sym (size-records (c .before .before .before .before .before .before .before .before .before .before .before .before .before .before .before .before .before .before .before .before .before .before .before .before .before .before))
 
 publish-requires : tie.Need-publish-requires
 publish-requires c κs =
-    let m = c .before .before .before .before .before .before .before .before .before .before .before .before .before .before .before .before .before .before .before in
+    let m = c .before .before .before .before .before .before .before .before .before .before .before .before .before .before .before in
     let k = m .before .before .before .before .before .before in
     let f = k .before .before .before .before .before .before in
     let s = f .before .before .before .before in
@@ -115,7 +109,7 @@ same-length c = search needs
 
 returns : tie.Need-returns
 returns c =
-    let m = c .before .before .before .before .before .before .before .before .before .before .before .before .before .before .before .before .before .before .before .before .before .before in
+    let m = c .before .before .before .before .before .before .before .before .before .before .before .before .before .before .before .before .before .before in
     let k = m .before .before .before .before .before .before in
     let f = k .before .before .before .before .before .before in
     let s = f .before .before .before .before in
@@ -142,8 +136,6 @@ clear-accepted-spec =
     slice-aggregate-find-2
     slice-aggregate-find-3
     slice-aggregate-find-4
-    slice-aggregate-find-5
-    slice-aggregate-find-6
     cast-find
     find-requires
     slice-aggregate-publish
