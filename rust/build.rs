@@ -18,4 +18,6 @@ fn main() {
     println!("cargo:rerun-if-changed={}", library.display());
     println!("cargo:rustc-link-search=native={}", directory.display());
     println!("cargo:rustc-link-lib=static=exports");
+    // For the test that links the library from C.
+    println!("cargo:rustc-env=PROVED_LIBRARY={}", library.display());
 }

@@ -1,30 +1,16 @@
 //! The samples: each text gives its book, each book its sheet, and the program
-//! `book_text` does both. They are looked for in `../samples`, else in `samples`.
+//! `book_text` does both.
+
+mod sample_files;
 
 use auction_listing::books::{
     head_alone, opposite_blocks, thirty_two_blocks, worked_days, Orders, THIRTY_TWO_BLOCKS_TAKEN,
 };
 use auction_listing::paper::{outcome, read, result_bytes, sheet, sheet_of};
 use auction_listing::text::{to_book, to_text};
-use std::fs;
+use sample_files::{names, sample};
 use std::io::Write;
-use std::path::{Path, PathBuf};
 use std::process::{Command, Output, Stdio};
-
-fn directory() -> PathBuf {
-    let package = Path::new(env!("CARGO_MANIFEST_DIR"));
-    let beside = package.join("../samples");
-    if beside.is_dir() {
-        beside
-    } else {
-        package.join("samples")
-    }
-}
-
-fn sample(name: &str, ending: &str) -> Vec<u8> {
-    let path = directory().join(format!("{name}.{ending}"));
-    fs::read(&path).unwrap_or_else(|error| panic!("{}: {error}", path.display()))
-}
 
 fn accepted_samples() -> Vec<(&'static str, Orders)> {
     let mut samples = worked_days();
@@ -82,12 +68,8 @@ fn all_samples_are_known() {
     let mut known: Vec<String> =
         accepted_samples().iter().map(|(name, _)| name.to_string()).collect();
     known.extend((1..=6).map(|refusal| format!("refused-{refusal}")));
-    for entry in fs::read_dir(directory()).unwrap() {
-        let path = entry.unwrap().path();
-        if path.extension().is_some_and(|ending| ending == "book") {
-            let name = path.file_stem().unwrap().to_str().unwrap().to_string();
-            assert!(known.contains(&name), "{name} is in no test");
-        }
+    for name in names() {
+        assert!(known.contains(&name), "{name} is in no test");
     }
 }
 

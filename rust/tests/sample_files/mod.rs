@@ -1,0 +1,34 @@
+//! The sample files. They are looked for in `../samples`, else in `samples`.
+
+use std::fs;
+use std::path::{Path, PathBuf};
+
+fn directory() -> PathBuf {
+    let package = Path::new(env!("CARGO_MANIFEST_DIR"));
+    let beside = package.join("../samples");
+    if beside.is_dir() {
+        beside
+    } else {
+        package.join("samples")
+    }
+}
+
+/// The names of all books, without their ending.
+pub fn names() -> Vec<String> {
+    let entries = fs::read_dir(directory()).expect("the samples");
+    let paths = entries.map(|entry| entry.expect("an entry").path());
+    let books = paths.filter(|path| path.extension().is_some_and(|ending| ending == "book"));
+    let mut names: Vec<String> =
+        books.map(|path| path.file_stem().unwrap().to_str().unwrap().to_string()).collect();
+    names.sort();
+    names
+}
+
+pub fn path(name: &str, ending: &str) -> PathBuf {
+    directory().join(format!("{name}.{ending}"))
+}
+
+pub fn sample(name: &str, ending: &str) -> Vec<u8> {
+    let path = path(name, ending);
+    fs::read(&path).unwrap_or_else(|error| panic!("{}: {error}", path.display()))
+}
