@@ -3,24 +3,12 @@
 //!
 //! The environment variable BOOKS raises the counts (default 20000 each).
 
+mod many_books;
+
 use auction_listing::books::{edge_books, reader_book, small_book, worked_days};
 use auction_listing::paper;
 use auction_listing::proved;
-
-/// The proved library keeps its tables on the stack.
-const STACK: usize = 64 << 20;
-
-fn count() -> u64 {
-    match std::env::var("BOOKS") {
-        Ok(count) => count.parse().expect("BOOKS is a number"),
-        Err(_) => 20_000,
-    }
-}
-
-fn with_stack(compare: fn()) {
-    let thread = std::thread::Builder::new().stack_size(STACK).spawn(compare);
-    thread.expect("a thread").join().expect("both sides agree");
-}
+use many_books::{count, with_stack};
 
 #[test]
 fn the_worked_days_are_printed() {
