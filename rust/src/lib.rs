@@ -7,6 +7,7 @@
 //! - [`paper`]: reading, pricing, clearing, contenders and the sheet;
 //! - [`books`]: books to try them on: a builder, random books, damaged books;
 //! - [`text`]: a plain-text form of a book for people;
+//! - [`twin`]: the proved code's algorithm in plain Rust, to be timed beside it;
 //! - `proved` (with the feature of that name): calls of the proved library.
 
 pub mod books;

@@ -123,7 +123,6 @@ fn the_twins_agree_on_large_books() {
 }
 
 #[test]
-#[ignore = "the twin's search is ahead of the proved one; to be run once both are the same"]
 fn the_by_value_twin_is_the_proved_source() {
     let package = Path::new(env!("CARGO_MANIFEST_DIR"));
     let crates = package.join("../crates");

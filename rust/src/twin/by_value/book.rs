@@ -8,6 +8,7 @@ mod chains; // records that hang together by `next`
 mod ranges; // the ranges of a record's fields
 mod records; // the fields of the head and of a record
 
+pub use bytes::u32_at;
 pub use chains::chain_length;
 pub use records::block_at;
 pub use records::day_hours;

@@ -6,10 +6,6 @@ use super::ByHour;
 
 const MOVES: u32 = 200;
 
-/// Whether the empty set's prices are kept where the empty set loses no more at them
-/// than at the moved ones; to be set as in the proved code.
-const MAY_STAY: bool = false;
-
 /// All ones at the hours of a block.
 pub fn mask_of(hours: u32) -> ByHour<u32> {
     std::array::from_fn(|h| 0u32.wrapping_sub((hours >> h) & 1))
@@ -25,16 +21,16 @@ pub fn prices_at(hours: &Hours, places: &ByHour<u16>) -> ByHour<u32> {
     std::array::from_fn(|h| hours.price(h, places[h]))
 }
 
-/// The prices that the search goes by.
+/// The prices that the search goes by: the empty set's own or the moved ones, where it
+/// loses less.
 pub fn prices(orders: &Orders, hours: &Hours) -> ByHour<u32> {
+    let empty = prices_at(hours, &hours.off);
     let moved = moved_prices(orders, hours);
-    if MAY_STAY {
-        let empty = prices_at(hours, &hours.off);
-        if empty_loss(orders, hours, &empty) <= empty_loss(orders, hours, &moved) {
-            return empty;
-        }
+    if empty_loss(orders, hours, &empty) <= empty_loss(orders, hours, &moved) {
+        empty
+    } else {
+        moved
     }
-    moved
 }
 
 /// What the empty set loses at prices: the gaps at its places, and what the blocks

@@ -276,7 +276,7 @@ fn choices(orders: &Orders, root: &ByHour<u32>) -> Vec<Choice> {
 
 /// The next twin that is taken before block i and the next one after it, as bits: a
 /// sell with a lower limit goes first, a buy with a higher one, of equals the earlier.
-/// Of several next ones that are equal it is the last, as in the proved code.
+/// Of equals it is the last ahead and the first behind, as in the proved code.
 fn twins_of(blocks: &[Block], i: usize) -> (u32, u32) {
     let block = &blocks[i];
     let is_twin = |other: &Block| {
@@ -296,7 +296,7 @@ fn twins_of(blocks: &[Block], i: usize) -> (u32, u32) {
             if ahead.is_none_or(|found| turn(found) <= turn(j)) {
                 ahead = Some(j);
             }
-        } else if behind.is_none_or(|found| turn(j) <= turn(found)) {
+        } else if behind.is_none_or(|found| turn(j) < turn(found)) {
             behind = Some(j);
         }
     }

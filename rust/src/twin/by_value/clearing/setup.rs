@@ -315,7 +315,7 @@ fn twin_behind(blocks: &[u32], i: usize) -> u32
     while j < i {
         let here = blocks[96 + j];
         let behind = (are_twins(blocks, i, j) & !is_no_worse(side, here, limit)) & trades;
-        let test = behind & is_no_worse(side, here, edge);
+        let test = behind & !is_no_worse(side, edge, here);
         let next = choose(test, (j + 1) as u32, found);
         let nearer = choose(test, here, edge);
         found = next;
@@ -404,9 +404,8 @@ fn closer(a: [u32; 24], b: [u32; 24]) -> [u32; 24]
     r
 }
 
-// The prices that the search goes by: those of the empty set, moved 200 times towards those at the average of the places so far at which the blocks
-// that gain are taken. Any prices are right; at these the losses of good sets are small.
-fn root_prices(
+// The empty set's prices, moved 200 times towards those at the average of the places so far at which the blocks that gain are taken.
+fn moved_prices(
     low: &[u32],
     off: [u32; 24],
     count: usize,
@@ -430,6 +429,105 @@ fn root_prices(
         n += 1;
     }
     root
+}
+
+// What an hour at the place from loses at a price below its own: how far the prices of the places above stand over it.
+fn gap_up(low: &[u32], row: usize, from: usize, price: u32) -> u64
+{
+    let mut sum: u64 = 0;
+    let mut i = from + 1;
+    while i < 1602 {
+        let cell = low[row + i];
+        if cell <= price {
+            return sum;
+        }
+        sum += (cell - price) as u64;
+        i += 1;
+    }
+    sum
+}
+
+// What it loses at a price above its own: how far the prices of the places down from it stand under it.
+fn gap_down(low: &[u32], row: usize, from: usize, price: u32) -> u64
+{
+    let mut sum: u64 = 0;
+    let mut i = from;
+    while 0 < i {
+        let cell = low[row + i];
+        if price <= cell {
+            return sum;
+        }
+        sum += (price - cell) as u64;
+        i -= 1;
+    }
+    sum
+}
+
+// What the hours at the places off lose at the prices.
+fn gaps_from(low: &[u32], off: [u32; 24], prices: [u32; 24]) -> u64
+{
+    let mut sum: u64 = 0;
+    let mut h: usize = 0;
+    while h < 24 {
+        let row = h * 1602;
+        let from = off[h] as usize;
+        let up = gap_up(low, row, from, prices[h]);
+        let down = gap_down(low, row, from, prices[h]);
+        sum += up + down;
+        h += 1;
+    }
+    sum
+}
+
+// What a block gains at a sum of prices over its hours.
+fn gain_of(side: u8, quantity: u32, limit: u32, sum: u32) -> u32
+{
+    quantity * by_side(side, less(limit, sum), less(sum, limit))
+}
+
+// What the blocks gain at the prices root.
+fn gains_at(
+    count: usize,
+    sides: [u8; 32],
+    hours: [u32; 32],
+    prices: [u32; 32],
+    quantities: [u32; 32],
+    root: [u32; 24],
+) -> u64
+{
+    let mut gains: u64 = 0;
+    let mut i: usize = 0;
+    while i < count {
+        let limit = prices[i] * hour_count(hours[i]);
+        let sum = price_sum(root, hours[i]);
+        let gain = gain_of(sides[i], quantities[i], limit, sum);
+        gains += gain as u64;
+        i += 1;
+    }
+    gains
+}
+
+// The prices that the search goes by: the empty set's own or the moved ones, where it loses less. At its own its hours lose nothing. Any prices are right.
+fn root_prices(
+    low: &[u32],
+    off: [u32; 24],
+    count: usize,
+    sides: [u8; 32],
+    hours: [u32; 32],
+    prices: [u32; 32],
+    quantities: [u32; 32],
+) -> [u32; 24]
+{
+    let own = prices_at(low, off);
+    let other = moved_prices(low, off, count, sides, hours, prices, quantities);
+    let own_loss = gains_at(count, sides, hours, prices, quantities, own);
+    let other_gains = gains_at(count, sides, hours, prices, quantities, other);
+    let other_gaps = gaps_from(low, off, other);
+    if own_loss <= other_gains + other_gaps {
+        own
+    } else {
+        other
+    }
 }
 
 // All that the search is given, from the columns of a book's steps and blocks; low and gap are its two tables, 24 rows of 1,602 places.
