@@ -15,7 +15,7 @@ use Rattle.rules.specs.Day.{sumTo}
 use Rattle.rules.proofs.DualityLaws.{value, cost}
 use Rattle.orders.specs.Columns.{stepsFrom}
 use Rattle.pricing.specs.Curves.{Columns, TradesOf}
-use Rattle.clearing.specs.Search.{Small}
+use Rattle.search.specs.Search.{Small}
 use Rattle.clearing.specs.Publish.{
   FirstSmall,
   HourDone,

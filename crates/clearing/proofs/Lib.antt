@@ -1,19 +1,10 @@
--- Laws of the clearing: the result's bytes, the promise read off them, the search, and the publication.
+-- Laws of the clearing: the result's bytes, the promise read off them, and the publication.
 pub mod ByteLaws
 pub mod RowLaws
 pub mod ReadLaws
 pub mod SizeLaws
 pub mod RowsLaws
 pub mod PromiseLaws
-pub mod HourColumnLaws
-pub mod LeafLaws
-pub mod BranchLaws
-pub mod ReachLaws
-pub mod PassLaws
-pub mod SetupTableLaws
-pub mod SetupBlockLaws
-pub mod SetupTwinLaws
-pub mod SetupLaws
 pub mod SumLaws
 pub mod WorthLaws
 pub mod HoursLaws

@@ -26,13 +26,13 @@ use Rattle.orders.proofs.HourLaws.{hour-from-columns}
 use Rattle.orders.proofs.PlaceLaws.{block-place}
 use Rattle.orders.proofs.BridgeLaws.{blocks-from-columns, block-count, day-blocks, prices-in-range, hours-in-range}
 use Rattle.pricing.specs.Curves.{tradersFrom}
-use Rattle.clearing.specs.Search.{ofHour}
+use Rattle.search.specs.Search.{ofHour}
 use Rattle.clearing.specs.Rows.{rowAt}
 use Rattle.clearing.specs.Result.{bytesOf, hourRows, recordRows, beside, blockRows, rowOf, resultBytes}
 use Rattle.clearing.specs.Publish.{FirstSmall, TradersSized, HoursDone, WorthOf, RowsOf, stepsAt, salesAt, buysAt, inTurn, getsAt}
 use Rattle.clearing.proofs.RowLaws.{records-same}
 use Rattle.clearing.proofs.HoursLaws.{small-take}
-use Rattle.clearing.proofs.BranchLaws.{sumTo-in, daySum-plain}
+use Rattle.search.proofs.BranchLaws.{sumTo-in, daySum-plain}
 use Rattle.clearing.proofs.RowsLaws.{
   hourAfterHour,
   publishedBlocks,

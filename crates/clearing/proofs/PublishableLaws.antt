@@ -20,10 +20,10 @@ use Rattle.orders.specs.declared.Blocks.{Blocks}
 use Rattle.orders.proofs.BridgeLaws.{prices-in-range, hours-in-range}
 use Rattle.orders.proofs.HourLaws.{ends-start, ends-rise, ends-fit}
 use Rattle.orders.proofs.PlaceLaws.{step-place, block-place}
-use Rattle.clearing.specs.Meaning.{DayOf}
+use Rattle.search.specs.Meaning.{DayOf}
 use Rattle.clearing.specs.Publish.{StepsSized, Publishable}
-use Rattle.clearing.specs.declared.search.Day as code-day
-use Rattle.clearing.proofs.BranchLaws.{counts}
+use Rattle.search.specs.declared.Day as code-day
+use Rattle.search.proofs.BranchLaws.{counts}
 use Rattle.clearing.proofs.RowsLaws.{publishedBlocks}
 
 module _ (b : List ℕ) (a : Accepted b) where

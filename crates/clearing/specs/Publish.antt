@@ -19,10 +19,10 @@ use Rattle.orders.specs.Bridge.{dayFrom}
 use Rattle.orders.specs.Columns.{StepColumns, BlockColumns, stepsFrom, blocksFrom}
 use Rattle.orders.specs.declared.Blocks.{Blocks}
 use Rattle.pricing.specs.Curves.{tradersFrom}
-use Rattle.clearing.specs.Search.{Small, ofHour}
-use Rattle.clearing.specs.Meaning.{DayOf}
+use Rattle.search.specs.Search.{Small, ofHour}
+use Rattle.search.specs.Meaning.{DayOf}
 use Rattle.clearing.specs.Result.{beside, resultBytes}
-use Rattle.clearing.specs.declared.search.Day as code-day
+use Rattle.search.specs.declared.Day as code-day
 
 -- Every one of the first n numbers of a list is at most m.
 abbrev pub FirstSmall : ℕ → ℕ → List ℕ → Type 0

@@ -7,18 +7,16 @@ ghost use Rattle.book.specs.Refusals.{Accepted};
 ghost use Rattle.clearing.specs.Promise.{Promise};
 ghost use Rattle.clearing.specs.Result.{resultBytes};
 use crate::publish::publish;
-use crate::search::find;
-use crate::setup::prepare;
 use book::Reading;
 use book::read;
 use book::record_count;
 use orders::blocks_of;
 use orders::steps_of;
+use search::find;
+use setup::prepare;
 
 mod publish; // the published set as the result
 mod result; // the result's bytes
-mod search; // the published set
-mod setup; // the tables of the search
 
 // What a clearing answers: the outcome is published, or refused with its number.
 pub enum Clearing {

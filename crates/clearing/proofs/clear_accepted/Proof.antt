@@ -4,7 +4,7 @@ use native.Mathlib.Omega.{arith}
 use mathlib.Core.Path.{_≡_, sym, _∙_}
 use lib.ListN.{length, getD}
 use Rattle.orders.proofs.HourLaws.{ends-fit}
-use Rattle.clearing.proofs.SetupLaws.{steps-held, blocks-held}
+use Rattle.setup.proofs.SetupLaws.{steps-held, blocks-held}
 use Rattle.clearing.proofs.PublishableLaws.{publishable}
 use borrow.Author.Needs.{needs}
 use Rattle.clearing.proofs.clear_accepted.Statement.{statement}

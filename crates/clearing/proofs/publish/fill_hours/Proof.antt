@@ -3,7 +3,7 @@ use Prim.Native.Nat.{_+_, _-_, _≤_}
 use mathlib.Core.Path.{_≡_, refl, _∙_}
 use native.Mathlib.Omega.{arith}
 use lib.ListN.{length}
-use Rattle.clearing.specs.Search.{ofHour}
+use Rattle.search.specs.Search.{ofHour}
 use Rattle.clearing.specs.Publish.{HoursDone, stepsAt, salesAt, buysAt}
 use Rattle.clearing.proofs.HoursLaws.{trades-are, trades-most, hour-inside, hour-part, hours-none, hours-more}
 use borrow.Author.Needs.{needs}

@@ -1,0 +1,570 @@
+-- The search's branches: a decided set at its tables is lawful or not and loses what they say; one more block taken or left out. Assumes nothing.
+use Prim.Native.Nat.{ℕ, zero, suc, _+_, _-_, _*_, _/_, _%_, _^_, _≤_, _<_}
+use mathlib.Core.Path.{_≡_, refl, sym, ap, ap₂, _∙_}
+use mathlib.Core.List.{List, [], _∷_, _++_}
+use mathlib.Core.Bool.{Bool, true, false, cond, not, _&&_, _||_}
+use native.Mathlib.Omega.{arith}
+use mathlib.Core.Logic.{_⊎_, inl, inr}
+use native.Mathlib.Nat.{eq-or-lt-of-le}
+use native.Mathlib.Numerals.{add-one, sub-one}
+use lib.Dec.{eqb, leb}
+use lib.ListN.{length, drop, getD, length-append}
+use lib.Seq.{drop-drop, getD-drop}
+use lib.Pow.{pow-mono}
+use borrow.Author.Tests.{eqb-true, eqb-false, eq-eqb, ne-eqb, not-true}
+use Rattle.book.specs.Records.{holdsHour}
+use Rattle.orders.specs.Columns.{sideFor}
+use Rattle.rules.specs.Orders.{Side, buy, sell, Block}
+use Rattle.rules.specs.Hour.{bySide, when, middle}
+use Rattle.rules.specs.Execution.{testSide}
+use Rattle.rules.specs.Day.{
+  Day,
+  weight,
+  sumTo,
+  daySum,
+  taken,
+  decisions,
+  overBlocks,
+  sells,
+  buys,
+  hourOf,
+  stepsIn,
+  setPrices,
+  hourCount,
+  priceSum,
+  keepsLimit,
+  everyBlock,
+  allowed,
+  lawful,
+}
+use Rattle.rules.specs.Contender.{Counts}
+use Rattle.rules.proofs.Tests.{by-test, by-eq, both, clash}
+use Rattle.rules.proofs.CurveLaws.{when-zero, when-le}
+use Rattle.rules.proofs.PricingLaws.{Clearable, net}
+use Rattle.rules.proofs.TableLaws.{unitPrice, unit-net, tablePrice}
+use Rattle.rules.proofs.NeighbourLaws.{slack}
+use Rattle.rules.proofs.LossLaws.{losses, lossOf, gaps, losses-taken, losses-left, bound-with}
+use Rattle.rules.proofs.LossSearchLaws as by-loss
+use Rattle.rules.proofs.TwinLaws.{Ahead, InTurn, turn-left, turn-taken}
+use Rattle.rules.proofs.SetBits.{bits-length, bits-at, bits-taken, bits-left, bits-room}
+use Rattle.rules.proofs.PlaceLaws.{
+  place,
+  hourAt,
+  pricesAt,
+  gapsAt,
+  place-is,
+  place-taken,
+  place-left,
+  gaps-by-place,
+  price-at-place,
+  lawful-by-places,
+  lawful-clears,
+  lawful-limits,
+  slack-at-place,
+}
+use Rattle.rules.proofs.LawCutLaws.{taken-passes}
+use Rattle.search.proofs.LeafLaws.{keepsHere}
+use Rattle.search.specs.Search.{
+  Small,
+  sumOfHours,
+  cell,
+  ofHour,
+  InRange,
+  GapsOf,
+  PricesOf,
+  sideAt,
+  hoursAt,
+  limitAt,
+  againstAt,
+  gainAt,
+  aheadAt,
+  behindAt,
+  rowAt,
+  isBarred,
+  isDue,
+  keepsAt,
+  allKeep,
+}
+use Rattle.search.specs.Meaning.{
+  BlocksSized,
+  Fits,
+  Shown,
+  Known,
+  Branch,
+  lossAbove,
+  bestAs,
+  DayOf,
+  Outcome,
+  Decided,
+  DroppedFrom,
+  ExploredFrom,
+  TakenTo,
+  LeftTo,
+}
+use Rattle.search.specs.declared.Best.{Best}
+use Rattle.search.specs.declared.Node.{Node}
+
+-- HOURS: today each counts once
+pub counts : (hours h : ℕ) → 1 ≤ h → h ≤ 24 → Counts hours h
+unfolding weight
+counts hours h a b = record { first = a; last = b; counted = omega arith }
+
+pub sumTo-in : (n : ℕ) (f g : ℕ → ℕ) → ((h : ℕ) → 1 ≤ h → h ≤ n → f h ≡ g h) → sumTo n f ≡ sumTo n g
+unfolding sumTo
+sumTo-in zero f g k = refl
+sumTo-in (suc n) f g k = ap₂ _+_ (sumTo-in n f g (λ h a b. k h a (omega arith))) (k (suc n) (omega arith) (omega arith))
+
+pub sumTo-add : (n : ℕ) (f g : ℕ → ℕ) → sumTo n (λ h. f h + g h) ≡ sumTo n f + sumTo n g
+unfolding sumTo
+sumTo-add zero f g = omega arith
+sumTo-add (suc n) f g = omega (arith, sumTo-add n f g)
+
+pub daySum-plain : (hours : ℕ) (f : ℕ → ℕ) → daySum hours f ≡ sumTo 24 f
+unfolding daySum weight
+daySum-plain hours f = sumTo-in 24 _ f (λ h a b. omega arith)
+
+-- A SET'S BLOCKS
+taken-le : (f : Block → ℕ) (l : List Block) (s : List Bool) → overBlocks f (taken l s) ≤ overBlocks f l
+taken-le f [] s = omega arith
+taken-le f (b ∷ l) [] = omega arith
+taken-le f (b ∷ l) (true ∷ s) = omega (arith, taken-le f l s)
+taken-le f (b ∷ l) (false ∷ s) = omega (arith, taken-le f l s)
+
+-- what passes for each taken block by its number
+passes-taken : (t : Block → Bool) (other : Block) (l : List Block) (s : List Bool) →
+    ((j : ℕ) → j < length l → getD s j false ≡ true → t (getD l j other) ≡ true) → everyBlock t (taken l s) ≡ true
+passes-taken t other [] s f = refl
+passes-taken t other (b ∷ l) [] f = refl
+passes-taken t other (b ∷ l) (true ∷ s) f = rw (f 0 (omega arith) refl, passes-taken t other l s (λ j k e. f (suc j) (omega arith) e))
+passes-taken t other (b ∷ l) (false ∷ s) f = passes-taken t other l s (λ j k e. f (suc j) (omega arith) e)
+
+-- the block at a number
+pub block-at : (l : List Block) (j : ℕ) (b : Block) (after : List Block) (other : Block) → drop j l ≡ b ∷ after → getD l j other ≡ b
+block-at [] zero b after other e = let z : _≡_ {A = ℕ} 0 1 = cc in absurd (omega arith)
+block-at [] (suc j) b after other e = let z : _≡_ {A = ℕ} 0 1 = cc in absurd (omega arith)
+block-at (x ∷ l) zero b after other e = cc
+block-at (x ∷ l) (suc j) b after other e = block-at l j b after other e
+
+-- ALL LIMITS, by the columns
+module _ (blocks : List ℕ) (set : ℕ) (high low : List ℕ) where
+  all-keep-at : (n j : ℕ) → allKeep blocks set high low n ≡ true → j < n → set / 2 ^ j % 2 ≡ 1 → keepsHere blocks set high low j ≡ true
+  unfolding allKeep
+  all-keep-at zero j e k c = absurd (omega arith)
+  all-keep-at (suc n) j e k c =
+      let t = both (not (eqb (set / 2 ^ n % 2) 1) || keepsHere blocks set high low n) (allKeep blocks set high low n) e in
+      elim (native.Mathlib.Decide.decLe n j) [
+        | yes a ↦
+            let z : j ≡ n = omega arith in
+            let c′ : set / 2 ^ n % 2 ≡ 1 = rw (sym z) c in
+            rw z (rw (eq-eqb (set / 2 ^ n % 2) 1 c′) at (t .0))
+        | no a ↦ all-keep-at n j (t .1) (native.Mathlib.Nat.lt-of-not-le a) c
+      ]
+
+  pub all-keep : (n : ℕ) → ((j : ℕ) → j < n → set / 2 ^ j % 2 ≡ 1 → keepsHere blocks set high low j ≡ true) → allKeep blocks set high low n ≡ true
+  unfolding allKeep
+  all-keep zero f = refl
+  all-keep (suc n) f =
+      rw (all-keep n (λ j k c. f j (omega arith) c))
+      (by-eq (λ t. ((not t || keepsHere blocks set high low n) && true) ≡ true) (set / 2 ^ n % 2) 1 (λ c. rw (f n (omega arith) c)) (λ c. refl))
+
+either-way : (t : Bool) (l : List ℕ) → cond t l l ≡ l
+either-way true l = refl
+either-way false l = refl
+
+same-test : (side side′ : Side) (sum sum′ limit limit′ : ℕ) → side ≡ side′ → sum ≡ sum′ → limit ≡ limit′ →
+    testSide side (leb sum limit) (leb limit sum) ≡ testSide side′ (leb sum′ limit′) (leb limit′ sum′)
+same-test side side′ sum sum′ limit limit′ a b c = rw (a, b, c)
+
+-- THE DAY AT ITS TABLES
+-- the price at a place, by the price table
+pub price-at-table : (day : Day) (p rest : ℕ → ℕ) (low gap first last blocks : List ℕ) (count : ℕ) → Known day p rest low gap first last blocks count →
+    (places prices : List ℕ) → PricesOf low places prices → (h : ℕ) → 1 ≤ h → h ≤ 24 → ofHour places h ≤ 1600 →
+    ofHour prices h ≡ pricesAt day (ofHour places) h
+unfolding pricesAt tablePrice
+price-at-table day p rest low gap first last blocks count known places prices priced h a b fits =
+    let i = ofHour places h in
+    let off = overBlocks (buys h) (day .blocks) in
+    omega (
+      arith,
+      priced .are h a b,
+      known .lowIs h i a b (omega arith),
+      known .lowIs h (i + 1) a b (omega arith),
+      unit-net (stepsIn h (day .steps)) (i + 1) (suc off) i off (omega arith),
+    )
+
+module _ (day : Day) (p rest : ℕ → ℕ) (low gap first last blocks : List ℕ) (count : ℕ) (known : Known day p rest low gap first last blocks count)
+    (set loss : ℕ) (places : List ℕ) (d : List Bool) (branch : Branch day p d set loss places) (whole : length d ≡ count) where
+  size : length d ≡ length (day .blocks)
+  size = whole ∙ sym (known .counted)
+
+  place-fits : (h : ℕ) → 1 ≤ h → h ≤ 24 → place (day .blocks) d h ≤ 1600
+  place-fits h a b =
+      omega (arith, place-is (day .blocks) d h size, taken-le (sells h) (day .blocks) d, known .fits h a b)
+
+  -- a lawful set's places are in range
+  lawful-in-range : lawful day d ≡ true → InRange first last places
+  lawful-in-range law h a b =
+      rw (branch .placesAre h a b)
+      (known .clearsOnly h (place (day .blocks) d h) a b (place-fits h a b) (lawful-clears day d size (known .prices) (known .hours) law h (counts (day .hours) h a b)))
+
+  module _ (inside : InRange first last places) where
+    clear-at : (h : ℕ) → 1 ≤ h → h ≤ 24 → Clearable (hourAt day h (place (day .blocks) d h))
+    clear-at h a b =
+        let r = inside h a b in
+        let e = branch .placesAre h a b in
+        known .clears h (place (day .blocks) d h) a b (place-fits h a b) (rw e at (r .0)) (rw e at (r .1))
+
+    -- the loss by the gap table
+    pub loss-is : (sum : ℕ) → sum ≡ sumTo 24 (λ h. cell gap h (ofHour places h)) → lossOf day p d ≡ loss + sum + daySum (day .hours) rest
+    unfolding lossOf gapsAt
+    loss-is sum e =
+        let gap-at : (h : ℕ) → 1 ≤ h → h ≤ 24 → gapsAt day p (place (day .blocks) d) h ≡ cell gap h (ofHour places h) + rest h = λ h a b.
+        let r = inside h a b in
+        rw (branch .placesAre h a b) (known .gapIs h (place (day .blocks) d h) a b (rw (branch .placesAre h a b) at (r .0)) (rw (branch .placesAre h a b) at (r .1))) in
+        omega (
+          arith,
+          branch .lossIs,
+          gaps-by-place day d size p,
+          daySum-plain (day .hours) (gapsAt day p (place (day .blocks) d)),
+          sumTo-in 24 (gapsAt day p (place (day .blocks) d)) (λ h. cell gap h (ofHour places h) + rest h) gap-at,
+          sumTo-add 24 (λ h. cell gap h (ofHour places h)) rest,
+          daySum-plain (day .hours) rest,
+        )
+
+    -- the prices by the price table
+    module _ (prices : List ℕ) (priced : PricesOf low places prices) where
+      price-at : (h : ℕ) → 1 ≤ h → h ≤ 24 → ofHour prices h ≡ pricesAt day (place (day .blocks) d) h
+      unfolding pricesAt
+      price-at h a b =
+          let e = branch .placesAre h a b in
+          let fits : ofHour places h ≤ 1600 = omega (arith, place-fits h a b) in
+          rw e at (price-at-table day p rest low gap first last blocks count known places prices priced h a b fits)
+
+      pub day-of : DayOf day d record { prices = prices; quantities = places }
+      day-of = record {
+        pricesAre = λ h a b. price-at h a b ∙ sym (price-at-place day d size (known .prices) (known .hours) h (clear-at h a b));
+        placesAre = branch .placesAre;
+      }
+
+      -- a block's limit by the columns
+      keeps-same : (j : ℕ) (s : Shown day p blocks j) →
+          keepsLimit (day .hours) (pricesAt day (place (day .blocks) d)) (s .block) ≡ keepsHere blocks set prices prices j
+      unfolding keepsLimit keepsAt priceSum sumOfHours
+      keeps-same j s =
+          let sum : daySum (day .hours) (λ h. when (s .block .runs h) (pricesAt day (place (day .blocks) d) h))
+          ≡ sumTo 24 (λ h. when (holdsHour (hoursAt blocks j) h) (getD prices (h - 1) 0)) =
+          daySum-plain (day .hours) _ ∙ sumTo-in 24 _ _ (λ h a b. rw (s .runsIs h, ← (price-at h a b))) in
+          rw (either-way (eqb (sideAt blocks j) 0) prices) (same-test _ _ _ _ _ _ (s .sideIs) sum (s .limitIs))
+
+      bit-is : (j : ℕ) → j < count → getD d j false ≡ eqb (set / 2 ^ j % 2) 1
+      bit-is j k = rw (← (branch .setIs)) (bits-at (length d) set j (omega arith))
+
+      other : Block
+      other = record { number = 0; side = buy; price = 0; quantity = 0; runs = λ h. false }
+
+      pub limits-kept : allKeep blocks set prices prices count ≡ true → lawful day d ≡ true
+      unfolding allowed
+      limits-kept e =
+          lawful-by-places day d size (known .prices) (known .hours) refl (λ h c. clear-at h (c .first) (c .last))
+          (passes-taken _ other (day .blocks) d (λ j k t.
+          let kc : j < count = omega (arith, known .counted) in
+          let s = known .shown j kc in
+          rw (block-at (day .blocks) j (s .block) _ other (s .next))
+          (keeps-same j s ∙ all-keep-at blocks set prices prices count j e kc (borrow.Author.Tests.eqb-true _ _ (sym (bit-is j kc) ∙ t)))))
+
+      pub limits-broken : allKeep blocks set prices prices count ≡ false → lawful day d ≡ true → ⊥
+      limits-broken e law =
+          clash (all-keep blocks set prices prices count (λ j k c.
+          let s = known .shown j k in
+          let t = taken-passes _ (day .blocks) d (lawful-limits day d size (known .prices) (known .hours) law) j other
+          (omega (arith, known .counted)) (bit-is j k ∙ eq-eqb _ 1 c) in
+          sym (keeps-same j s) ∙ rw (block-at (day .blocks) j (s .block) _ other (s .next)) at t)) e
+
+-- WHAT COMES BACK
+module _ (day : Day) (p rest : ℕ → ℕ) (count left : ℕ) (d : List Bool) (best : Best) where
+  -- the best as it was
+  pub as-it-was : ((t : List Bool) → length t ≡ left → lawful day (d ++ t) ≡ true → best .limit ≤ lossAbove day p rest (d ++ t)) →
+      Outcome day p rest count left d best best
+  as-it-was f = record {
+    explored = by-loss.branch-cut day (InTurn day p) (lossAbove day p rest) left d (bestAs count best) (λ t l law _. f t l law);
+    same = λ _. refl;
+    found = λ k. absurd (omega arith);
+  }
+
+-- the set itself
+module _ (day : Day) (p rest : ℕ → ℕ) (count : ℕ) (d : List Bool) (set : ℕ) (best r : Best) where
+  pub newly-found : decisions count set ≡ d → set < 2 ^ count → r .set ≡ set → r .limit ≡ lossAbove day p rest d → r .limit < best .limit →
+      lawful day d ≡ true → DayOf day d (r .day) → Outcome day p rest count 0 d best r
+  newly-found e room es el less law of =
+      let is : decisions count (r .set) ≡ d = rw es e in
+      record {
+        explored = rw (is, el) (by-loss.leaf-lowered day (InTurn day p) (lossAbove day p rest) d (bestAs count best) law (rw (sym el) less));
+        same = λ z. absurd (omega arith);
+        found = λ _. (rw es room, rw is of);
+      }
+
+-- A DECIDED SET, one law for each way out
+module _ (low gap first last blocks : List ℕ) (count set loss : ℕ) (places : List ℕ) (best : Best) (clears : Bool) (sum : ℕ)
+    (gapped : GapsOf gap first last places clears sum) where
+  leaf-as-it-was : (day : Day) (p rest : ℕ → ℕ) (d : List Bool) → (lawful day d ≡ true → best .limit ≤ lossAbove day p rest d) →
+      Outcome day p rest count 0 d best best
+  leaf-as-it-was day p rest d f = record {
+    explored = by-loss.leaf-kept day (InTurn day p) (lossAbove day p rest) d (bestAs count best) (λ law _. f law);
+    same = λ _. refl;
+    found = λ k. absurd (omega arith);
+  }
+
+  -- some hour does not clear
+  pub decided-unclear : clears ≡ false → Decided low gap first last blocks count set loss places best best
+  decided-unclear e day p rest d known branch whole room =
+      leaf-as-it-was day p rest d
+      (λ law. absurd (gapped .notInRange e (lawful-in-range day p rest low gap first last blocks count known set loss places d branch whole law)))
+
+  module _ (e : clears ≡ true) where
+    loss-here : (day : Day) (p rest : ℕ → ℕ) (d : List Bool) → Known day p rest low gap first last blocks count → Branch day p d set loss places →
+        length d ≡ count → lossAbove day p rest d ≡ loss + sum
+    unfolding lossAbove
+    loss-here day p rest d known branch whole =
+        omega (arith, loss-is day p rest low gap first last blocks count known set loss places d branch whole (gapped .inRange e) sum (gapped .sumIs e))
+
+    -- it loses as much as the best or more
+    pub decided-worse : best .limit ≤ loss + sum → Decided low gap first last blocks count set loss places best best
+    decided-worse k day p rest d known branch whole room =
+        leaf-as-it-was day p rest d (λ law. omega (arith, loss-here day p rest d known branch whole))
+
+    module _ (prices : List ℕ) (priced : PricesOf low places prices) where
+      -- a block misses its limit
+      pub decided-broken : allKeep blocks set prices prices count ≡ false → Decided low gap first last blocks count set loss places best best
+      decided-broken k day p rest d known branch whole room =
+          leaf-as-it-was day p rest d (λ law. absurd (limits-broken day p rest low gap first last blocks count known set loss places d branch whole
+          (gapped .inRange e) prices priced k law))
+
+      -- it is lawful and loses less
+      pub decided-better : allKeep blocks set prices prices count ≡ true → loss + sum < best .limit →
+          Decided low gap first last blocks count set loss places best
+          record { limit = loss + sum; set = set; day = record { prices = prices; quantities = places } }
+      decided-better k less day p rest d known branch whole room =
+          let in-range = gapped .inRange e in
+          newly-found day p rest count d set best _ (rw whole at (branch .setIs)) room refl (sym (loss-here day p rest d known branch whole)) less
+          (limits-kept day p rest low gap first last blocks count known set loss places d branch whole in-range prices priced k)
+          (day-of day p rest low gap first last blocks count known set loss places d branch whole in-range prices priced)
+
+-- ONE MORE BLOCK, in the code's numbers
+-- places that grow by at most a block's quantity
+pub places-grow : (n : ℕ) (places r : List ℕ) → length r ≡ 24 → Small (n * 50000) places →
+    ((h : ℕ) → 1 ≤ h → h ≤ 24 → ofHour r h ≤ ofHour places h + 50000) → Small ((n + 1) * 50000) r
+places-grow n places r e small f i = at (native.Mathlib.Decide.decLe 24 i)
+  where
+    at : Dec (24 ≤ i) → getD r i 0 ≤ (n + 1) * 50000
+    at (yes k) = let z : length r ≤ i = omega arith in rw (lib.ListN.List·getD-eq-default r 0 z) (omega arith)
+    at (no k) =
+        let a = rw sub-one at (f (suc i) (omega arith) (omega (arith, native.Mathlib.Nat.lt-of-not-le k))) in
+        omega (arith, small i)
+
+-- the node with the block taken, and with it left out
+module _ (blocks : List ℕ) (at : ℕ) (node : Node) (moved : List ℕ) (sized : BlocksSized blocks)
+    (fits : Fits at (node .set) (node .loss) (node .places)) (size : length moved ≡ 24) where
+  abbrev MovedBy : Bool → Type 0
+  MovedBy t = (h : ℕ) → 1 ≤ h → h ≤ 24 → ofHour moved h ≡ ofHour (node .places) h + when t (rowAt blocks at h)
+
+  moved-fits : (t : Bool) → MovedBy t → Small ((at + 1) * 50000) moved
+  moved-fits t m =
+      places-grow at (node .places) moved size (fits .placesFit) (λ h a b.
+      omega (arith, m h a b, when-le t (rowAt blocks at h), sized .rowsFit at h))
+
+  pub node-taken : (b : ℕ) → b ≡ 2 ^ at → againstAt blocks at < 2 ^ 32 → MovedBy (not (eqb (sideAt blocks at) 0)) →
+      Fits (at + 1) (node .set + b) (node .loss + againstAt blocks at) moved
+      × TakenTo blocks at node record { set = node .set + b; loss = node .loss + againstAt blocks at; places = moved }
+  node-taken b eb small m = (
+    record {
+      setFits = rw (eb, add-one) (bits-room at (node .set) (fits .setFits) .0);
+      lossFits = omega (arith, fits .lossFits);
+      placesSize = size;
+      placesFit = moved-fits (not (eqb (sideAt blocks at) 0)) m;
+    },
+    record { setIs = rw eb; lossIs = refl; placesAre = m },
+  )
+
+  pub node-left : gainAt blocks at < 2 ^ 32 → MovedBy (eqb (sideAt blocks at) 0) →
+      Fits (at + 1) (node .set) (node .loss + gainAt blocks at) moved
+      × LeftTo blocks at node record { set = node .set; loss = node .loss + gainAt blocks at; places = moved }
+  node-left small m = (
+    record {
+      setFits = rw add-one (bits-room at (node .set) (fits .setFits) .1);
+      lossFits = omega (arith, fits .lossFits);
+      placesSize = size;
+      placesFit = moved-fits (eqb (sideAt blocks at) 0) m;
+    },
+    record { setIs = refl; lossIs = refl; placesAre = m },
+  )
+
+-- what a block sells and buys in an hour, by its row
+sells-row : (side : ℕ) (t : Bool) (q : ℕ) → when t (bySide (sideFor side) 0 q) ≡ when (not (eqb side 0)) (when t q)
+sells-row zero t q = when-zero t
+sells-row (suc side) t q = rw (ne-eqb (suc side) 0 (omega arith))
+
+buys-row : (side : ℕ) (t : Bool) (q : ℕ) → when t (bySide (sideFor side) q 0) ≡ when (eqb side 0) (when t q)
+buys-row zero t q = refl
+buys-row (suc side) t q = rw (ne-eqb (suc side) 0 (omega arith)) (when-zero t)
+
+module _ (day : Day) (p : ℕ → ℕ) (blocks : List ℕ) (j : ℕ) (s : Shown day p blocks j) (h : ℕ) (a : 1 ≤ h) (b : h ≤ 24) where
+  pub sells-at : sells h (s .block) ≡ when (not (eqb (sideAt blocks j) 0)) (rowAt blocks j h)
+  sells-at = rw (s .sideIs, s .rowIs h a b) (sells-row (sideAt blocks j) (s .block .runs h) (s .block .quantity))
+
+  pub buys-at : buys h (s .block) ≡ when (eqb (sideAt blocks j) 0) (rowAt blocks j h)
+  buys-at = rw (s .sideIs, s .rowIs h a b) (buys-row (sideAt blocks j) (s .block .runs h) (s .block .quantity))
+
+-- the branch with the block taken, and with it left out
+module _ (day : Day) (p rest : ℕ → ℕ) (low gap first last blocks : List ℕ) (count : ℕ) (known : Known day p rest low gap first last blocks count)
+    (d : List Bool) (node r : Node) (branch : Branch day p d (node .set) (node .loss) (node .places)) (room : node .set < 2 ^ length d)
+    (k : length d < count) where
+  S : Shown day p blocks (length d)
+  S = known .shown (length d) k
+
+  longer : (x : Bool) → length (d ++ (x ∷ [])) ≡ suc (length d)
+  longer x = length-append d (x ∷ []) ∙ omega arith
+
+  pub branch-taken : TakenTo blocks (length d) node r → Branch day p (d ++ (true ∷ [])) (r .set) (r .loss) (r .places)
+  branch-taken t = record {
+    setIs = rw (longer true, t .setIs, bits-taken (length d) (node .set) room, branch .setIs);
+    lossIs = t .lossIs ∙ rw (branch .lossIs, ← (S .againstIs)) (sym (losses-taken (day .hours) p (day .blocks) d (S .block) _ (S .next)));
+    placesAre = λ h a b.
+        t .placesAre h a b ∙ rw (branch .placesAre h a b, ← (sells-at day p blocks (length d) S h a b)) (sym (place-taken (day .blocks) d (S .block) _ (S .next) h));
+  }
+
+  pub branch-left : LeftTo blocks (length d) node r → Branch day p (d ++ (false ∷ [])) (r .set) (r .loss) (r .places)
+  branch-left t = record {
+    setIs = rw (longer false, t .setIs, bits-left (length d) (node .set) room, branch .setIs);
+    lossIs = t .lossIs ∙ rw (branch .lossIs, ← (S .gainIs)) (sym (losses-left (day .hours) p (day .blocks) d (S .block) _ (S .next)));
+    placesAre = λ h a b.
+        t .placesAre h a b ∙ rw (branch .placesAre h a b, ← (buys-at day p blocks (length d) S h a b)) (sym (place-left (day .blocks) d (S .block) _ (S .next) h));
+  }
+
+-- a set of fewer than 32 blocks and one more fits 32 bits
+pub set-room : (at set b : ℕ) → at < 32 → set < 2 ^ at → b ≡ 2 ^ at → set + b < 2 ^ 32
+set-room at set b k room e = rw e (omega (arith, bits-room at set room, pow-mono {i = suc at} {j = 32} k))
+
+-- A BRANCH, one law for each way out
+module _ (low gap first last blocks : List ℕ) (count : ℕ) where
+  -- a lawful set's places are in range
+  pub lawful-place : (day : Day) (p rest : ℕ → ℕ) → Known day p rest low gap first last blocks count → (s : List Bool) → length s ≡ count →
+      lawful day s ≡ true → (h : ℕ) → 1 ≤ h → h ≤ 24 → (ofHour first h ≤ place (day .blocks) s h) × (place (day .blocks) s h ≤ ofHour last h)
+  lawful-place day p rest known s size law h a b =
+      let n : length s ≡ length (day .blocks) = size ∙ sym (known .counted) in
+      let i = place (day .blocks) s h in
+      let f : i ≤ 1600 = omega (arith, place-is (day .blocks) s h n, taken-le (sells h) (day .blocks) s, known .fits h a b) in
+      known .clearsOnly h i a b f (lawful-clears day s n (known .prices) (known .hours) law h (counts (day .hours) h a b))
+
+  -- and its gaps by the table
+  pub gap-of-lawful : (day : Day) (p rest : ℕ → ℕ) → Known day p rest low gap first last blocks count → (s : List Bool) → length s ≡ count →
+      lawful day s ≡ true → (h : ℕ) → Counts (day .hours) h →
+      slack (p h) (hourOf day (taken (day .blocks) s) h) ≡ cell gap h (place (day .blocks) s h) + rest h
+  gap-of-lawful day p rest known s size law h c =
+      let r = lawful-place day p rest known s size law h (c .first) (c .last) in
+      slack-at-place day s (size ∙ sym (known .counted)) h (p h)
+      ∙ known .gapIs h (place (day .blocks) s h) (c .first) (c .last) (r .0) (r .1)
+
+  -- what the tables leave off is no more
+  pub rest-below : (day : Day) (p rest : ℕ → ℕ) → Known day p rest low gap first last blocks count → (s : List Bool) → length s ≡ count →
+      lawful day s ≡ true → (h : ℕ) → Counts (day .hours) h → rest h ≤ slack (p h) (hourOf day (taken (day .blocks) s) h)
+  rest-below day p rest known s size law h c = omega (arith, gap-of-lawful day p rest known s size law h c)
+
+  module _ (turn : List ℕ) where
+    -- the branch is dropped
+    pub explored-dropped : (left : ℕ) (node : Node) (best : Best) → DroppedFrom low gap first last turn blocks count left node (best .limit) →
+        ExploredFrom low gap first last turn blocks count left node best best
+    explored-dropped left node best dropped day p rest d known turning branch size =
+        as-it-was day p rest count left d best (λ t l law. dropped day p rest d t known turning branch size l law)
+
+    -- no block is left
+    pub explored-decided : (left : ℕ) (node : Node) (best r : Best) → left ≡ 0 → node .set < 2 ^ count →
+        Decided low gap first last blocks count (node .set) (node .loss) (node .places) best r →
+        ExploredFrom low gap first last turn blocks count left node best r
+    explored-decided left node best r e room f day p rest d known turning branch size =
+        rw e (f day p rest d known branch (omega arith) room)
+
+    -- a block is taken and then left out
+    pub explored-both : (left : ℕ) (node taken-node left-node : Node) (best m r : Best) → 0 < left → left ≤ count →
+        node .set < 2 ^ (count - left) → TakenTo blocks (count - left) node taken-node → LeftTo blocks (count - left) node left-node →
+        ExploredFrom low gap first last turn blocks count (left - 1) taken-node best m →
+        ExploredFrom low gap first last turn blocks count (left - 1) left-node m r →
+        ExploredFrom low gap first last turn blocks count left node best r
+    explored-both left node nt nl best m r pos le room t l f g day p rest d known turning branch size =
+        let at : count - left ≡ length d = omega arith in
+        let k : length d < count = omega arith in
+        let room′ : node .set < 2 ^ length d = rw (← at) room in
+        let bt = branch-taken day p rest low gap first last blocks count known d node nt branch room′ k (rw at at t) in
+        let bl = branch-left day p rest low gap first last blocks count known d node nl branch room′ k (rw at at l) in
+        let a = f day p rest (d ++ (true ∷ [])) known turning bt (omega (arith, length-append d (true ∷ []))) in
+        let b = g day p rest (d ++ (false ∷ [])) known turning bl (omega (arith, length-append d (false ∷ []))) in
+        let one : suc (left - 1) ≡ left = omega arith in
+        let lower₁ : m .limit ≤ best .limit = a .explored .noMore in
+        let lower₂ : r .limit ≤ m .limit = b .explored .noMore in
+        record {
+          explored = rw one at (by-loss.joined day (InTurn day p) (lossAbove day p rest) (left - 1) d _ _ _ (a .explored) (b .explored));
+          same = λ e. b .same (omega arith) ∙ a .same (omega arith);
+          found = λ less. by-which less a b lower₂ (eq-or-lt-of-le lower₂);
+        }
+      where
+        by-which : {day : Day} {p rest : ℕ → ℕ} {dt dl : List Bool} → r .limit < best .limit →
+            Outcome day p rest count (left - 1) dt best m → Outcome day p rest count (left - 1) dl m r → r .limit ≤ m .limit →
+            (r .limit ≡ m .limit) ⊎ (r .limit < m .limit) → (r .set < 2 ^ count) × DayOf day (decisions count (r .set)) (r .day)
+        by-which less a b le (inl e) = rw (b .same e) (a .found (omega arith))
+        by-which less a b le (inr e) = b .found e
+
+    -- of twins, one that is not taken after the other is left out, or taken
+    decided-bit : (day : Day) (p : ℕ → ℕ) (d : List Bool) (set loss : ℕ) (places : List ℕ) → Branch day p d set loss places → (a : ℕ) → a < length d →
+        getD d a false ≡ eqb (set / 2 ^ a % 2) 1
+    decided-bit day p d set loss places branch a k = rw (← (branch .setIs)) (bits-at (length d) set a k)
+
+    pub explored-left : (left : ℕ) (node left-node : Node) (best r : Best) → 0 < left → left ≤ count → node .set < 2 ^ (count - left) →
+        isBarred blocks (count - left) (node .set) ≡ true → LeftTo blocks (count - left) node left-node →
+        ExploredFrom low gap first last turn blocks count (left - 1) left-node best r →
+        ExploredFrom low gap first last turn blocks count left node best r
+    unfolding isBarred
+    explored-left left node nl best r pos le room barred l g day p rest d known turning branch size =
+        let at : count - left ≡ length d = omega arith in
+        let k : length d < count = omega arith in
+        let room′ : node .set < 2 ^ length d = rw (← at) room in
+        let bl = branch-left day p rest low gap first last blocks count known d node nl branch room′ k (rw at at l) in
+        let b = g day p rest (d ++ (false ∷ [])) known turning bl (omega (arith, length-append d (false ∷ []))) in
+        let one : suc (left - 1) ≡ left = omega arith in
+        let tests = both (not (eqb (aheadAt blocks (length d)) 0)) (eqb (node .set / 2 ^ (aheadAt blocks (length d) - 1) % 2) 0) (rw at at barred) in
+        let some = eqb-false (aheadAt blocks (length d)) 0 (not-true _ (tests .0)) in
+        let a = aheadAt blocks (length d) - 1 in
+        let is : aheadAt blocks (length d) ≡ suc (aheadAt blocks (length d) - 1) = omega arith in
+        let twin = known .ahead (length d) (aheadAt blocks (length d) - 1) k is in
+        let zero-bit = eqb-true (node .set / 2 ^ (aheadAt blocks (length d) - 1) % 2) 0 (tests .1) in
+        let out : getD d (aheadAt blocks (length d) - 1) false ≡ false =
+        decided-bit day p d _ _ _ branch (aheadAt blocks (length d) - 1) (twin .0) ∙ ne-eqb (node .set / 2 ^ (aheadAt blocks (length d) - 1) % 2) 1 (λ e. omega arith) in
+        record {
+          explored = rw one at (by-loss.only-left day (InTurn day p) (lossAbove day p rest) (left - 1) d _ _
+              (λ t _ _ kept. turn-left day p d (aheadAt blocks (length d) - 1) (twin .0) (twin .1) out t kept) (b .explored));
+          same = b .same;
+          found = b .found;
+        }
+
+    pub explored-taken : (left : ℕ) (node taken-node : Node) (best r : Best) → 0 < left → left ≤ count → node .set < 2 ^ (count - left) →
+        isDue blocks (count - left) (node .set) ≡ true → TakenTo blocks (count - left) node taken-node →
+        ExploredFrom low gap first last turn blocks count (left - 1) taken-node best r →
+        ExploredFrom low gap first last turn blocks count left node best r
+    unfolding isDue
+    explored-taken left node nt best r pos le room due t f day p rest d known turning branch size =
+        let at : count - left ≡ length d = omega arith in
+        let k : length d < count = omega arith in
+        let room′ : node .set < 2 ^ length d = rw (← at) room in
+        let bt = branch-taken day p rest low gap first last blocks count known d node nt branch room′ k (rw at at t) in
+        let b = f day p rest (d ++ (true ∷ [])) known turning bt (omega (arith, length-append d (true ∷ []))) in
+        let one : suc (left - 1) ≡ left = omega arith in
+        let tests = both (not (eqb (behindAt blocks (length d)) 0)) (eqb (node .set / 2 ^ (behindAt blocks (length d) - 1) % 2) 1) (rw at at due) in
+        let some = eqb-false (behindAt blocks (length d)) 0 (not-true _ (tests .0)) in
+        let is : behindAt blocks (length d) ≡ suc (behindAt blocks (length d) - 1) = omega arith in
+        let twin = known .behind (length d) (behindAt blocks (length d) - 1) k is in
+        let inside : getD d (behindAt blocks (length d) - 1) false ≡ true =
+        decided-bit day p d _ _ _ branch (behindAt blocks (length d) - 1) (twin .0) ∙ tests .1 in
+        record {
+          explored = rw one at (by-loss.only-taken day (InTurn day p) (lossAbove day p rest) (left - 1) d _ _
+              (λ s _ _ kept. turn-taken day p d (behindAt blocks (length d) - 1) (twin .0) (twin .1) inside s kept) (b .explored));
+          same = b .same;
+          found = b .found;
+        }

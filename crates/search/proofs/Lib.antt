@@ -1,0 +1,6 @@
+-- Laws of the search: columns of 24 hours, a decided set at its tables, branches, what they can reach, a pass over all blocks.
+pub mod HourColumnLaws
+pub mod LeafLaws
+pub mod BranchLaws
+pub mod ReachLaws
+pub mod PassLaws

@@ -1,0 +1,524 @@
+-- THE REACH OF A BRANCH: the places of a lawful completion lie in it, so a branch is dropped where some hour has no place to balance, or where the least
+-- gaps in it come to too much. Assumes nothing.
+use Prim.Native.Nat.{ℕ, zero, suc, _+_, _-_, _*_, _/_, _%_, _^_, _≤_, _<_}
+use mathlib.Core.Path.{_≡_, refl, sym, _∙_}
+use mathlib.Core.List.{List, [], _∷_, _++_}
+use mathlib.Core.Bool.{Bool, true, false, cond, not, _&&_, _||_}
+use native.Mathlib.Omega.{arith}
+use native.Mathlib.Decide.{decLe}
+use native.Mathlib.Nat.{lt-of-not-le, suc-inj}
+use native.Mathlib.Numerals.{add-one, sub-one}
+use lib.Dec.{eqb, leb}
+use lib.ListN.{length, drop, getD, set, replicate, length-append, length-set, List·getD-append, List·getD-eq-default}
+use lib.Seq.{getD-set-same, getD-set-other}
+use borrow.Author.Tests.{leb-true, le-leb, lt-leb, eq-eqb, ne-eqb}
+use Rattle.book.specs.Records.{holdsHour}
+use Rattle.orders.specs.Columns.{sideFor}
+use Rattle.rules.specs.Orders.{Side, buy, sell, Block}
+use Rattle.rules.specs.Hour.{bySide, when}
+use Rattle.rules.specs.Execution.{testSide}
+use Rattle.rules.specs.Day.{Day, daySum, sumTo, taken, sells, buys, hourOf, priceSum, lawful}
+use Rattle.rules.specs.Contender.{Counts}
+use Rattle.rules.proofs.Tests.{by-test, by-le, both, clash}
+use Rattle.rules.proofs.CurveLaws.{when-zero, when-le}
+use Rattle.rules.proofs.NeighbourLaws.{slack}
+use Rattle.rules.proofs.BoundLaws.{gain}
+use Rattle.rules.proofs.LossLaws.{against, losses, bound-with}
+use Rattle.rules.proofs.SetBits.{bits-at}
+use Rattle.rules.proofs.PlaceLaws.{place, place-none, place-split, pricesAt}
+use Rattle.rules.proofs.LawCutLaws.{couldKeep, taken-could}
+use Rattle.search.specs.Search.{
+  Small,
+  sumOfHours,
+  cell,
+  ofHour,
+  PricesOf,
+  sideAt,
+  hoursAt,
+  rowAt,
+  limitAt,
+  againstAt,
+  gainAt,
+  keepsAt,
+  isLeft,
+  isTaken,
+  mustMove,
+  mayMove,
+  addedIn,
+  RestOf,
+  larger,
+  smaller,
+  nearest,
+  ReachOf,
+  leastGaps,
+  allKeep,
+}
+use Rattle.search.specs.Meaning.{Shown, Known, Turning, Branch, lossAbove, DroppedFrom}
+use Rattle.search.specs.declared.Node.{Node}
+use Rattle.search.proofs.LeafLaws.{zeros, below-next}
+use Rattle.search.proofs.BranchLaws.{
+  sumTo-in,
+  sumTo-add,
+  daySum-plain,
+  block-at,
+  sells-at,
+  buys-at,
+  all-keep,
+  price-at-table,
+  places-grow,
+  lawful-place,
+  gap-of-lawful,
+  rest-below,
+}
+
+-- THE LARGER AND THE SMALLER
+module _ (a b : ℕ) where
+  pub larger-least : (c : ℕ) → a ≤ c → b ≤ c → larger a b ≤ c
+  unfolding larger
+  larger-least c x y = by-le (λ t. cond t b a ≤ c) a b (λ _. y) (λ _. x)
+
+  pub larger-is : (a ≤ b → b ≡ larger a b) × (b < a → a ≡ larger a b)
+  unfolding larger
+  larger-is = (λ k. rw (le-leb a b k), λ k. rw (lt-leb a b k))
+
+  pub larger-above : (a ≤ larger a b) × (b ≤ larger a b)
+  unfolding larger
+  larger-above = by-le (λ t. (a ≤ cond t b a) × (b ≤ cond t b a)) a b (λ k. (k, omega arith)) (λ k. (omega arith, omega arith))
+
+  pub smaller-most : (c : ℕ) → c ≤ a → c ≤ b → c ≤ smaller a b
+  unfolding smaller
+  smaller-most c x y = by-le (λ t. c ≤ cond t a b) a b (λ _. x) (λ _. y)
+
+  pub smaller-is : (a ≤ b → a ≡ smaller a b) × (b < a → b ≡ smaller a b)
+  unfolding smaller
+  smaller-is = (λ k. rw (le-leb a b k), λ k. rw (lt-leb a b k))
+
+  pub smaller-below : (smaller a b ≤ a) × (smaller a b ≤ b)
+  unfolding smaller
+  smaller-below = by-le (λ t. (cond t a b ≤ a) × (cond t a b ≤ b)) a b (λ k. (omega arith, k)) (λ k. (omega arith, omega arith))
+
+-- numbers that fall to n and rise from it are least at the nearest to n
+pub nearest-least : (f : ℕ → ℕ) (n a b i : ℕ) → a ≤ i → i ≤ b →
+    ((x y : ℕ) → a ≤ x → x ≤ y → y ≤ b → y ≤ n → f y ≤ f x) → ((x y : ℕ) → a ≤ x → x ≤ y → y ≤ b → n ≤ x → f x ≤ f y) → f (nearest n a b) ≤ f i
+unfolding larger smaller
+nearest-least f n a b i x y falls rises =
+    by-le (λ t. f (cond (leb (cond t a n) b) (cond t a n) b) ≤ f i) n a
+    (λ k. by-le (λ t. f (cond t a b) ≤ f i) a b (λ _. rises a i (omega arith) x y k) (λ z. absurd (omega arith)))
+    (λ k. by-le (λ t. f (cond t n b) ≤ f i) n b
+    (λ z. elim (decLe n i) [
+      | yes w ↦ rises n i (omega arith) w y (omega arith)
+      | no w ↦ let v : i < n = lt-of-not-le w in falls i n x (omega arith) z (omega arith)
+    ])
+    (λ z. falls i b x y (omega arith) (omega arith)))
+
+-- WHETHER ONE BLOCK MOVES its places on, in the code's form
+pub moves-are : (blocks : List ℕ) (loss limit i : ℕ) →
+    (((isLeft blocks loss limit i && eqb (sideAt blocks i) 0) || (isTaken blocks loss limit i && not (eqb (sideAt blocks i) 0))) ≡ mustMove blocks loss limit i)
+    × ((not (isLeft blocks loss limit i) && not (isTaken blocks loss limit i)) ≡ mayMove blocks loss limit i)
+unfolding mustMove mayMove
+moves-are blocks loss limit i = (refl, refl)
+
+-- WHAT ONE BLOCK ADDS to an hour: where it is taken, or left out, at a loss below the limit
+module _ (blocks : List ℕ) (loss limit i row : ℕ) where
+  abbrev must-add : ℕ
+  must-add = when (mustMove blocks loss limit i) row
+
+  abbrev may-add : ℕ
+  may-add = when (mayMove blocks loss limit i) row
+
+  pub taken-adds : loss + againstAt blocks i < limit →
+      (must-add ≤ when (not (eqb (sideAt blocks i) 0)) row) × (when (not (eqb (sideAt blocks i) 0)) row ≤ must-add + may-add)
+  unfolding mustMove mayMove
+  taken-adds k = rw (lt-leb limit (loss + againstAt blocks i) k) (go (eqb (sideAt blocks i) 0) (isTaken blocks loss limit i))
+    where
+      go : (b t : Bool) → (when ((false && b) || (t && not b)) row ≤ when (not b) row)
+          × (when (not b) row ≤ when ((false && b) || (t && not b)) row + when (not false && not t) row)
+      go true true = (omega arith, omega arith)
+      go true false = (omega arith, omega arith)
+      go false true = (omega arith, omega arith)
+      go false false = (omega arith, omega arith)
+
+  pub left-adds : loss + gainAt blocks i < limit →
+      (must-add ≤ when (eqb (sideAt blocks i) 0) row) × (when (eqb (sideAt blocks i) 0) row ≤ must-add + may-add)
+  unfolding mustMove mayMove
+  left-adds k = rw (lt-leb limit (loss + gainAt blocks i) k) (go (eqb (sideAt blocks i) 0) (isLeft blocks loss limit i))
+    where
+      go : (b l : Bool) → (when ((l && b) || (false && not b)) row ≤ when b row)
+          × (when b row ≤ when ((l && b) || (false && not b)) row + when (not l && not false) row)
+      go true true = (omega arith, omega arith)
+      go true false = (omega arith, omega arith)
+      go false true = (omega arith, omega arith)
+      go false false = (omega arith, omega arith)
+
+-- THE PLACE OF THE REST at a loss below the limit
+module _ (day : Day) (p rest : ℕ → ℕ) (low gap first last blocks : List ℕ) (count : ℕ) (known : Known day p rest low gap first last blocks count)
+    (loss limit h : ℕ) (hour-first : 1 ≤ h) (hour-last : h ≤ 24) where
+  abbrev must : ℕ → ℕ → ℕ
+  must = addedIn blocks (mustMove blocks loss limit) h
+
+  abbrev may : ℕ → ℕ → ℕ
+  may = addedIn blocks (mayMove blocks loss limit) h
+
+  pub rest-within : (n i : ℕ) (t : List Bool) → i + n ≡ count → length t ≡ n → loss + losses (day .hours) p (drop i (day .blocks)) t < limit →
+      (must n i ≤ place (drop i (day .blocks)) t h) × (place (drop i (day .blocks)) t h ≤ must n i + may n i)
+  unfolding addedIn place losses
+  rest-within zero i [] e l k = let none = place-none (drop i (day .blocks)) h in (omega arith, omega arith)
+  rest-within zero i (x ∷ t) e l k = absurd (omega arith)
+  rest-within (suc n) i [] e l k = absurd (omega arith)
+  rest-within (suc n) i (true ∷ t) e l k =
+      let s = known .shown i (omega arith) in
+      let k′ : loss + (against (day .hours) p (s .block) + losses (day .hours) p (drop (suc i) (day .blocks)) t) < limit = rw (s .next) at k in
+      let one = taken-adds blocks loss limit i (rowAt blocks i h) (omega (arith, s .againstIs)) in
+      let more = rest-within n (suc i) t (omega arith) (suc-inj l) (omega arith) in
+      let adds = sells-at day p blocks i s h hour-first hour-last in
+      rw (s .next) (omega arith, omega arith)
+  rest-within (suc n) i (false ∷ t) e l k =
+      let s = known .shown i (omega arith) in
+      let k′ : loss + (gain (day .hours) p (s .block) + losses (day .hours) p (drop (suc i) (day .blocks)) t) < limit = rw (s .next) at k in
+      let one = left-adds blocks loss limit i (rowAt blocks i h) (omega (arith, s .gainIs)) in
+      let more = rest-within n (suc i) t (omega arith) (suc-inj l) (omega arith) in
+      let adds = buys-at day p blocks i s h hour-first hour-last in
+      rw (s .next) (omega arith, omega arith)
+
+-- LIMITS AT THE BEST PRICES WITHIN REACH, by the columns
+same-could : (side side′ : Side) (floor floor′ cap cap′ limit limit′ : ℕ) → side ≡ side′ → floor ≡ floor′ → cap ≡ cap′ → limit ≡ limit′ →
+    testSide side (leb floor limit) (leb limit cap) ≡ testSide side′ (leb floor′ limit′) (leb limit′ cap′)
+same-could side side′ floor floor′ cap cap′ limit limit′ a b c d = rw (a, b, c, d)
+
+module _ (day : Day) (p rest : ℕ → ℕ) (low gap first last blocks : List ℕ) (count : ℕ) (known : Known day p rest low gap first last blocks count)
+    (from to high lowest : List ℕ) (priced-high : PricesOf low from high) (priced-low : PricesOf low to lowest)
+    (from-fits : (h : ℕ) → 1 ≤ h → h ≤ 24 → ofHour from h ≤ 1600) (to-fits : (h : ℕ) → 1 ≤ h → h ≤ 24 → ofHour to h ≤ 1600)
+    (j : ℕ) (s : Shown day p blocks j) where
+  -- the sum of prices at places, by the table
+  sum-same : (at prices : List ℕ) → PricesOf low at prices → ((h : ℕ) → 1 ≤ h → h ≤ 24 → ofHour at h ≤ 1600) →
+      priceSum (day .hours) (pricesAt day (ofHour at)) (s .block) ≡ sumOfHours prices (hoursAt blocks j)
+  unfolding priceSum sumOfHours
+  sum-same at prices priced fits =
+      daySum-plain (day .hours) _
+      ∙ sumTo-in 24 _ _ (λ h a b. rw (s .runsIs h, ← (price-at-table day p rest low gap first last blocks count known at prices priced h a b (fits h a b))))
+
+  could-same : keepsAt (sideAt blocks j) (hoursAt blocks j) (limitAt blocks j) (cond (eqb (sideAt blocks j) 0) lowest high)
+      ≡ couldKeep (day .hours) (pricesAt day (ofHour from)) (pricesAt day (ofHour to)) (s .block)
+  unfolding keepsAt couldKeep
+  could-same =
+      go (sideAt blocks j) (limitAt blocks j)
+      ∙ sym (same-could _ _ _ _ _ _ _ _ (s .sideIs) (sum-same to lowest priced-low to-fits) (sum-same from high priced-high from-fits) (s .limitIs))
+    where
+      go : (side limit : ℕ) →
+          testSide (sideFor side) (leb (sumOfHours (cond (eqb side 0) lowest high) (hoursAt blocks j)) limit)
+          (leb limit (sumOfHours (cond (eqb side 0) lowest high) (hoursAt blocks j)))
+          ≡ testSide (sideFor side) (leb (sumOfHours lowest (hoursAt blocks j)) limit) (leb limit (sumOfHours high (hoursAt blocks j)))
+      go zero limit = refl
+      go (suc side) limit = rw (ne-eqb (suc side) 0 (omega arith))
+
+other : Block
+other = record { number = 0; side = buy; price = 0; quantity = 0; runs = λ h. false }
+
+-- a bound that holds where a number is below it holds
+unless : (limit n : ℕ) → (n < limit → limit ≤ n) → limit ≤ n
+unless limit n f = elim (decLe limit n) [
+  | yes k ↦ k
+  | no k ↦ f (lt-of-not-le k)
+]
+
+-- ONE LAW FOR EACH REASON to drop a branch
+module _ (low gap first last turn blocks : List ℕ) (count left : ℕ) (node : Node) (limit : ℕ) where
+  -- the decided blocks lose as much already
+  pub dropped-by-loss : limit ≤ node .loss → DroppedFrom low gap first last turn blocks count left node limit
+  unfolding lossAbove
+  dropped-by-loss k day p rest d t known turning branch size l law =
+      omega (
+        arith,
+        branch .lossIs,
+        bound-with day p d t 0 rest (omega arith) (rest-below low gap first last blocks count day p rest known (d ++ t) (length-append d t ∙ rw l size) law),
+      )
+
+  module _ (least free : List ℕ) (added : RestOf blocks count (count - left) (node .loss) limit (node .places) least free)
+      (balances : Bool) (from to : List ℕ) (reach : ReachOf first last least free balances from to) where
+    -- a lawful completion that loses less has its places from `from` to `to`
+    module _ (day : Day) (p rest : ℕ → ℕ) (d t : List Bool) (known : Known day p rest low gap first last blocks count)
+        (branch : Branch day p d (node .set) (node .loss) (node .places)) (size : length d + left ≡ count) (l : length t ≡ left)
+        (law : lawful day (d ++ t) ≡ true) where
+      whole : length (d ++ t) ≡ count
+      whole = length-append d t ∙ rw l size
+
+      rest-loses : lossAbove day p rest (d ++ t) < limit → node .loss + losses (day .hours) p (drop (length d) (day .blocks)) t < limit
+      unfolding lossAbove
+      rest-loses k =
+          omega (
+            arith,
+            branch .lossIs,
+            bound-with day p d t (losses (day .hours) p (drop (length d) (day .blocks)) t) rest (omega arith)
+                (rest-below low gap first last blocks count day p rest known (d ++ t) whole law),
+          )
+
+      in-reach : lossAbove day p rest (d ++ t) < limit → (h : ℕ) → 1 ≤ h → h ≤ 24 →
+          (ofHour from h ≤ place (day .blocks) (d ++ t) h) × (place (day .blocks) (d ++ t) h ≤ ofHour to h)
+      in-reach k h a b =
+          let here : count - left ≡ length d = omega arith in
+          let after : count - length d ≡ left = omega arith in
+          let range = lawful-place low gap first last blocks count day p rest known (d ++ t) whole law h a b in
+          let within = rest-within day p rest low gap first last blocks count known (node .loss) limit h a b left (length d) t size l (rest-loses k) in
+          let must = rw (here, after) at (added .leastIs h a b) in
+          let may = rw (here, after) at (added .freeIs h a b) in
+          let split = place-split (day .blocks) d t h in
+          let is = branch .placesAre h a b in (
+            rw (reach .fromIs h a b) (larger-least (ofHour least h) (ofHour first h) _ (omega arith) (range .0)),
+            rw (reach .toIs h a b) (smaller-most (ofHour least h + ofHour free h) (ofHour last h) _ (omega arith) (range .1)),
+          )
+
+      -- its gaps are at least the least gaps there
+      gaps-least : Turning gap first last turn → lossAbove day p rest (d ++ t) < limit → node .loss + leastGaps gap turn from to ≤ lossAbove day p rest (d ++ t)
+      unfolding lossAbove leastGaps
+      gaps-least turning k =
+          let g : ℕ → ℕ = λ h. cell gap h (nearest (ofHour turn h) (ofHour from h) (ofHour to h)) in
+          omega (
+            arith,
+            branch .lossIs,
+            bound-with day p d t 0 (λ h. g h + rest h) (omega arith) gap-least,
+            daySum-plain (day .hours) (λ h. g h + rest h),
+            sumTo-add 24 g rest,
+            daySum-plain (day .hours) rest,
+          )
+        where
+          gap-least : (h : ℕ) → Counts (day .hours) h →
+              cell gap h (nearest (ofHour turn h) (ofHour from h) (ofHour to h)) + rest h ≤ slack (p h) (hourOf day (taken (day .blocks) (d ++ t)) h)
+          gap-least h c =
+              let a = c .first in
+              let b = c .last in
+              let r = in-reach k h a b in
+              let above = larger-above (ofHour least h) (ofHour first h) .1 in
+              let below = smaller-below (ofHour least h + ofHour free h) (ofHour last h) .1 in
+              let from-is = reach .fromIs h a b in
+              let to-is = reach .toIs h a b in
+              omega (
+                arith,
+                gap-of-lawful low gap first last blocks count day p rest known (d ++ t) whole law h c,
+                nearest-least (λ i. cell gap h i) (ofHour turn h) (ofHour from h) (ofHour to h) (place (day .blocks) (d ++ t) h) (r .0) (r .1)
+                    (λ x y i j z w. turning .falls h x y a b (omega arith) j (omega arith) w)
+                    (λ x y i j z w. turning .rises h x y a b (omega arith) j (omega arith) w),
+              )
+
+      -- its taken blocks keep their limits at the best prices there
+      blocks-could : (high lowest : List ℕ) → PricesOf low from high → PricesOf low to lowest → balances ≡ true →
+          Small 1600 last → lossAbove day p rest (d ++ t) < limit → allKeep blocks (node .set) high lowest (count - left) ≡ true
+      blocks-could high lowest ph pl e small k =
+          all-keep blocks (node .set) high lowest (count - left) (λ j m bit.
+          let inside : j < count = omega arith in
+          let s = known .shown j inside in
+          let here : j < length d = omega arith in
+          let set-bit : getD (d ++ t) j false ≡ true =
+          List·getD-append d t false j here ∙ rw (← (branch .setIs)) (bits-at (length d) (node .set) j here ∙ eq-eqb _ 1 bit) in
+          let could = taken-could day (known .prices) (known .hours) (d ++ t) (whole ∙ sym (known .counted)) law (ofHour from) (ofHour to)
+          record { from = λ h c. in-reach k h (c .first) (c .last) .0; to = λ h c. in-reach k h (c .first) (c .last) .1 }
+          j other (omega (arith, known .counted)) set-bit in
+          could-same day p rest low gap first last blocks count known from to high lowest ph pl (fits-in .0) (fits-in .1) j s
+          ∙ rw (block-at (day .blocks) j (s .block) _ other (s .next)) at could)
+        where
+          fits-in : ((h : ℕ) → 1 ≤ h → h ≤ 24 → ofHour from h ≤ 1600) × ((h : ℕ) → 1 ≤ h → h ≤ 24 → ofHour to h ≤ 1600)
+          fits-in = (
+            λ h a b.
+                let below = smaller-below (ofHour least h + ofHour free h) (ofHour last h) .1 in
+                omega (arith, reach .balanced e h a b, reach .toIs h a b, small (h - 1)),
+            λ h a b.
+                let below = smaller-below (ofHour least h + ofHour free h) (ofHour last h) .1 in
+                omega (arith, reach .toIs h a b, small (h - 1)),
+          )
+
+    -- some hour can no longer balance
+    pub dropped-unbalanced : balances ≡ false → DroppedFrom low gap first last turn blocks count left node limit
+    dropped-unbalanced e day p rest d t known turning branch size l law =
+        unless _ _ (λ k. absurd (reach .unbalanced e (λ h a b.
+        let r = in-reach day p rest d t known branch size l law k h a b in omega arith)))
+
+    -- the least gaps within reach come to as much
+    pub dropped-by-gaps : limit ≤ node .loss + leastGaps gap turn from to → DroppedFrom low gap first last turn blocks count left node limit
+    dropped-by-gaps z day p rest d t known turning branch size l law =
+        unless _ _ (λ k. absurd (omega (arith, gaps-least day p rest d t known branch size l law turning k)))
+
+    -- a taken block misses its limit at the best prices within reach
+    pub dropped-by-limit : (high lowest : List ℕ) → PricesOf low from high → PricesOf low to lowest → balances ≡ true → Small 1600 last →
+        allKeep blocks (node .set) high lowest (count - left) ≡ false → DroppedFrom low gap first last turn blocks count left node limit
+    dropped-by-limit high lowest ph pl e small misses day p rest d t known turning branch size l law =
+        unless _ _ (λ k. clash (blocks-could day p rest d t known branch size l law high lowest ph pl e small k) misses)
+
+-- THE PLACES WITHIN REACH lie in the tables' rows
+column-small : (m : ℕ) (l : List ℕ) → length l ≡ 24 → ((h : ℕ) → h < 24 → getD l h 0 ≤ m) → Small m l
+column-small m l size f i = elim (decLe 24 i) [
+  | yes k ↦ let z : length l ≤ i = omega arith in rw (List·getD-eq-default l 0 z) (omega arith)
+  | no k ↦ f i (lt-of-not-le k)
+]
+
+module _ (first last least free : List ℕ) (balances : Bool) (from to : List ℕ) (reach : ReachOf first last least free balances from to)
+    (small : Small 1600 last) where
+  pub to-fits : (h : ℕ) → h < 24 → getD to h 0 ≤ 1600
+  to-fits h k =
+      let is = rw sub-one at (reach .toIs (suc h) (omega arith) (omega arith)) in
+      omega (arith, small h, smaller-below (getD least h 0 + getD free h 0) (getD last h 0) .1)
+
+  pub to-small : length to ≡ 24 → Small 1600 to
+  to-small size = column-small 1600 to size to-fits
+
+  pub from-small : balances ≡ true → length from ≡ 24 → Small 1600 from
+  from-small e size =
+      column-small 1600 from size (λ h k.
+      let le = rw sub-one at (reach .balanced e (suc h) (omega arith) (omega arith)) in
+      omega (arith, to-fits h k))
+
+-- THE LOOPS: the undecided blocks from the last on
+module _ (blocks : List ℕ) (count at loss limit : ℕ) (places : List ℕ) where
+  abbrev added : (ℕ → Bool) → ℕ → ℕ → ℕ
+  added moves h i = addedIn blocks moves h (count - i) i
+
+  pub record RestTo (i : ℕ) (least free : List ℕ) : Type 0 where
+    pub from : at ≤ i
+    pub to : i ≤ count
+    pub leastSize : length least ≡ 24
+    pub freeSize : length free ≡ 24
+    pub leastIs : (h : ℕ) → 1 ≤ h → h ≤ 24 → ofHour least h ≡ ofHour places h + added (mustMove blocks loss limit) h i
+    pub freeIs : (h : ℕ) → 1 ≤ h → h ≤ 24 → ofHour free h ≡ added (mayMove blocks loss limit) h i
+    pub leastFits : Small ((at + (count - i)) * 50000) least
+    pub freeFits : Small ((count - i) * 50000) free
+
+  pub rest-start : at ≤ count → length places ≡ 24 → Small (at * 50000) places → RestTo count places (replicate 24 0)
+  unfolding addedIn
+  rest-start few size small =
+      let none : count - count ≡ 0 = omega arith in
+      let same : at + (count - count) ≡ at = omega arith in
+      record {
+        from = few;
+        to = omega arith;
+        leastSize = size;
+        freeSize = refl;
+        leastIs = λ h a b. rw none (omega arith);
+        freeIs = λ h a b. rw none (zeros 24 (h - 1));
+        leastFits = rw same small;
+        freeFits = λ i. omega (arith, zeros 24 i);
+      }
+
+  -- one block more
+  one-more : (moves : ℕ → Bool) (h i : ℕ) → 0 < i → i ≤ count →
+      added moves h (i - 1) ≡ when (moves (i - 1)) (rowAt blocks (i - 1) h) + added moves h i
+  unfolding addedIn
+  one-more moves h i pos le =
+      let e : count - (i - 1) ≡ suc (count - i) = omega arith in
+      let f : suc (i - 1) ≡ i = omega arith in
+      rw (e, f)
+
+  pub rest-next : (i : ℕ) (least free more freer : List ℕ) → RestTo i least free → at < i → ((h : ℕ) → rowAt blocks (i - 1) h ≤ 50000) →
+      length more ≡ 24 → length freer ≡ 24 →
+      ((h : ℕ) → 1 ≤ h → h ≤ 24 → ofHour more h ≡ ofHour least h + when (mustMove blocks loss limit (i - 1)) (rowAt blocks (i - 1) h)) →
+      ((h : ℕ) → 1 ≤ h → h ≤ 24 → ofHour freer h ≡ ofHour free h + when (mayMove blocks loss limit (i - 1)) (rowAt blocks (i - 1) h)) →
+      RestTo (i - 1) more freer
+  rest-next i least free more freer r pos few sm sf m f =
+      let n₁ : at + (count - (i - 1)) ≡ at + (count - i) + 1 = omega (arith, r .to) in
+      let n₂ : count - (i - 1) ≡ count - i + 1 = omega (arith, r .to) in
+      record {
+        from = omega arith;
+        to = omega (arith, r .to);
+        leastSize = sm;
+        freeSize = sf;
+        leastIs = λ h x y.
+            omega (arith, m h x y, r .leastIs h x y, one-more (mustMove blocks loss limit) h i (omega arith) (r .to));
+        freeIs = λ h x y. omega (arith, f h x y, r .freeIs h x y, one-more (mayMove blocks loss limit) h i (omega arith) (r .to));
+        leastFits = rw n₁ (places-grow (at + (count - i)) least more sm (r .leastFits) (λ h x y.
+            omega (arith, m h x y, when-le (mustMove blocks loss limit (i - 1)) (rowAt blocks (i - 1) h), few h)));
+        freeFits = rw n₂ (places-grow (count - i) free freer sf (r .freeFits) (λ h x y.
+            omega (arith, f h x y, when-le (mayMove blocks loss limit (i - 1)) (rowAt blocks (i - 1) h), few h)));
+      }
+
+  pub rest-all : (i : ℕ) (least free : List ℕ) → RestTo i least free → i ≤ at → count ≤ 32 → RestOf blocks count at loss limit places least free
+  rest-all i least free r k few =
+      let e : i ≡ at = omega (arith, r .from) in
+      record {
+        leastIs = rw e at (r .leastIs);
+        freeIs = rw e at (r .freeIs);
+        leastFits = λ j. omega (arith, r .leastFits j, r .from, r .to);
+        freeFits = λ j. omega (arith, r .freeFits j, r .from, r .to);
+      }
+
+-- the hours one after the other
+module _ (gap turn from to : List ℕ) where
+  pub record LeastTo (h sum : ℕ) : Type 0 where
+    pub inside : h ≤ 24
+    pub is : sum ≡ sumTo h (λ k. cell gap k (nearest (ofHour turn k) (ofHour from k) (ofHour to k)))
+    pub fits : sum ≤ h * 2 ^ 32
+
+  pub least-start : LeastTo 0 0
+  unfolding sumTo
+  least-start = record { inside = omega arith; is = refl; fits = omega arith }
+
+  pub least-next : (h sum near : ℕ) → LeastTo h sum → h < 24 → near ≡ nearest (getD turn h 0) (getD from h 0) (getD to h 0) →
+      getD gap (h * 1602 + near) 0 < 2 ^ 32 → LeastTo (h + 1) (sum + getD gap (h * 1602 + near) 0)
+  unfolding sumTo
+  least-next h sum near g k e small = record { inside = omega arith; is = rw (g .is, e, add-one, sub-one); fits = omega (arith, g .fits) }
+
+  pub least-all : (h sum : ℕ) → LeastTo h sum → 24 ≤ h → (sum ≡ leastGaps gap turn from to) × (sum ≤ 24 * 2 ^ 32)
+  unfolding leastGaps
+  least-all h sum g k =
+      let e : h ≡ 24 = omega (arith, g .inside) in
+      (rw (g .is, e), omega (arith, g .fits))
+
+module _ (first last least free : List ℕ) where
+  abbrev lowestAt : ℕ → ℕ
+  lowestAt k = larger (getD least k 0) (getD first k 0)
+
+  abbrev highestAt : ℕ → ℕ
+  highestAt k = smaller (getD least k 0 + getD free k 0) (getD last k 0)
+
+  pub record ReachTo (h : ℕ) (balances : Bool) (from to : List ℕ) : Type 0 where
+    pub inside : h ≤ 24
+    pub fromSize : length from ≡ 24
+    pub toSize : length to ≡ 24
+    pub fromIs : (k : ℕ) → k < h → getD from k 0 ≡ lowestAt k
+    pub toIs : (k : ℕ) → k < h → getD to k 0 ≡ highestAt k
+    pub balanced : balances ≡ true → (k : ℕ) → k < h → lowestAt k ≤ highestAt k
+    pub unbalanced : balances ≡ false → ((k : ℕ) → k < h → lowestAt k ≤ highestAt k) → ⊥
+
+  pub reach-start : ReachTo 0 true (replicate 24 0) (replicate 24 0)
+  reach-start = record {
+    inside = omega arith;
+    fromSize = refl;
+    toSize = refl;
+    fromIs = λ k a. absurd (omega arith);
+    toIs = λ k a. absurd (omega arith);
+    balanced = λ _ k a. absurd (omega arith);
+    unbalanced = λ e. clash refl e;
+  }
+
+  pub reach-next : (h : ℕ) (balances : Bool) (from to : List ℕ) (lowest highest : ℕ) → ReachTo h balances from to → h < 24 →
+      lowest ≡ lowestAt h → highest ≡ highestAt h →
+      ReachTo (h + 1) (balances && leb lowest highest) (set from h lowest) (set to h highest)
+  reach-next h balances from to lowest highest r k el eh =
+      let inF : h < length from = omega (arith, r .fromSize) in
+      let inT : h < length to = omega (arith, r .toSize) in
+      record {
+        inside = omega arith;
+        fromSize = rw length-set (r .fromSize);
+        toSize = rw length-set (r .toSize);
+        fromIs = λ j a. below-next (λ i. getD (set from h lowest) i 0 ≡ lowestAt i) h j
+            (λ b. getD-set-other from h j lowest 0 (omega arith) ∙ r .fromIs j b) (getD-set-same from h lowest 0 inF ∙ el) (rw add-one at a);
+        toIs = λ j a. below-next (λ i. getD (set to h highest) i 0 ≡ highestAt i) h j
+            (λ b. getD-set-other to h j highest 0 (omega arith) ∙ r .toIs j b) (getD-set-same to h highest 0 inT ∙ eh) (rw add-one at a);
+        balanced = λ e j a.
+            let t = both balances (leb lowest highest) e in
+            below-next (λ i. lowestAt i ≤ highestAt i) h j (r .balanced (t .0) j) (rw (el, eh) at (leb-true lowest highest (t .1))) (rw add-one at a);
+        unbalanced = λ e f.
+            by-test (λ t. (t && leb lowest highest) ≡ false → balances ≡ t → ⊥) balances
+            (λ b x _. clash (rw (el, eh) (le-leb (lowestAt h) (highestAt h) (f h (omega arith)))) x)
+            (λ b _ _. r .unbalanced b (λ j a. f j (omega arith))) e refl;
+      }
+
+  pub reach-all : (h : ℕ) (balances : Bool) (from to : List ℕ) → ReachTo h balances from to → 24 ≤ h →
+      ReachOf first last least free balances from to
+  reach-all h balances from to r k =
+      let e : h ≡ 24 = omega (arith, r .inside) in
+      record {
+        fromIs = λ j a b. r .fromIs (j - 1) (omega arith);
+        toIs = λ j a b. r .toIs (j - 1) (omega arith);
+        balanced = λ t j a b.
+            omega (arith, r .balanced t (j - 1) (omega arith), r .fromIs (j - 1) (omega arith), r .toIs (j - 1) (omega arith));
+        unbalanced = λ t f. r .unbalanced t (λ j a.
+            let x = rw sub-one at (f (suc j) (omega arith) (omega arith)) in
+            omega (arith, r .fromIs j a, r .toIs j a));
+      }

@@ -1,0 +1,69 @@
+-- `search::find` meets its contract: a pass that finds a set has found the published one, and the last pass finds. Assumes nothing.
+use Prim.Native.Nat.{_-_, _≤_}
+use mathlib.Core.Path.{_≡_}
+use native.Mathlib.Omega.{arith}
+use Rattle.search.proofs.PassLaws.{root-fits, pass-is, pass-found}
+use borrow.Author.Needs.{needs}
+use Rattle.search.proofs.find.Statement.{statement}
+use Rattle.search.proofs.find.Tie as tie
+
+abbrev Inv-loop : tie.InvT-loop
+Inv-loop low gap hours blocks count day root limit₀ limit = (1 ≤ limit) × (limit ≤ 1099511627776)
+
+abbrev μ-loop : tie.MeasureT-loop
+μ-loop low gap hours blocks count day root limit₀ limit = 1099511627776 - limit
+
+loop-holds : tie.Need-loop-holds Inv-loop μ-loop
+loop-holds c = (omega arith, omega arith)
+
+explore-requires : tie.Need-explore-requires Inv-loop μ-loop
+explore-requires c κs =
+    let a = c .before .before .before .before .before .before in
+    let z : a .args .count - a .args .count ≡ 0 = omega arith in
+    (a .pre .0, a .pre .1, a .pre .2, omega arith, rw z root-fits)
+
+returns : tie.Need-returns Inv-loop μ-loop
+returns c =
+    let a = c .before .before .before .before .before .before .before .before .before in
+    λ day p rest known turning.
+    pass-is _ _ _ _ _ _ (a .pre .2) (λ i. omega (arith, c .before .before .before .before .before .shared-slice-known4 .given i))
+    (λ i. omega (arith, c .before .before .before .before .before .before .before .shared-slice-known2 .given i)) day p rest known _ turning _ _ (c .before .before .explore .ensures) (c .if1 .taken)
+
+mul-limit : tie.Need-mul-limit Inv-loop μ-loop
+mul-limit c = search needs
+
+loop-less : tie.Need-loop-less Inv-loop μ-loop
+loop-less c = omega (arith, c .before .before .before .before .loop .inv)
+
+loop-again : tie.Need-loop-again Inv-loop μ-loop
+loop-again c = (omega (arith, c .before .before .before .before .loop .inv), omega (arith, c .before .before .before .loop-test .taken))
+
+explore-requires-2 : tie.Need-explore-requires-2 Inv-loop μ-loop
+explore-requires-2 c κs =
+    let a = c .before .before .before .before .before .before in
+    let z : a .args .count - a .args .count ≡ 0 = omega arith in
+    (a .pre .0, a .pre .1, a .pre .2, omega arith, rw z root-fits)
+
+returns-2 : tie.Need-returns-2 Inv-loop μ-loop
+returns-2 c =
+    let a = c .before .before .before .before .before .before .before in
+    λ day p rest known turning.
+    pass-is _ _ _ _ _ _ (a .pre .2) (λ i. omega (arith, c .before .before .before .shared-slice-known4 .given i))
+    (λ i. omega (arith, c .before .before .before .before .before .shared-slice-known2 .given i)) day p rest known _ turning _ _ (c .explore2 .ensures)
+    (pass-found _ _ _ _ _ _ (a .pre .2) (λ i. omega (arith, c .before .before .before .shared-slice-known4 .given i))
+    (λ i. omega (arith, c .before .before .before .before .before .shared-slice-known2 .given i)) day p rest known _ turning _ _ (c .explore2 .ensures) (c .before .loop-test .left))
+
+pub find-spec : {M : Type 1} → statement M
+find-spec =
+    tie.close
+    (tie.spec
+    Inv-loop
+    μ-loop
+    loop-holds
+    explore-requires
+    returns
+    mul-limit
+    loop-less
+    loop-again
+    explore-requires-2
+    returns-2)

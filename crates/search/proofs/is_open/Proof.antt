@@ -1,0 +1,149 @@
+-- `search::is_open` meets its contract: one law for each reason to drop a branch. Assumes nothing.
+use mathlib.Core.Path.{_≡_, refl, sym, _∙_}
+use lib.ListN.{length, length-take, length-drop}
+use native.Mathlib.Omega.{arith}
+use borrow.Author.Tests.{not-true, not-false}
+use Rattle.rules.proofs.Tests.{clash}
+use Rattle.search.specs.Search.{turnOf}
+use Rattle.search.proofs.ReachLaws.{dropped-by-loss, dropped-unbalanced, dropped-by-gaps, dropped-by-limit, to-fits, to-small, from-small}
+use borrow.Author.Needs.{needs}
+use Rattle.search.proofs.is_open.Statement.{statement}
+use Rattle.search.proofs.is_open.Tie as tie
+
+-- arrays of 24
+from-size : (f : tie.After-reach-of) → length (f .reach-of .result .from) ≡ 24
+from-size f = search needs
+
+to-size : (f : tie.After-reach-of) → length (f .reach-of .result .to) ≡ 24
+to-size f = search needs
+
+turn-size : (s : tie.Start) → length (turnOf (s .args .hours .now)) ≡ 24
+turn-size s = simp (length-take, length-drop) (omega (arith, s .pre .1))
+
+returns : tie.Need-returns
+returns c = λ _. dropped-by-loss _ _ _ _ _ _ _ _ _ _ (c .if1 .taken)
+
+sub-at : tie.Need-sub-at
+sub-at c = search needs
+
+cast-at : tie.Need-cast-at
+cast-at c = search needs
+
+is-forced-requires : tie.Need-is-forced-requires
+is-forced-requires c κs =
+    let s = c .before .before .before .before .before .before in
+    (s .pre .0 .blocksFit, omega (arith, s .pre .2), omega (arith, s .pre .4 .lossFits, s .pre .2))
+
+returns-2 : tie.Need-returns-2
+returns-2 c = λ e. clash refl e
+
+rest-of-requires : tie.Need-rest-of-requires
+rest-of-requires c κs =
+    let s = c .before .before .before .before .before .before .before .before .before in
+    (s .pre .0 .blocksFit, s .pre .2, omega arith, omega (arith, s .pre .4 .lossFits, s .pre .2), s .pre .4 .placesFit)
+
+sub-reach-of : tie.Need-sub-reach-of
+sub-reach-of c = search needs
+
+part-reach-of-start : tie.Need-part-reach-of-start
+part-reach-of-start c = search needs
+
+part-reach-of-end : tie.Need-part-reach-of-end
+part-reach-of-end c = search needs
+
+sub-reach-of-2 : tie.Need-sub-reach-of-2
+sub-reach-of-2 c = search needs
+
+part-reach-of-start-2 : tie.Need-part-reach-of-start-2
+part-reach-of-start-2 c = search needs
+
+part-reach-of-end-2 : tie.Need-part-reach-of-end-2
+part-reach-of-end-2 c = search needs
+
+reach-of-requires : tie.Need-reach-of-requires
+reach-of-requires c κs =
+    let s = c .before .before .before .before .before .before .before .before .before .before .before .before .before .before .pre .0 in
+    let r = c .before .before .before .before .rest-of .ensures in
+    (s .firstHours, s .lastHours, r .leastFits, r .freeFits)
+
+returns-3 : tie.Need-returns-3
+returns-3 c = λ _. dropped-unbalanced _ _ _ _ _ _ _ _ _ _ _ _ (c .before .before .before .before .before .before .before .rest-of .ensures) _ _ _ (c .before .before .reach-of .ensures) (not-true _ (c .if3 .taken))
+
+sub-least-gaps : tie.Need-sub-least-gaps
+sub-least-gaps c = search needs
+
+part-least-gaps-start : tie.Need-part-least-gaps-start
+part-least-gaps-start c = search needs
+
+part-least-gaps-end : tie.Need-part-least-gaps-end
+part-least-gaps-end c = search needs
+
+least-gaps-requires : tie.Need-least-gaps-requires
+least-gaps-requires c κs =
+    let s = c .before .before .before .before .before .before .before .before .before .before .before .before .before .before .before .before .before .before .before .before in
+    (s .pre .0 .gapRows, turn-size s, to-fits _ _ _ _ _ _ _ (c .before .before .before .before .before .reach-of .ensures) (s .pre .0 .lastFits))
+
+add-if4 : tie.Need-add-if4
+add-if4 c =
+    let s = c .before .before .before .before .before .before .before .before .before .before .before .before .before .before .before .before .before .before .before .before .before .before in
+    omega (arith, c .before .least-gaps .ensures .1, s .pre .4 .lossFits, s .pre .2)
+
+returns-4 : tie.Need-returns-4
+returns-4 c =
+    let g = c .before .before .least-gaps .ensures .0 in
+    λ _. dropped-by-gaps _ _ _ _ _ _ _ _ _ _ _ _ (c .before .before .before .before .before .before .before .before .before .before .before .before .before .rest-of .ensures) _ _ _ (c .before .before .before .before .before .before .before .before .reach-of .ensures) (omega (arith, c .if4 .taken, g))
+
+prices-at-requires : tie.Need-prices-at-requires
+prices-at-requires c κs =
+    let s = c .before .before .before .before .before .before .before .before .before .before .before .before .before .before .before .before .before .before .before .before .before .before .before in
+    let f = c .before .before .before .before .before .before .before .before in (
+      s .pre .0 .lowRows,
+      s .pre .0 .lowFits,
+      from-small _ _ _ _ _ _ _ (f .reach-of .ensures) (s .pre .0 .lastFits) (not-false _ (c .before .before .before .before .before .before .if3 .left)) (from-size f),
+    )
+
+prices-at-requires-2 : tie.Need-prices-at-requires-2
+prices-at-requires-2 c κs =
+    let s = c .before .before .before .before .before .before .before .before .before .before .before .before .before .before .before .before .before .before .before .before .before .before .before .before in
+    let f = c .before .before .before .before .before .before .before .before .before in
+    (s .pre .0 .lowRows, s .pre .0 .lowFits, to-small _ _ _ _ _ _ _ (f .reach-of .ensures) (s .pre .0 .lastFits) (to-size f))
+
+keeps-limits-requires : tie.Need-keeps-limits-requires
+keeps-limits-requires c κs =
+    let s = c .before .before .before .before .before .before .before .before .before .before .before .before .before .before .before .before .before .before .before .before .before .before .before .before .before in
+    (s .pre .0 .blocksFit .columns, omega (arith, s .pre .2), c .before .prices-at .ensures .small, c .prices-at2 .ensures .small)
+
+returns-5 : tie.Need-returns-5
+returns-5 c =
+    let s = c .before .before .before .before .before .before .before .before .before .before .before .before .before .before .before .before .before .before .before .before .before .before .before .before .before .before in
+    λ e. dropped-by-limit _ _ _ _ _ _ _ _ _ _ _ _ (c .before .before .before .before .before .before .before .before .before .before .before .before .before .before .before .before .rest-of .ensures) _ _ _ (c .before .before .before .before .before .before .before .before .before .before .before .reach-of .ensures) _ _ (c .before .before .prices-at .ensures) (c .before .prices-at2 .ensures)
+    (not-false _ (c .before .before .before .before .before .before .before .before .before .if3 .left)) (s .pre .0 .lastFits) (sym (c .keeps-limits .ensures) ∙ e)
+
+pub is-open-spec : {M : Type 1} → statement M
+is-open-spec =
+    tie.close
+    (tie.spec
+    returns
+    sub-at
+    cast-at
+    is-forced-requires
+    returns-2
+    rest-of-requires
+    sub-reach-of
+    part-reach-of-start
+    part-reach-of-end
+    sub-reach-of-2
+    part-reach-of-start-2
+    part-reach-of-end-2
+    reach-of-requires
+    returns-3
+    sub-least-gaps
+    part-least-gaps-start
+    part-least-gaps-end
+    least-gaps-requires
+    add-if4
+    returns-4
+    prices-at-requires
+    prices-at-requires-2
+    keeps-limits-requires
+    returns-5)

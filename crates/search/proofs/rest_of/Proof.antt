@@ -1,0 +1,67 @@
+-- `search::rest_of` meets its contract: the blocks from number i on are added. Assumes nothing.
+use Prim.Native.Nat.{_-_}
+use native.Mathlib.Omega.{arith}
+use Rattle.search.proofs.ReachLaws.{RestTo, rest-start, rest-next, rest-all}
+use borrow.Author.Needs.{needs}
+use Rattle.search.proofs.rest_of.Statement.{statement}
+use Rattle.search.proofs.rest_of.Tie as tie
+
+abbrev Inv-loop : tie.InvT-loop
+Inv-loop blocks count at loss limit least₀ free₀ i₀ least free i = RestTo blocks count at loss limit least₀ i least free
+
+abbrev μ-loop : tie.MeasureT-loop
+μ-loop blocks count at loss limit least₀ free₀ i₀ least free i = i
+
+loop-holds : tie.Need-loop-holds Inv-loop μ-loop
+loop-holds c = rest-start _ _ _ _ _ _ (c .before .pre .2) (search needs) (c .before .pre .4)
+
+sub-i : tie.Need-sub-i Inv-loop μ-loop
+sub-i c = search needs
+
+moves-of-requires : tie.Need-moves-of-requires Inv-loop μ-loop
+moves-of-requires c κs =
+    let s = c .before .before .before in
+    (s .pre .0, omega (arith, s .pre .1, c .before .loop .inv .to), s .pre .3)
+
+moved-where-requires : tie.Need-moved-where-requires Inv-loop μ-loop
+moved-where-requires c κs =
+    let v = c .before .before .loop in
+    let s = c .before .before .before .before in
+    (s .pre .0, omega (arith, s .pre .1, v .inv .to), λ j. omega (arith, v .inv .leastFits j, v .inv .from, v .inv .to, s .pre .1))
+
+moved-where-requires-2 : tie.Need-moved-where-requires-2 Inv-loop μ-loop
+moved-where-requires-2 c κs =
+    let v = c .before .before .before .loop in
+    let s = c .before .before .before .before .before in
+    (s .pre .0, omega (arith, s .pre .1, v .inv .to), λ j. omega (arith, v .inv .freeFits j, v .inv .from, v .inv .to, s .pre .1))
+
+loop-less : tie.Need-loop-less Inv-loop μ-loop
+loop-less c = search needs
+
+loop-again : tie.Need-loop-again Inv-loop μ-loop
+loop-again c =
+    let v = c .before .before .before .before .loop in
+    let s = c .before .before .before .before .before .before in
+    let moves = c .before .before .moves-of .ensures in
+    let more = c .before .moved-where .ensures in
+    let freer = c .moved-where2 .ensures in
+    rest-next _ _ _ _ _ _ _ _ _ _ _ (v .inv) (c .before .before .before .loop-test .taken) (s .pre .0 .rowsFit (v .i - 1)) (more .0) (freer .0)
+    (rw (moves .0) at (more .1)) (rw (moves .1) at (freer .1))
+
+returns : tie.Need-returns Inv-loop μ-loop
+returns c = rest-all _ _ _ _ _ _ _ _ _ (c .before .loop .inv) (c .loop-test .left) (c .before .before .before .pre .1)
+
+pub rest-of-spec : {M : Type 1} → statement M
+rest-of-spec =
+    tie.close
+    (tie.spec
+    Inv-loop
+    μ-loop
+    loop-holds
+    sub-i
+    moves-of-requires
+    moved-where-requires
+    moved-where-requires-2
+    loop-less
+    loop-again
+    returns)

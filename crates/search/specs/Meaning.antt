@@ -1,0 +1,147 @@
+-- WHAT THE SEARCH MEANS: the day behind its tables, the branch behind its state, and what it promises of the best it gives back. These are the
+-- contracts of private functions; the promise of the clearing itself is in Promise. Definitions only. Assumes nothing.
+use Prim.Native.Nat.{ℕ, suc, _+_, _-_, _*_, _^_, _≤_, _<_}
+use mathlib.Core.Bool.{Bool, true, not}
+use lib.Dec.{eqb}
+use mathlib.Core.List.{List, _∷_, _++_}
+use mathlib.Core.Path.{_≡_}
+use lib.ListN.{length, drop, getD}
+use Rattle.book.specs.Records.{holdsHour}
+use Rattle.orders.specs.Columns.{sideFor}
+use Rattle.rules.specs.Orders.{Block}
+use Rattle.rules.specs.Day.{Day, daySum, taken, decisions, overBlocks, sells, buys, stepsIn, setPrices, hourCount, lawful}
+use Rattle.rules.specs.Outcome.{outcome}
+use Rattle.rules.specs.Contender.{PricesInRange, HoursInRange}
+use Rattle.rules.proofs.PricingLaws.{Clearable, net}
+use Rattle.rules.proofs.TableLaws.{unitPrice}
+use Rattle.rules.proofs.NeighbourLaws.{slack}
+use Rattle.rules.proofs.BoundLaws.{gain}
+use Rattle.rules.proofs.LossLaws.{against, losses, lossOf}
+use Rattle.rules.proofs.LossSearchLaws as by-loss
+use Rattle.rules.proofs.PlaceLaws.{place, hourAt}
+use Rattle.rules.proofs.TwinLaws.{Ahead, InTurn}
+use Rattle.search.specs.Search.{Small, cell, ofHour, sideAt, hoursAt, limitAt, againstAt, gainAt, aheadAt, behindAt, rowAt}
+use Rattle.search.specs.declared.Day as code-day
+use Rattle.search.specs.declared.Best.{Best}
+use Rattle.search.specs.declared.Node.{Node}
+use Rattle.rules.specs.Hour.{when}
+
+-- SIZES, for safe arithmetic and indexing
+pub record BlocksSized (blocks : List ℕ) : Type 0 where
+  pub columns : length blocks ≡ 1024
+  pub rowsFit : (i h : ℕ) → rowAt blocks i h ≤ 50000
+  pub twinsFit : (i : ℕ) → i < 32 → (aheadAt blocks i ≤ 32) × (behindAt blocks i ≤ 32)
+
+pub record Sized (low gap first last blocks : List ℕ) : Type 0 where
+  pub lowRows : length low ≡ 38448
+  pub gapRows : length gap ≡ 38448
+  pub firstHours : length first ≡ 24
+  pub lastHours : length last ≡ 24
+  pub lastFits : Small 1600 last
+  pub lowFits : Small 300000 low
+  pub blocksFit : BlocksSized blocks
+
+-- A node with so many blocks decided.
+pub record Fits (decided set loss : ℕ) (places : List ℕ) : Type 0 where
+  pub setFits : set < 2 ^ decided
+  pub lossFits : loss ≤ decided * 2 ^ 32
+  pub placesSize : length places ≡ 24
+  pub placesFit : Small (decided * 50000) places
+
+-- THE DAY behind the tables, at hourly prices p; `rest` is what the tables leave off each hour's gaps
+-- Block j of the day and its columns.
+pub record Shown (day : Day) (p : ℕ → ℕ) (blocks : List ℕ) (j : ℕ) : Type 0 where
+  pub block : Block
+  pub next : drop j (day .blocks) ≡ block ∷ drop (suc j) (day .blocks)
+  pub sideIs : block .side ≡ sideFor (sideAt blocks j)
+  pub runsIs : (h : ℕ) → block .runs h ≡ holdsHour (hoursAt blocks j) h
+  pub rowIs : (h : ℕ) → 1 ≤ h → h ≤ 24 → rowAt blocks j h ≡ when (block .runs h) (block .quantity)
+  pub limitIs : block .price * hourCount (day .hours) block ≡ limitAt blocks j
+  pub againstIs : against (day .hours) p block ≡ againstAt blocks j
+  pub gainIs : gain (day .hours) p block ≡ gainAt blocks j
+
+pub record Known (day : Day) (p rest : ℕ → ℕ) (low gap first last blocks : List ℕ) (count : ℕ) : Type 0 where
+  pub prices : PricesInRange (day .steps)
+  pub hours : HoursInRange (day .steps)
+  pub counted : length (day .blocks) ≡ count
+  -- no hour's blocks together reach past its row
+  pub fits : (h : ℕ) → 1 ≤ h → h ≤ 24 → overBlocks (sells h) (day .blocks) + overBlocks (buys h) (day .blocks) ≤ 1600
+  -- the price table: the least price that meets the demand, one unit of N below the place
+  pub lowIs : (h i : ℕ) → 1 ≤ h → h ≤ 24 → i ≤ 1601 →
+      cell low h i ≡ unitPrice (net (stepsIn h (day .steps)) i (suc (overBlocks (buys h) (day .blocks))))
+  -- the places at which an hour clears
+  pub clears : (h i : ℕ) → 1 ≤ h → h ≤ 24 → i ≤ 1600 → ofHour first h ≤ i → i ≤ ofHour last h → Clearable (hourAt day h i)
+  pub clearsOnly : (h i : ℕ) → 1 ≤ h → h ≤ 24 → i ≤ 1600 → Clearable (hourAt day h i) → (ofHour first h ≤ i) × (i ≤ ofHour last h)
+  -- the gap table
+  pub gapIs : (h i : ℕ) → 1 ≤ h → h ≤ 24 → ofHour first h ≤ i → i ≤ ofHour last h → slack (p h) (hourAt day h i) ≡ cell gap h i + rest h
+  pub shown : (j : ℕ) → j < count → Shown day p blocks j
+  -- the twins
+  pub ahead : (j a : ℕ) → j < count → aheadAt blocks j ≡ suc a → (a < j) × Ahead day p a j
+  pub behind : (j b : ℕ) → j < count → behindAt blocks j ≡ suc b → (b < j) × Ahead day p j b
+
+-- Each hour's gaps fall to the place where they turn, and rise from it.
+pub record Turning (gap first last turn : List ℕ) : Type 0 where
+  pub falls : (h i j : ℕ) → 1 ≤ h → h ≤ 24 → ofHour first h ≤ i → i ≤ j → j ≤ ofHour last h → j ≤ ofHour turn h → cell gap h j ≤ cell gap h i
+  pub rises : (h i j : ℕ) → 1 ≤ h → h ≤ 24 → ofHour first h ≤ i → i ≤ j → j ≤ ofHour last h → ofHour turn h ≤ i → cell gap h i ≤ cell gap h j
+
+-- THE BRANCH of the decided blocks d
+pub record Branch (day : Day) (p : ℕ → ℕ) (d : List Bool) (set loss : ℕ) (places : List ℕ) : Type 0 where
+  pub setIs : decisions (length d) set ≡ d
+  pub lossIs : loss ≡ losses (day .hours) p (day .blocks) d
+  pub placesAre : (h : ℕ) → 1 ≤ h → h ≤ 24 → ofHour places h ≡ place (day .blocks) d h
+
+-- the loss of a set, less what the tables leave off
+unfoldable pub lossAbove : Day → (ℕ → ℕ) → (ℕ → ℕ) → List Bool → ℕ
+lossAbove day p rest set = lossOf day p set - daySum (day .hours) rest
+
+-- the best in the code's form and in the laws'
+abbrev pub bestAs : ℕ → Best → by-loss.Best
+bestAs count best = record { limit = best .limit; set = decisions count (best .set) }
+
+-- a set's prices and places
+pub record DayOf (day : Day) (set : List Bool) (found : code-day.Day) : Type 0 where
+  pub pricesAre : (h : ℕ) → 1 ≤ h → h ≤ 24 → ofHour (found .prices) h ≡ setPrices day (taken (day .blocks) set) h
+  pub placesAre : (h : ℕ) → 1 ≤ h → h ≤ 24 → ofHour (found .quantities) h ≡ place (day .blocks) set h
+
+-- WHAT A BRANCH GIVES BACK of the best so far
+pub record Outcome (day : Day) (p rest : ℕ → ℕ) (count left : ℕ) (d : List Bool) (best r : Best) : Type 0 where
+  pub explored : by-loss.Explored day (InTurn day p) (lossAbove day p rest) left d (bestAs count best) (bestAs count r)
+  pub same : r .limit ≡ best .limit → r ≡ best
+  pub found : r .limit < best .limit → (r .set < 2 ^ count) × DayOf day (decisions count (r .set)) (r .day)
+
+abbrev pub Decided : (low gap first last blocks : List ℕ) (count set loss : ℕ) (places : List ℕ) (best r : Best) → Type 0
+Decided low gap first last blocks count set loss places best r =
+    (day : _) (p rest : ℕ → ℕ) (d : List Bool) → Known day p rest low gap first last blocks count → Branch day p d set loss places →
+    length d ≡ count → set < 2 ^ count → Outcome day p rest count 0 d best r
+
+abbrev pub ExploredFrom : (low gap first last turn blocks : List ℕ) (count left : ℕ) (node : Node) (best r : Best) → Type 0
+ExploredFrom low gap first last turn blocks count left node best r =
+    (day : _) (p rest : ℕ → ℕ) (d : List Bool) → Known day p rest low gap first last blocks count →
+    Turning gap first last turn → Branch day p d (node .set) (node .loss) (node .places) → length d + left ≡ count →
+    Outcome day p rest count left d best r
+
+-- A BRANCH TO DROP: no lawful completion loses less than the limit.
+abbrev pub DroppedFrom : (low gap first last turn blocks : List ℕ) (count left : ℕ) (node : Node) (limit : ℕ) → Type 0
+DroppedFrom low gap first last turn blocks count left node limit =
+    (day : _) (p rest : ℕ → ℕ) (d t : List Bool) → Known day p rest low gap first last blocks count →
+    Turning gap first last turn → Branch day p d (node .set) (node .loss) (node .places) → length d + left ≡ count →
+    length t ≡ left → lawful day (d ++ t) ≡ true → limit ≤ lossAbove day p rest (d ++ t)
+
+-- ONE MORE BLOCK decided: the set, the loss, and the places moved on by what a sell sells if taken, a buy buys if left out
+pub record TakenTo (blocks : List ℕ) (at : ℕ) (node r : Node) : Type 0 where
+  pub setIs : r .set ≡ node .set + 2 ^ at
+  pub lossIs : r .loss ≡ node .loss + againstAt blocks at
+  pub placesAre : (h : ℕ) → 1 ≤ h → h ≤ 24 →
+      ofHour (r .places) h ≡ ofHour (node .places) h + when (not (eqb (sideAt blocks at) 0)) (rowAt blocks at h)
+
+pub record LeftTo (blocks : List ℕ) (at : ℕ) (node r : Node) : Type 0 where
+  pub setIs : r .set ≡ node .set
+  pub lossIs : r .loss ≡ node .loss + gainAt blocks at
+  pub placesAre : (h : ℕ) → 1 ≤ h → h ≤ 24 →
+      ofHour (r .places) h ≡ ofHour (node .places) h + when (eqb (sideAt blocks at) 0) (rowAt blocks at h)
+
+-- THE PUBLISHED SET, with its day
+abbrev pub FoundIn : (low gap first last turn blocks : List ℕ) (count : ℕ) (r : Best) → Type 0
+FoundIn low gap first last turn blocks count r =
+    (day : _) (p rest : ℕ → ℕ) → Known day p rest low gap first last blocks count → Turning gap first last turn →
+    (decisions count (r .set) ≡ outcome day) × (r .set < 2 ^ count) × DayOf day (outcome day) (r .day)

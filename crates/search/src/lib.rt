@@ -1,0 +1,498 @@
+// The search over the blocks: each first taken and then left out, by loss at fixed hourly prices. Its tables hold, for each hour (a row of 1,602 places,
+// hour 1 first), the hour's prices and gaps at each place; a place is what the taken blocks sell and the left-out blocks would buy in the hour.
+ghost use mathlib.Core.Path.{_≡_};
+ghost use Prim.Native.Nat.{ℕ, _+_, _-_, _*_, _^_, _≤_, _<_};
+ghost use lib.ListN.{length, getD};
+ghost use Rattle.rules.specs.Hour.{when};
+ghost use Rattle.book.specs.Records.{holdsHour};
+ghost use mathlib.Core.Bool.{false, cond};
+ghost use Rattle.search.specs.Search.{Small, sumOfHours, ofHour, GapsOf, PricesOf, keepsAt, allKeep, mustMove, mayMove, isBarred, isDue, rowAt, RestOf, ReachOf, leastGaps, firstOf, lastOf, turnOf};
+ghost use Rattle.search.specs.Search as numbers;
+ghost use Rattle.search.specs.Meaning.{BlocksSized, Sized, Fits, Decided, TakenTo, LeftTo, DroppedFrom, ExploredFrom, FoundIn};
+
+// The price of each hour, and the quantity at which its blocks stand (its place).
+pub struct Day {
+    pub prices: [u32; 24],
+    pub quantities: [u32; 24],
+}
+
+// The least loss so far with its set and day; at first a threshold.
+pub struct Best {
+    pub limit: u64,
+    pub set: u32,
+    pub day: Day,
+}
+
+fn bit(at: u32) -> u32
+    requires { ⌜ at < 32 ⌝ }
+    ensures { λ r. ⌜ r ≡ 2 ^ at ⌝ }
+{
+    1u32 << at
+}
+
+// The places with a quantity more in each hour of a block.
+pub fn moved(places: [u32; 24], hours: u32, quantity: u32) -> [u32; 24]
+    requires { ⌜ Small 1600000 places × (quantity ≤ 50000) ⌝ }
+    ensures { λ r. ⌜ (length r ≡ 24) × ((h : ℕ) → 1 ≤ h → h ≤ 24 → getD r (h - 1) 0 ≡ getD places (h - 1) 0 + when (holdsHour hours h) quantity) ⌝ }
+{
+    let mut r = places;
+    let mut h: usize = 0;
+    let mut rest = hours;
+    while h < 24 {
+        r[h] += (rest % 2) * quantity;
+        rest = rest / 2;
+        h += 1;
+    }
+    r
+}
+
+// The sum of prices over the hours of a block.
+pub fn price_sum(prices: [u32; 24], hours: u32) -> u32
+    requires { ⌜ Small 300000 prices ⌝ }
+    ensures { λ r. ⌜ (r ≡ sumOfHours prices hours) × (r ≤ 7200000) ⌝ }
+{
+    let mut sum: u32 = 0;
+    let mut h: usize = 0;
+    let mut rest = hours;
+    while h < 24 {
+        sum += (rest % 2) * prices[h];
+        rest = rest / 2;
+        h += 1;
+    }
+    sum
+}
+
+// The gaps of all hours at their places, where each hour clears at its place.
+struct Gaps {
+    clears: bool,
+    sum: u64,
+}
+
+fn gaps_at(gap: &[u32], first: &[u32], last: &[u32], places: [u32; 24]) -> Gaps
+    requires { ⌜ (length (now gap) ≡ 38448) × (length (now first) ≡ 24) × (length (now last) ≡ 24) × Small 1600 (now last) ⌝ }
+    ensures { λ r. ⌜ GapsOf (now (gap .entry)) (now (first .entry)) (now (last .entry)) places (r .clears) (r .sum) ⌝ }
+{
+    let mut sum: u64 = 0;
+    let mut h: usize = 0;
+    while h < 24 {
+        let place = places[h];
+        if (place < first[h]) | (last[h] < place) {
+            return Gaps {
+                clears: false,
+                sum: 0,
+            };
+        }
+        let cell = gap[h * 1602 + (place as usize)];
+        sum += cell as u64;
+        h += 1;
+    }
+    Gaps {
+        clears: true,
+        sum: sum,
+    }
+}
+
+// The price of each hour at its place.
+pub fn prices_at(low: &[u32], places: [u32; 24]) -> [u32; 24]
+    requires { ⌜ (length (now low) ≡ 38448) × Small 300000 (now low) × Small 1600 places ⌝ }
+    ensures { λ r. ⌜ PricesOf (now (low .entry)) places r ⌝ }
+{
+    let mut prices = [0; 24];
+    let mut h: usize = 0;
+    while h < 24 {
+        let at = h * 1602 + (places[h] as usize);
+        prices[h] = (low[at] + low[at + 1]) / 2;
+        h += 1;
+    }
+    prices
+}
+
+// Whether a block keeps its limit at the prices: the sum over its hours is at least the limit for a sell, at most that for a buy.
+pub fn keeps_limit(side: u32, hours: u32, limit: u32, prices: [u32; 24]) -> bool
+    requires { ⌜ Small 300000 prices ⌝ }
+    ensures { λ r. ⌜ r ≡ keepsAt side hours limit prices ⌝ }
+{
+    let sum = price_sum(prices, hours);
+    if side == 0 {
+        sum <= limit
+    } else {
+        limit <= sum
+    }
+}
+
+// The first list where the test passes, else the second.
+fn pick(test: bool, a: [u32; 24], b: [u32; 24]) -> [u32; 24]
+    ensures { λ r. ⌜ r ≡ cond test a b ⌝ }
+{
+    if test { a } else { b }
+}
+
+// Whether each of the first count blocks that the set holds keeps its limit: a buy at the low prices, a sell at the high ones.
+fn keeps_limits(blocks: &[u32], count: usize, set: u32, high: [u32; 24], low: [u32; 24]) -> bool
+    requires { ⌜ (length (now blocks) ≡ 1024) × (count ≤ 32) × Small 300000 high × Small 300000 low ⌝ }
+    ensures { λ r. ⌜ r ≡ allKeep (now (blocks .entry)) set high low count ⌝ }
+{
+    let mut i = count;
+    while 0 < i {
+        i -= 1;
+        let chosen = (set >> (i as u32)) % 2;
+        if chosen == 1 {
+            let prices = pick(blocks[i] == 0, low, high);
+            if !keeps_limit(blocks[i], blocks[32 + i], blocks[96 + i], prices) {
+                return false;
+            }
+        }
+    }
+    true
+}
+
+// What is decided in a branch: its set, what that loses, and the hours' places.
+pub struct Node {
+    pub set: u32,
+    pub loss: u64,
+    pub places: [u32; 24],
+}
+
+// All blocks are decided: the set becomes the best where it is lawful and loses less.
+fn decide(
+    low: &[u32],
+    gap: &[u32],
+    hours: &[u32],
+    blocks: &[u32],
+    count: u32,
+    node: Node,
+    best: Best,
+) -> Best
+    requires { ⌜ Sized (now low) (now gap) (firstOf (now hours)) (lastOf (now hours)) (now blocks) × (length (now hours) ≡ 72) × (count ≤ 32) × (node .loss ≤ 32 * 2 ^ 32) ⌝ }
+    ensures { λ r. ⌜ Decided (now (low .entry)) (now (gap .entry)) (firstOf (now (hours .entry))) (lastOf (now (hours .entry))) (now (blocks .entry)) count (node .set) (node .loss) (node .places) best r ⌝ }
+{
+    let places = node.places;
+    let gaps = gaps_at(gap, &hours[0..24], &hours[24..48], places);
+    if !gaps.clears {
+        return best;
+    }
+    let total = node.loss + gaps.sum;
+    if best.limit <= total {
+        return best;
+    }
+    let prices = prices_at(low, places);
+    if !keeps_limits(blocks, count as usize, node.set, prices, prices) {
+        return best;
+    }
+    let day = Day {
+        prices: prices,
+        quantities: places,
+    };
+    Best {
+        limit: total,
+        set: node.set,
+        day: day,
+    }
+}
+
+// The places with what block i trades in each hour more, where the test passes.
+fn moved_where(test: bool, places: [u32; 24], blocks: &[u32], i: usize) -> [u32; 24]
+    requires { ⌜ BlocksSized (now blocks) × (i < 32) × Small 1600000 places ⌝ }
+    ensures { λ r. ⌜ (length r ≡ 24) × ((h : ℕ) → 1 ≤ h → h ≤ 24 → getD r (h - 1) 0 ≡ getD places (h - 1) 0 + when test (rowAt (now (blocks .entry)) i h)) ⌝ }
+{
+    let mut r = places;
+    if !test {
+        return r;
+    }
+    let row = 256 + 24 * i;
+    let mut h: usize = 0;
+    while h < 24 {
+        r[h] += blocks[row + h];
+        h += 1;
+    }
+    r
+}
+
+// The node with block number at taken: a sell moves the places on in its hours.
+fn take(blocks: &[u32], at: u32, node: Node) -> Node
+    requires { ⌜ BlocksSized (now blocks) × (at < 32) × Fits at (node .set) (node .loss) (node .places) ⌝ }
+    ensures { λ r. ⌜ Fits (at + 1) (r .set) (r .loss) (r .places) × TakenTo (now (blocks .entry)) at node r ⌝ }
+{
+    let i = at as usize;
+    let places = node.places;
+    let moved = moved_where(blocks[i] != 0, places, blocks, i);
+    Node {
+        set: node.set + bit(at),
+        loss: node.loss + (blocks[128 + i] as u64),
+        places: moved,
+    }
+}
+
+// The node with block number at left out: a buy moves the places on in its hours.
+fn leave(blocks: &[u32], at: u32, node: Node) -> Node
+    requires { ⌜ BlocksSized (now blocks) × (at < 32) × Fits at (node .set) (node .loss) (node .places) ⌝ }
+    ensures { λ r. ⌜ Fits (at + 1) (r .set) (r .loss) (r .places) × LeftTo (now (blocks .entry)) at node r ⌝ }
+{
+    let i = at as usize;
+    let places = node.places;
+    let moved = moved_where(blocks[i] == 0, places, blocks, i);
+    Node {
+        set: node.set,
+        loss: node.loss + (blocks[160 + i] as u64),
+        places: moved,
+    }
+}
+
+// The larger of two numbers.
+fn larger(a: u32, b: u32) -> u32
+    ensures { λ r. ⌜ r ≡ numbers.larger a b ⌝ }
+{
+    if a <= b { b } else { a }
+}
+
+// The smaller of two numbers.
+fn smaller(a: u32, b: u32) -> u32
+    ensures { λ r. ⌜ r ≡ numbers.smaller a b ⌝ }
+{
+    if a <= b { a } else { b }
+}
+
+// Whether an undecided block moves the places of its hours on for certain, and whether it may.
+pub struct Moves {
+    pub must: bool,
+    pub may: bool,
+}
+
+fn moves_of(blocks: &[u32], i: usize, loss: u64, limit: u64) -> Moves
+    requires { ⌜ BlocksSized (now blocks) × (i < 32) × (loss ≤ 32 * 2 ^ 32) ⌝ }
+    ensures { λ r. ⌜ (r .must ≡ mustMove (now (blocks .entry)) loss limit i) × (r .may ≡ mayMove (now (blocks .entry)) loss limit i) ⌝ }
+{
+    let buys = blocks[i] == 0;
+    let left_out = limit <= loss + (blocks[128 + i] as u64);
+    let taken = limit <= loss + (blocks[160 + i] as u64);
+    Moves {
+        must: (left_out & buys) | (taken & !buys),
+        may: !left_out & !taken,
+    }
+}
+
+// The least place of each hour, and what its undecided blocks are free to add.
+pub struct Rest {
+    pub least: [u32; 24],
+    pub free: [u32; 24],
+}
+
+// The undecided blocks, from number at on, added to the places.
+fn rest_of(
+    blocks: &[u32],
+    count: usize,
+    at: usize,
+    loss: u64,
+    limit: u64,
+    places: [u32; 24],
+) -> Rest
+    requires { ⌜ BlocksSized (now blocks) × (count ≤ 32) × (at ≤ count) × (loss ≤ 32 * 2 ^ 32) × Small (at * 50000) places ⌝ }
+    ensures { λ r. ⌜ RestOf (now (blocks .entry)) count at loss limit places (r .least) (r .free) ⌝ }
+{
+    let mut least = places;
+    let mut free = [0; 24];
+    let mut i = count;
+    while at < i {
+        i -= 1;
+        let moves = moves_of(blocks, i, loss, limit);
+        let more = moved_where(moves.must, least, blocks, i);
+        let freer = moved_where(moves.may, free, blocks, i);
+        least = more;
+        free = freer;
+    }
+    Rest { least, free }
+}
+
+// The places that a branch can still reach and at which its hours clear, from and to; an hour that has none can no longer balance.
+pub struct Reach {
+    pub balances: bool,
+    pub from: [u32; 24],
+    pub to: [u32; 24],
+}
+
+fn reach_of(first: &[u32], last: &[u32], least: [u32; 24], free: [u32; 24]) -> Reach
+    requires { ⌜ (length (now first) ≡ 24) × (length (now last) ≡ 24) × Small 1600000 least × Small 1600000 free ⌝ }
+    ensures { λ r. ⌜ ReachOf (now (first .entry)) (now (last .entry)) least free (r .balances) (r .from) (r .to) ⌝ }
+{
+    let mut balances = true;
+    let mut from = [0; 24];
+    let mut to = [0; 24];
+    let mut h: usize = 0;
+    while h < 24 {
+        let lowest = larger(least[h], first[h]);
+        let highest = smaller(least[h] + free[h], last[h]);
+        from[h] = lowest;
+        to[h] = highest;
+        balances = balances & (lowest <= highest);
+        h += 1;
+    }
+    Reach { balances, from, to }
+}
+
+// The sum of the hours' least gaps over the places from `from` to `to`.
+fn least_gaps(gap: &[u32], turn: &[u32], from: [u32; 24], to: [u32; 24]) -> u64
+    requires { ⌜ (length (now gap) ≡ 38448) × (length (now turn) ≡ 24) × ((h : ℕ) → h < 24 → getD to h 0 ≤ 1600) ⌝ }
+    ensures { λ r. ⌜ (r ≡ leastGaps (now (gap .entry)) (now (turn .entry)) from to) × (r ≤ 24 * 2 ^ 32) ⌝ }
+{
+    let mut sum: u64 = 0;
+    let mut h: usize = 0;
+    while h < 24 {
+        let place = smaller(larger(turn[h], from[h]), to[h]);
+        sum += gap[h * 1602 + (place as usize)] as u64;
+        h += 1;
+    }
+    sum
+}
+
+// Whether the other way to decide the block that was decided last loses the limit or more: then what a branch can reach is as it was before that block.
+fn is_forced(blocks: &[u32], at: usize, set: u32, loss: u64, limit: u64) -> bool
+    requires { ⌜ BlocksSized (now blocks) × (at ≤ 32) × (loss ≤ 32 * 2 ^ 32) ⌝ }
+{
+    if at == 0 {
+        return false;
+    }
+    let i = at - 1;
+    let taken = (set >> (i as u32)) % 2 == 1;
+    let other = if taken {
+        blocks[160 + i]
+    } else {
+        blocks[128 + i]
+    };
+    limit <= loss + (other as u64)
+}
+
+// Whether a completion of the node may be lawful and lose less than the limit. None does where the decided blocks lose as much already, where an hour can
+// no longer balance, where the least gaps within reach come to as much, or where a taken block misses its limit at the best prices within reach.
+fn is_open(
+    low: &[u32],
+    gap: &[u32],
+    hours: &[u32],
+    blocks: &[u32],
+    count: u32,
+    left: u32,
+    node: Node,
+    limit: u64,
+) -> bool
+    requires { ⌜ Sized (now low) (now gap) (firstOf (now hours)) (lastOf (now hours)) (now blocks) × (length (now hours) ≡ 72) × (count ≤ 32) × (left ≤ count) × Fits (count - left) (node .set) (node .loss) (node .places) ⌝ }
+    ensures { λ r. ⌜ (r ≡ false → DroppedFrom (now (low .entry)) (now (gap .entry)) (firstOf (now (hours .entry))) (lastOf (now (hours .entry))) (turnOf (now (hours .entry)))
+        (now (blocks .entry)) count left node limit) ⌝ }
+{
+    if limit <= node.loss {
+        return false;
+    }
+    let at = (count - left) as usize;
+    if is_forced(blocks, at, node.set, node.loss, limit) {
+        return true;
+    }
+    let places = node.places;
+    let rest = rest_of(blocks, count as usize, at, node.loss, limit, places);
+    let least = rest.least;
+    let free = rest.free;
+    let reach = reach_of(&hours[0..24], &hours[24..48], least, free);
+    if !reach.balances {
+        return false;
+    }
+    let from = reach.from;
+    let to = reach.to;
+    if limit <= node.loss + least_gaps(gap, &hours[48..72], from, to) {
+        return false;
+    }
+    let high = prices_at(low, from);
+    let lowest = prices_at(low, to);
+    keeps_limits(blocks, at, node.set, high, lowest)
+}
+
+// Whether a twin that is taken before block i is left out.
+fn is_barred(blocks: &[u32], i: usize, set: u32) -> bool
+    requires { ⌜ BlocksSized (now blocks) × (i < 32) ⌝ }
+    ensures { λ r. ⌜ r ≡ isBarred (now (blocks .entry)) i set ⌝ }
+{
+    let ahead = blocks[192 + i];
+    if ahead == 0 {
+        return false;
+    }
+    (set >> (ahead - 1)) % 2 == 0
+}
+
+// Whether a twin that is taken after block i is taken.
+fn is_due(blocks: &[u32], i: usize, set: u32) -> bool
+    requires { ⌜ BlocksSized (now blocks) × (i < 32) ⌝ }
+    ensures { λ r. ⌜ r ≡ isDue (now (blocks .entry)) i set ⌝ }
+{
+    let behind = blocks[224 + i];
+    if behind == 0 {
+        return false;
+    }
+    (set >> (behind - 1)) % 2 == 1
+}
+
+// Every way to decide the blocks that are left, each first taken and then left out; of twins, the one that is taken before the other first. Each branch
+// has its own node by value, so nothing is released.
+fn explore(
+    low: &[u32],
+    gap: &[u32],
+    hours: &[u32],
+    blocks: &[u32],
+    count: u32,
+    left: u32,
+    node: Node,
+    best: Best,
+) -> Best
+    requires { ⌜ Sized (now low) (now gap) (firstOf (now hours)) (lastOf (now hours)) (now blocks) × (length (now hours) ≡ 72) × (count ≤ 32) × (left ≤ count) × Fits (count - left) (node .set) (node .loss) (node .places) ⌝ }
+    ensures { λ r. ⌜ ExploredFrom (now (low .entry)) (now (gap .entry)) (firstOf (now (hours .entry))) (lastOf (now (hours .entry))) (turnOf (now (hours .entry))) (now (blocks .entry)) count left node best r ⌝ }
+{
+    let limit = best.limit;
+    if !is_open(low, gap, hours, blocks, count, left, node, limit) {
+        return best;
+    }
+    if left == 0 {
+        return decide(low, gap, hours, blocks, count, node, best);
+    }
+    let at = count - left;
+    let after = left - 1;
+    let without = leave(blocks, at, node);
+    if is_barred(blocks, at as usize, node.set) {
+        return explore(low, gap, hours, blocks, count, after, without, best);
+    }
+    let with = take(blocks, at, node);
+    let taken = explore(low, gap, hours, blocks, count, after, with, best);
+    if is_due(blocks, at as usize, node.set) {
+        return taken;
+    }
+    explore(low, gap, hours, blocks, count, after, without, taken)
+}
+
+// The published set: a pass with a small threshold first, doubled until a pass finds a set. A pass that finds one has found the published one.
+pub fn find(low: &[u32], gap: &[u32], hours: &[u32], blocks: &[u32], count: u32) -> Best
+    requires { ⌜ Sized (now low) (now gap) (firstOf (now hours)) (lastOf (now hours)) (now blocks) × (length (now hours) ≡ 72) × (count ≤ 32) ⌝ }
+    ensures { λ r. ⌜ FoundIn (now (low .entry)) (now (gap .entry)) (firstOf (now (hours .entry))) (lastOf (now (hours .entry))) (turnOf (now (hours .entry))) (now (blocks .entry)) count r ⌝ }
+{
+    let day = Day {
+        prices: [0; 24],
+        quantities: [0; 24],
+    };
+    let root = Node {
+        set: 0,
+        loss: 0,
+        places: [0; 24],
+    };
+    let mut limit: u64 = 1024;
+    while limit < 549755813888 {
+        let start = Best {
+            limit: limit,
+            set: 0,
+            day: day,
+        };
+        let found = explore(low, gap, hours, blocks, count, count, root, start);
+        if found.limit < limit {
+            return found;
+        }
+        limit = limit * 2;
+    }
+    let start = Best {
+        limit: limit,
+        set: 0,
+        day: day,
+    };
+    explore(low, gap, hours, blocks, count, count, root, start)
+}

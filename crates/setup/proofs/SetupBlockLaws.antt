@@ -1,0 +1,298 @@
+-- The blocks of the search: what they buy in each hour, and their six columns. Assumes nothing.
+use Prim.Native.Nat.{ℕ, zero, suc, _+_, _-_, _*_, _≤_, _<_}
+use mathlib.Core.Path.{_≡_, refl, _∙_}
+use mathlib.Core.List.{List}
+use mathlib.Core.Bool.{Bool, true, false, cond}
+use native.Mathlib.Omega.{arith}
+use native.Mathlib.Decide.{decLe}
+use native.Mathlib.Nat.{lt-of-not-le, mul-le-mul}
+use native.Mathlib.Numerals.{add-one}
+use lib.ListN.{length, getD, set, replicate, length-set}
+use lib.Seq.{getD-set-same, getD-set-other}
+use Rattle.book.specs.Records.{holdsHour, hourCount}
+use Rattle.orders.specs.Columns.{sideFor}
+use Rattle.rules.specs.Orders.{Side, buy, sell}
+use Rattle.rules.specs.Hour.{bySide, when}
+use Rattle.rules.proofs.CurveLaws.{when-le}
+use Rattle.search.specs.Search.{Small, sideAt, hoursAt, quantityAt, limitAt, againstAt, gainAt, sumOfHours}
+use Rattle.setup.specs.Setup.{BlocksHeld, sumBelow, boughtIn, written, Written}
+use Rattle.search.proofs.LeafLaws.{zeros}
+
+-- a number for each side stays below what both do
+pub side-le : (side : Side) (a b m : ℕ) → a ≤ m → b ≤ m → bySide side a b ≤ m
+side-le buy a b m x y = x
+side-le sell a b m x y = y
+
+pub product-fits : (q x : ℕ) → q ≤ 50 → x ≤ 7200000 → q * x ≤ 360000000
+product-fits q x a b = omega (arith, mul-le-mul a b)
+
+-- a block runs in at most 24 hours
+hours-most : (n x : ℕ) → hourCount n x ≤ n
+unfolding hourCount
+hours-most zero x = omega arith
+hours-most (suc n) x = at (holdsHour x (suc n)) (hours-most n x)
+  where
+    at : (t : Bool) → hourCount n x ≤ n → hourCount n x + cond t 1 0 ≤ suc n
+    at true k = omega arith
+    at false k = omega arith
+
+pub limit-fits : (price x : ℕ) → price ≤ 300000 → price * hourCount 24 x ≤ 7200000
+limit-fits price x a = omega (arith, mul-le-mul a (hours-most 24 x))
+
+-- places moved on by at most 50 in each hour
+pub moved-small : (i x q : ℕ) (places more : List ℕ) → Small (i * 50) places → q ≤ 50 → length more ≡ 24 →
+    ((h : ℕ) → 1 ≤ h → h ≤ 24 → getD more (h - 1) 0 ≡ getD places (h - 1) 0 + when (holdsHour x h) q) → Small ((i + 1) * 50) more
+moved-small i x q places more small few size moved j = elim (decLe 24 j) [
+  | yes k ↦ let z : length more ≤ j = omega arith in rw (lib.ListN.List·getD-eq-default more 0 z) (omega arith)
+  | no k ↦
+      let one : suc j - 1 ≡ j = omega arith in
+      let m : getD more (suc j - 1) 0 ≡ getD more j 0 = rw one in
+      let n : getD places (suc j - 1) 0 ≡ getD places j 0 = rw one in
+      omega (arith, moved (suc j) (omega arith) (omega (arith, lt-of-not-le k)), small j, when-le (holdsHour x (suc j)) q)
+]
+
+-- WHAT THE BUY BLOCKS BUY in each hour
+module _ (sides hours quantities : List ℕ) where
+  pub record OffTo (i : ℕ) (off : List ℕ) : Type 0 where
+    pub size : length off ≡ 24
+    pub small : Small (i * 50) off
+    pub is : (h : ℕ) → 1 ≤ h → h ≤ 24 → getD off (h - 1) 0 ≡ boughtIn i sides hours quantities h
+
+  pub off-start : OffTo 0 (replicate 24 0)
+  unfolding sumBelow
+  off-start = record { size = refl; small = λ j. omega (arith, zeros 24 j); is = λ h a b. zeros 24 (h - 1) }
+
+  pub off-next : (i : ℕ) (off more : List ℕ) (q : ℕ) → OffTo i off → getD quantities i 0 ≤ 50 →
+      q ≡ bySide (sideFor (getD sides i 0)) (getD quantities i 0) 0 → length more ≡ 24 →
+      ((h : ℕ) → 1 ≤ h → h ≤ 24 → getD more (h - 1) 0 ≡ getD off (h - 1) 0 + when (holdsHour (getD hours i 0) h) q) → OffTo (i + 1) more
+  unfolding sumBelow
+  off-next i off more q o few e size moved = record {
+    size = size;
+    small =
+        let fits = side-le (sideFor (getD sides i 0)) (getD quantities i 0) 0 50 few (omega arith) in
+        moved-small i (getD hours i 0) q off more (o .small) (omega arith) size moved;
+    is = λ h a b. moved h a b ∙ rw (add-one, o .is h a b, e);
+  }
+
+  pub off-all : (count i : ℕ) (off : List ℕ) → OffTo i off → i ≡ count → count ≤ 32 →
+      Small 1600 off × ((h : ℕ) → 1 ≤ h → h ≤ 24 → getD off (h - 1) 0 ≡ boughtIn count sides hours quantities h)
+  off-all count i off o e few = (λ j. omega (arith, o .small j), λ h a b. rw (← e) (o .is h a b))
+
+-- ONE BLOCK WRITTEN: six numbers
+module _ (c : List ℕ) (i v₀ v₁ v₂ v₃ v₄ v₅ : ℕ) (k : i < 32) (size : length c ≡ 192) where
+  abbrev l₁ : List ℕ
+  l₁ = set c i v₀
+
+  abbrev l₂ : List ℕ
+  l₂ = set l₁ (32 + i) v₁
+
+  abbrev l₃ : List ℕ
+  l₃ = set l₂ (64 + i) v₂
+
+  abbrev l₄ : List ℕ
+  l₄ = set l₃ (96 + i) v₃
+
+  abbrev l₅ : List ℕ
+  l₅ = set l₄ (128 + i) v₄
+
+  abbrev l₆ : List ℕ
+  l₆ = set l₅ (160 + i) v₅
+
+  size₁ : length l₁ ≡ 192
+  size₁ = rw length-set size
+
+  size₂ : length l₂ ≡ 192
+  size₂ = rw length-set size₁
+
+  size₃ : length l₃ ≡ 192
+  size₃ = rw length-set size₂
+
+  size₄ : length l₄ ≡ 192
+  size₄ = rw length-set size₃
+
+  size₅ : length l₅ ≡ 192
+  size₅ = rw length-set size₄
+
+  six-size : length l₆ ≡ 192
+  six-size = rw length-set size₅
+
+  -- other places are as they were
+  six-other : (at : ℕ) → (at ≡ i → ⊥) → (at ≡ 32 + i → ⊥) → (at ≡ 64 + i → ⊥) → (at ≡ 96 + i → ⊥) → (at ≡ 128 + i → ⊥) →
+      (at ≡ 160 + i → ⊥) → getD l₆ at 0 ≡ getD c at 0
+  six-other at e₀ e₁ e₂ e₃ e₄ e₅ =
+      getD-set-other l₅ (160 + i) at v₅ 0 e₅ ∙ getD-set-other l₄ (128 + i) at v₄ 0 e₄ ∙ getD-set-other l₃ (96 + i) at v₃ 0 e₃
+      ∙ getD-set-other l₂ (64 + i) at v₂ 0 e₂ ∙ getD-set-other l₁ (32 + i) at v₁ 0 e₁ ∙ getD-set-other c i at v₀ 0 e₀
+
+  six₀ : getD l₆ i 0 ≡ v₀
+  six₀ =
+      getD-set-other l₅ (160 + i) i v₅ 0 (λ e. omega arith) ∙ getD-set-other l₄ (128 + i) i v₄ 0 (λ e. omega arith)
+      ∙ getD-set-other l₃ (96 + i) i v₃ 0 (λ e. omega arith) ∙ getD-set-other l₂ (64 + i) i v₂ 0 (λ e. omega arith)
+      ∙ getD-set-other l₁ (32 + i) i v₁ 0 (λ e. omega arith) ∙ getD-set-same c i v₀ 0 (omega arith)
+
+  six₁ : getD l₆ (32 + i) 0 ≡ v₁
+  six₁ =
+      getD-set-other l₅ (160 + i) (32 + i) v₅ 0 (λ e. omega arith) ∙ getD-set-other l₄ (128 + i) (32 + i) v₄ 0 (λ e. omega arith)
+      ∙ getD-set-other l₃ (96 + i) (32 + i) v₃ 0 (λ e. omega arith) ∙ getD-set-other l₂ (64 + i) (32 + i) v₂ 0 (λ e. omega arith)
+      ∙ getD-set-same l₁ (32 + i) v₁ 0 (omega (arith, size₁))
+
+  six₂ : getD l₆ (64 + i) 0 ≡ v₂
+  six₂ =
+      getD-set-other l₅ (160 + i) (64 + i) v₅ 0 (λ e. omega arith) ∙ getD-set-other l₄ (128 + i) (64 + i) v₄ 0 (λ e. omega arith)
+      ∙ getD-set-other l₃ (96 + i) (64 + i) v₃ 0 (λ e. omega arith) ∙ getD-set-same l₂ (64 + i) v₂ 0 (omega (arith, size₂))
+
+  six₃ : getD l₆ (96 + i) 0 ≡ v₃
+  six₃ =
+      getD-set-other l₅ (160 + i) (96 + i) v₅ 0 (λ e. omega arith) ∙ getD-set-other l₄ (128 + i) (96 + i) v₄ 0 (λ e. omega arith)
+      ∙ getD-set-same l₃ (96 + i) v₃ 0 (omega (arith, size₃))
+
+  six₄ : getD l₆ (128 + i) 0 ≡ v₄
+  six₄ = getD-set-other l₅ (160 + i) (128 + i) v₅ 0 (λ e. omega arith) ∙ getD-set-same l₄ (128 + i) v₄ 0 (omega (arith, size₄))
+
+  six₅ : getD l₆ (160 + i) 0 ≡ v₅
+  six₅ = getD-set-same l₅ (160 + i) v₅ 0 (omega (arith, size₅))
+
+-- .. which are the block's
+module _ (c : List ℕ) (i side hours quantity limit sum : ℕ) (k : i < 32) (size : length c ≡ 192) where
+  abbrev after : List ℕ
+  after = written c i side hours quantity limit sum
+
+  abbrev lost : ℕ
+  lost = quantity * bySide (sideFor side) (sum - limit) (limit - sum)
+
+  abbrev won : ℕ
+  won = quantity * bySide (sideFor side) (limit - sum) (sum - limit)
+
+  pub written-size : length after ≡ 192
+  unfolding written
+  written-size = six-size c i side hours quantity limit lost won k size
+
+  written-other : (at : ℕ) → (at ≡ i → ⊥) → (at ≡ 32 + i → ⊥) → (at ≡ 64 + i → ⊥) → (at ≡ 96 + i → ⊥) → (at ≡ 128 + i → ⊥) →
+      (at ≡ 160 + i → ⊥) → getD after at 0 ≡ getD c at 0
+  unfolding written
+  written-other = six-other c i side hours quantity limit lost won k size
+
+  side-here : sideAt after i ≡ side
+  unfolding written
+  side-here = six₀ c i side hours quantity limit lost won k size
+
+  hours-here : hoursAt after i ≡ hours
+  unfolding written
+  hours-here = six₁ c i side hours quantity limit lost won k size
+
+  quantity-here : quantityAt after i ≡ quantity
+  unfolding written
+  quantity-here = six₂ c i side hours quantity limit lost won k size
+
+  limit-here : limitAt after i ≡ limit
+  unfolding written
+  limit-here = six₃ c i side hours quantity limit lost won k size
+
+  against-here : againstAt after i ≡ lost
+  unfolding written
+  against-here = six₄ c i side hours quantity limit lost won k size
+
+  gain-here : gainAt after i ≡ won
+  unfolding written
+  gain-here = six₅ c i side hours quantity limit lost won k size
+
+  -- the columns of another block are as they were
+  module _ (j : ℕ) (inside : j < 32) (other : j ≡ i → ⊥) where
+    pub side-there : sideAt after j ≡ sideAt c j
+    side-there =
+        written-other j other (λ e. omega arith) (λ e. omega arith) (λ e. omega arith) (λ e. omega arith) (λ e. omega arith)
+
+    pub hours-there : hoursAt after j ≡ hoursAt c j
+    hours-there =
+        written-other (32 + j) (λ e. omega arith) (λ e. other (omega arith)) (λ e. omega arith) (λ e. omega arith) (λ e. omega arith) (λ e. omega arith)
+
+    pub quantity-there : quantityAt after j ≡ quantityAt c j
+    quantity-there =
+        written-other (64 + j) (λ e. omega arith) (λ e. omega arith) (λ e. other (omega arith)) (λ e. omega arith) (λ e. omega arith) (λ e. omega arith)
+
+    pub limit-there : limitAt after j ≡ limitAt c j
+    limit-there =
+        written-other (96 + j) (λ e. omega arith) (λ e. omega arith) (λ e. omega arith) (λ e. other (omega arith)) (λ e. omega arith) (λ e. omega arith)
+
+    pub against-there : againstAt after j ≡ againstAt c j
+    against-there =
+        written-other (128 + j) (λ e. omega arith) (λ e. omega arith) (λ e. omega arith) (λ e. omega arith) (λ e. other (omega arith)) (λ e. omega arith)
+
+    pub gain-there : gainAt after j ≡ gainAt c j
+    gain-there =
+        written-other (160 + j) (λ e. omega arith) (λ e. omega arith) (λ e. omega arith) (λ e. omega arith) (λ e. omega arith) (λ e. other (omega arith))
+
+-- ALL BLOCKS WRITTEN
+module _ (sides hours prices quantities root : List ℕ) where
+  abbrev limitOf : ℕ → ℕ
+  limitOf i = getD prices i 0 * hourCount 24 (getD hours i 0)
+
+  abbrev sumOf : ℕ → ℕ
+  sumOf i = sumOfHours root (getD hours i 0)
+
+  pub record WrittenTo (count i : ℕ) (columns : List ℕ) : Type 0 where
+    pub inside : i ≤ count
+    pub size : length columns ≡ 192
+    pub small : (j : ℕ) → j < 32 → quantityAt columns j ≤ 50
+    pub done : (j : ℕ) → j < i → Written sides hours prices quantities root columns j
+
+  pub written-start : (count : ℕ) → WrittenTo count 0 (replicate 192 0)
+  written-start count =
+      record { inside = omega arith; size = refl; small = λ j k. omega (arith, zeros 192 (64 + j)); done = λ j a. absurd (omega arith) }
+
+  pub written-next : (count i : ℕ) (columns : List ℕ) (side x q limit sum : ℕ) (more : List ℕ) → WrittenTo count i columns →
+      BlocksHeld count prices quantities → i < count → side ≡ getD sides i 0 → x ≡ getD hours i 0 → q ≡ getD quantities i 0 → limit ≡ limitOf i →
+      sum ≡ sumOf i → more ≡ written columns i side x q limit sum → WrittenTo count (i + 1) more
+  written-next count i columns side x q limit sum more w held k es ex eq el em e =
+      let few : i < 32 = omega (arith, held .few) in
+      rw e
+      record {
+        inside = omega arith;
+        size = written-size columns i side x q limit sum few (w .size);
+        small = λ j b. smallAt j b few;
+        done = λ j a. doneAt j a few;
+      }
+    where
+      smallAt : (j : ℕ) → j < 32 → i < 32 → quantityAt (written columns i side x q limit sum) j ≤ 50
+      smallAt j b few = elim (decLe j i) [
+        | yes u ↦ elim (decLe i j) [
+          | yes v ↦
+              let same : j ≡ i = omega arith in
+              rw same (omega (arith, quantity-here columns i side x q limit sum few (w .size), eq, held .quantitiesFit i k))
+          | no v ↦ let d : j < i = lt-of-not-le v in rw (quantity-there columns i side x q limit sum few (w .size) j b (λ z. omega arith)) (w .small j b)
+        ]
+        | no u ↦ let d : i < j = lt-of-not-le u in rw (quantity-there columns i side x q limit sum few (w .size) j b (λ z. omega arith)) (w .small j b)
+      ]
+
+      new : i < 32 → Written sides hours prices quantities root (written columns i side x q limit sum) i
+      new few = record {
+        sideIs = side-here columns i side x q limit sum few (w .size) ∙ es;
+        hoursIs = hours-here columns i side x q limit sum few (w .size) ∙ ex;
+        quantityIs = quantity-here columns i side x q limit sum few (w .size) ∙ eq;
+        limitIs = limit-here columns i side x q limit sum few (w .size) ∙ el;
+        againstIs = against-here columns i side x q limit sum few (w .size) ∙ rw (eq, es, el, em);
+        gainIs = gain-here columns i side x q limit sum few (w .size) ∙ rw (eq, es, el, em);
+      }
+
+      old : i < 32 → (j : ℕ) → j < i → Written sides hours prices quantities root (written columns i side x q limit sum) j
+      old few j a =
+          let b : j < 32 = omega arith in
+          let z : j ≡ i → ⊥ = λ y. omega arith in
+          let d = w .done j a in
+          record {
+            sideIs = side-there columns i side x q limit sum few (w .size) j b z ∙ d .sideIs;
+            hoursIs = hours-there columns i side x q limit sum few (w .size) j b z ∙ d .hoursIs;
+            quantityIs = quantity-there columns i side x q limit sum few (w .size) j b z ∙ d .quantityIs;
+            limitIs = limit-there columns i side x q limit sum few (w .size) j b z ∙ d .limitIs;
+            againstIs = against-there columns i side x q limit sum few (w .size) j b z ∙ d .againstIs;
+            gainIs = gain-there columns i side x q limit sum few (w .size) j b z ∙ d .gainIs;
+          }
+
+      doneAt : (j : ℕ) → j < i + 1 → i < 32 → Written sides hours prices quantities root (written columns i side x q limit sum) j
+      doneAt j a few = elim (decLe i j) [
+        | yes u ↦ let same : j ≡ i = omega arith in rw same (new few)
+        | no u ↦ old few j (lt-of-not-le u)
+      ]
+
+  pub written-all : (count i : ℕ) (columns : List ℕ) → WrittenTo count i columns → count ≤ i →
+      ((j : ℕ) → j < 32 → quantityAt columns j ≤ 50) × ((j : ℕ) → j < count → Written sides hours prices quantities root columns j)
+  written-all count i columns w k = (w .small, λ j a. w .done j (omega (arith, w .inside)))

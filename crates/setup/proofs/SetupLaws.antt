@@ -1,0 +1,408 @@
+-- WHAT THE SETUP GIVES THE SEARCH: the tables and columns filled from an accepted book's columns are those of its day. Assumes nothing.
+use Prim.Native.Nat.{ℕ, zero, suc, _+_, _-_, _*_, _/_, _%_, _≤_, _<_}
+use mathlib.Core.Path.{_≡_, refl, sym, ap, _∙_}
+use mathlib.Core.List.{List, [], _∷_}
+use mathlib.Core.Logic.{_↔_}
+use native.Mathlib.Omega.{arith}
+use native.Mathlib.Decide.{decLe}
+use native.Mathlib.Nat.{lt-of-not-le}
+use lib.ListN.{length, take, drop, getD, length-map, drop-of-length-le}
+use lib.Seq.{getD-take, getD-drop, slice}
+use Rattle.book.specs.Records.{number, sideByte, hourCount}
+use Rattle.book.specs.Refusals.{Accepted}
+use Rattle.book.proofs.Members.{Each}
+use Rattle.orders.specs.Bridge.{dayFrom}
+use Rattle.orders.specs.Columns.{StepColumns, BlockColumns, sideFor, stepsFrom, blockOf, blocksFrom}
+use Rattle.orders.specs.Columns.{blockRecords, blockHoursAt, blockPriceAt, blockQuantityAt}
+use Rattle.orders.proofs.BridgeLaws.{BlockInRange, blocks-in-range, prices-in-range, hours-in-range, blocks-from-columns, block-count, hour-count}
+use Rattle.orders.proofs.HourLaws.{hour-from-columns, ends-rise, ends-fit}
+use Rattle.orders.proofs.PlaceLaws.{block-place}
+use Rattle.rules.specs.Orders.{Side, buy, sell, Step, Block}
+use Rattle.rules.specs.Hour.{bySide, when, allBuys, allSells}
+use Rattle.rules.specs.Day.{overBlocks, sells, buys, stepsIn, priceSum}
+use Rattle.rules.specs.Day as day
+use Rattle.rules.specs.Contender.{PricesInRange}
+use Rattle.rules.proofs.ChainLaws.{prices-in}
+use Rattle.rules.proofs.CurveLaws.{when-le}
+use Rattle.rules.proofs.PricingLaws.{Clearable, net}
+use Rattle.rules.proofs.TableLaws.{unitPrice}
+use Rattle.rules.proofs.NeighbourLaws.{slack}
+use Rattle.rules.proofs.BoundLaws.{gain}
+use Rattle.rules.proofs.LossLaws.{against}
+use Rattle.rules.proofs.PlaceLaws.{hourAt}
+use Rattle.rules.proofs.TwinLaws.{limitOf, Ahead, ahead-by-limits}
+use Rattle.pricing.specs.Tables.{UnitPrices, NotRising}
+use Rattle.pricing.proofs.LevelLaws.{table-in-range, table-not-rising}
+use Rattle.pricing.proofs.GapLaws.{gap-table, gap-falls, gap-rises}
+use Rattle.search.specs.Search.{Small, cell, ofHour, sideAt, quantityAt, limitAt, aheadAt, behindAt, sumOfHours}
+use Rattle.search.specs.Meaning.{BlocksSized, Sized, Shown, Known, Turning}
+use Rattle.setup.specs.Setup.{
+  StepsHeld,
+  BlocksHeld,
+  between,
+  partOf,
+  rowOf,
+  RowsAre,
+  RangedAt,
+  RangesAre,
+  sumBelow,
+  boughtIn,
+  Written,
+  TwinsAt,
+  ReadyFor,
+}
+use Rattle.search.proofs.BranchLaws.{daySum-plain}
+use Rattle.setup.proofs.SetupTwinLaws.{Completed, no-worse-true, no-worse-false}
+use Rattle.setup.proofs.SetupTableLaws.{take-drop, row-length, range-holds}
+
+-- THE BLOCKS OF THE COLUMNS
+blocks-at : (b r s x p q : List ℕ) (j : ℕ) → j < length r → j < length s → j < length x → j < length p → j < length q →
+    drop j (blocksFrom b r s x p q)
+    ≡ blockOf (number b (getD r j 0)) (getD s j 0) (getD x j 0) (getD p j 0) (getD q j 0) ∷ drop (suc j) (blocksFrom b r s x p q)
+unfolding blocksFrom
+blocks-at b [] s x p q j kr ks kx kp kq = absurd (omega arith)
+blocks-at b (r₀ ∷ r) [] x p q j kr ks kx kp kq = absurd (omega arith)
+blocks-at b (r₀ ∷ r) (s₀ ∷ s) [] p q j kr ks kx kp kq = absurd (omega arith)
+blocks-at b (r₀ ∷ r) (s₀ ∷ s) (x₀ ∷ x) [] q j kr ks kx kp kq = absurd (omega arith)
+blocks-at b (r₀ ∷ r) (s₀ ∷ s) (x₀ ∷ x) (p₀ ∷ p) [] j kr ks kx kp kq = absurd (omega arith)
+blocks-at b (r₀ ∷ r) (s₀ ∷ s) (x₀ ∷ x) (p₀ ∷ p) (q₀ ∷ q) zero kr ks kx kp kq = refl
+blocks-at b (r₀ ∷ r) (s₀ ∷ s) (x₀ ∷ x) (p₀ ∷ p) (q₀ ∷ q) (suc j) kr ks kx kp kq =
+    blocks-at b r s x p q j (omega arith) (omega arith) (omega arith) (omega arith) (omega arith)
+
+-- a sum over blocks that stand one after the other
+over-below : (l : List Block) (B : ℕ → Block) (f : Block → ℕ) (n : ℕ) → ((j : ℕ) → j < n → drop j l ≡ B j ∷ drop (suc j) l) →
+    overBlocks f l ≡ sumBelow n (λ j. f (B j)) + overBlocks f (drop n l)
+unfolding sumBelow
+over-below l B f zero next = omega arith
+over-below l B f (suc n) next =
+    omega (arith, over-below l B f n (λ j k. next j (omega arith)), ap (overBlocks f) (next n (omega arith)))
+
+-- what blocks of at most 50 trade in an hour
+trade-fits : (h : ℕ) (s : Block) → BlockInRange s → sells h s + buys h s ≤ 50
+trade-fits h s r = at (s .side) (s .runs h)
+  where
+    at : (side : Side) (t : _) → when t (bySide side 0 (s .quantity)) + when t (bySide side (s .quantity) 0) ≤ 50
+    at buy t = omega (arith, when-le t 0, when-le t (s .quantity), r .quantity .1)
+    at sell t = omega (arith, when-le t 0, when-le t (s .quantity), r .quantity .1)
+
+trades-fit : (h : ℕ) (l : List Block) → Each BlockInRange l → overBlocks (sells h) l + overBlocks (buys h) l ≤ length l * 50
+trades-fit h [] e = omega arith
+trades-fit h (s ∷ l) e = omega (arith, trade-fits h s (e .0), trades-fit h l (e .1))
+
+-- THE TABLE IS SMALL
+row-at : (table : List ℕ) (h i : ℕ) → i < 1602 → getD (rowOf table h) i 0 ≡ getD table (h * 1602 + i) 0
+row-at table h i k = getD-take 1602 (drop (h * 1602) table) i 0 k ∙ getD-drop (h * 1602) table i 0
+
+module _ (sides prices quantities ends off low : List ℕ) (size : length low ≡ 38448) (rows : RowsAre sides prices quantities ends off low) where
+  pub low-small : Small 300000 low
+  low-small i = elim (decLe 38448 i) [
+    | yes k ↦ let z : length low ≤ i = omega arith in rw (lib.ListN.List·getD-eq-default low 0 z) (omega arith)
+    | no k ↦
+        let a : i < 38448 = lt-of-not-le k in
+        let h = i / 1602 in
+        let hk : i / 1602 < 24 = omega arith in
+        let e : h * 1602 + i % 1602 ≡ i = omega arith in
+        let m : i % 1602 < 1602 = omega arith in
+        let inside : i % 1602 < length (rowOf low h) = omega (arith, row-length low h size hk) in
+        let l = stepsFrom 0 (partOf ends h sides) (partOf ends h prices) (partOf ends h quantities) in
+        let top = table-in-range l (getD off h 0) (rowOf low h) (rows h hk 0) (i % 1602) inside in
+        rw e at (rw (row-at low h (i % 1602) m) at top)
+  ]
+
+-- a part of a column, in either form
+slice-between : (a e : ℕ) (l : List ℕ) → a ≤ e → slice a e l ≡ between a e l
+slice-between a e l k = let z : a + (e - a) ≡ e = omega arith in rw (take-drop a (e - a) l, z)
+
+-- THE DAY OF AN ACCEPTED BOOK
+module _ (b ends stepRecords sides prices quantities : List ℕ) (count : ℕ) (records blockSides hours blockPrices blockQuantities : List ℕ)
+    (a : Accepted b) (sc : StepColumns b ends stepRecords sides prices quantities)
+    (bc : BlockColumns b count records blockSides hours blockPrices blockQuantities) where
+  abbrev blockHere : ℕ → Block
+  blockHere j = blockOf (number b (getD records j 0)) (getD blockSides j 0) (getD hours j 0) (getD blockPrices j 0) (getD blockQuantities j 0)
+
+  block-next : (j : ℕ) → j < count → drop j (dayFrom b .blocks) ≡ blockHere j ∷ drop (suc j) (dayFrom b .blocks)
+  block-next j k =
+      let n = sym (bc .counted) in
+      let l = blockRecords b in
+      let lr : length (take count records) ≡ count = ap length (bc .recordsAre) ∙ n in
+      let ls : length (take count blockSides) ≡ count = ap length (bc .sidesAre) ∙ length-map l (sideByte b) ∙ n in
+      let lh : length (take count hours) ≡ count = ap length (bc .hoursAre) ∙ length-map l (blockHoursAt b) ∙ n in
+      let lp : length (take count blockPrices) ≡ count = ap length (bc .pricesAre) ∙ length-map l (blockPriceAt b) ∙ n in
+      let lq : length (take count blockQuantities) ≡ count = ap length (bc .quantitiesAre) ∙ length-map l (blockQuantityAt b) ∙ n in
+      let t = blocks-at b (take count records) (take count blockSides) (take count hours) (take count blockPrices) (take count blockQuantities) j
+      (omega arith) (omega arith) (omega arith) (omega arith) (omega arith) in
+      rw (blocks-from-columns b count records blockSides hours blockPrices blockQuantities bc a)
+      (rw (
+        getD-take count records j 0 k,
+        getD-take count blockSides j 0 k,
+        getD-take count hours j 0 k,
+        getD-take count blockPrices j 0 k,
+        getD-take count blockQuantities j 0 k,
+      ) at t)
+
+  blocks-counted : length (dayFrom b .blocks) ≡ count
+  blocks-counted = block-count b count records blockSides hours blockPrices blockQuantities bc a
+
+  bought-is : (h : ℕ) → boughtIn count blockSides hours blockQuantities h ≡ overBlocks (buys h) (dayFrom b .blocks)
+  bought-is h =
+      let most : length (dayFrom b .blocks) ≤ count = omega (arith, blocks-counted) in
+      let none : drop count (dayFrom b .blocks) ≡ [] = drop-of-length-le (dayFrom b .blocks) most in
+      omega (arith, over-below (dayFrom b .blocks) blockHere (buys h) count block-next, ap (overBlocks (buys h)) none)
+
+  blocks-fit : (h : ℕ) → overBlocks (sells h) (dayFrom b .blocks) + overBlocks (buys h) (dayFrom b .blocks) ≤ 1600
+  blocks-fit h = omega (arith, trades-fit h (dayFrom b .blocks) (blocks-in-range b a), blocks-counted, bc .few)
+
+  abbrev stepsHere : ℕ → List Step
+  stepsHere h = stepsFrom h (partOf ends (h - 1) sides) (partOf ends (h - 1) prices) (partOf ends (h - 1) quantities)
+
+  steps-are : (h : ℕ) → 1 ≤ h → h ≤ 24 → stepsIn h (dayFrom b .steps) ≡ stepsHere h
+  steps-are h first last =
+      let one : h - 1 + 1 ≡ h = omega arith in
+      let rise = ends-rise b ends stepRecords sides prices quantities sc (h - 1) h (omega arith) last in
+      rw one
+      (hour-from-columns b ends stepRecords sides prices quantities sc a h first last
+      ∙ rw (
+        slice-between (getD ends (h - 1) 0) (getD ends h 0) sides rise,
+        slice-between (getD ends (h - 1) 0) (getD ends h 0) prices rise,
+        slice-between (getD ends (h - 1) 0) (getD ends h 0) quantities rise,
+      ))
+
+  -- A BLOCK OF THE COLUMNS, at the prices root
+  module _ (root columns : List ℕ) (all : Completed blockSides hours blockPrices blockQuantities root count columns) (j : ℕ) (k : j < count) where
+    w : Written blockSides hours blockPrices blockQuantities root columns j
+    w = all .columns j k
+
+    abbrev priceOf : ℕ → ℕ
+    priceOf h = getD root (h - 1) 0
+
+    sum-is : priceSum (dayFrom b .hours) priceOf (blockHere j) ≡ sumOfHours root (getD hours j 0)
+    unfolding priceSum sumOfHours
+    sum-is = daySum-plain (dayFrom b .hours) _
+
+    limit-is : blockHere j .price * day.hourCount (dayFrom b .hours) (blockHere j) ≡ getD blockPrices j 0 * hourCount 24 (getD hours j 0)
+    limit-is =
+        rw (hour-count (dayFrom b .hours) (number b (getD records j 0)) (getD blockSides j 0) (getD hours j 0) (getD blockPrices j 0)
+        (getD blockQuantities j 0))
+
+    limit-at : limitOf (dayFrom b .hours) (blockHere j) ≡ limitAt columns j
+    limit-at = limit-is ∙ sym (w .limitIs)
+
+    against-is : against (dayFrom b .hours) priceOf (blockHere j)
+        ≡ getD blockQuantities j 0
+        * bySide (sideFor (getD blockSides j 0)) (sumOfHours root (getD hours j 0) - getD blockPrices j 0 * hourCount 24 (getD hours j 0))
+        (getD blockPrices j 0 * hourCount 24 (getD hours j 0) - sumOfHours root (getD hours j 0))
+    unfolding against
+    against-is = rw (sum-is, limit-is)
+
+    gain-is : gain (dayFrom b .hours) priceOf (blockHere j)
+        ≡ getD blockQuantities j 0
+        * bySide (sideFor (getD blockSides j 0)) (getD blockPrices j 0 * hourCount 24 (getD hours j 0) - sumOfHours root (getD hours j 0))
+        (sumOfHours root (getD hours j 0) - getD blockPrices j 0 * hourCount 24 (getD hours j 0))
+    unfolding gain
+    gain-is = rw (sum-is, limit-is)
+
+    block-shown : Shown (dayFrom b) priceOf columns j
+    block-shown = record {
+      block = blockHere j;
+      next = block-next j k;
+      sideIs = rw (w .sideIs);
+      runsIs = λ h. rw (w .hoursIs);
+      rowIs = λ h from to. all .row j h k from to ∙ rw (w .hoursIs, w .quantityIs);
+      limitIs = limit-at;
+      againstIs = against-is ∙ sym (w .againstIs);
+      gainIs = gain-is ∙ sym (w .gainIs);
+    }
+
+  -- TWINS OF THE COLUMNS: block i is ahead of block j where its limit is no worse
+  module _ (root columns : List ℕ) (all : Completed blockSides hours blockPrices blockQuantities root count columns) where
+    twins-ahead : (i j : ℕ) (ki : i < count) (kj : j < count) → TwinsAt columns i j →
+        bySide (sideFor (sideAt columns i)) (limitAt columns j) (limitAt columns i)
+        ≤ bySide (sideFor (sideAt columns i)) (limitAt columns i) (limitAt columns j) →
+        (j < i → (1 ≤ quantityAt columns i)
+        × (bySide (sideFor (sideAt columns i)) (limitAt columns j) (limitAt columns i)
+        < bySide (sideFor (sideAt columns i)) (limitAt columns i) (limitAt columns j))) →
+        Ahead (dayFrom b) (λ h. getD root (h - 1) 0) i j
+    twins-ahead i j ki kj t le less =
+        let wi = all .columns i ki in
+        let wj = all .columns j kj in
+        let mine = limit-at root columns all i ki in
+        let yours = limit-at root columns all j kj in
+        let hour : getD hours i 0 ≡ getD hours j 0 = sym (wi .hoursIs) ∙ t .sameHours ∙ wj .hoursIs in
+        ahead-by-limits (dayFrom b) _ i j (blockHere i) (blockHere j) (block-next i ki) (block-next j kj)
+        (ap sideFor (sym (wi .sideIs) ∙ t .sameSide ∙ wj .sideIs)) (λ h. rw hour) (sym (wi .quantityIs) ∙ t .sameQuantity ∙ wj .quantityIs)
+        (rw (mine, yours, ← wi .sideIs) le)
+        (λ n. (rw (← wi .quantityIs) (less n .0), rw (mine, yours, ← wi .sideIs) (less n .1)))
+
+    is-ahead : (j a : ℕ) → j < count → aheadAt columns j ≡ suc a → (a < j) × Ahead (dayFrom b) (λ h. getD root (h - 1) 0) a j
+    is-ahead j a k e =
+        let f = all .ahead j k a e in
+        let below = f .0 in (
+          below,
+          twins-ahead a j (omega arith) k (f .1)
+              (rw (f .1 .sameSide) (no-worse-true (sideAt columns j) (limitAt columns a) (limitAt columns j) (f .2))) (λ n. absurd (omega arith)),
+        )
+
+    is-behind : (j c : ℕ) → j < count → behindAt columns j ≡ suc c → (c < j) × Ahead (dayFrom b) (λ h. getD root (h - 1) 0) j c
+    is-behind j c k e =
+        let f = all .behind j k c e in
+        let below = f .0 in
+        let less = no-worse-false (sideAt columns j) (limitAt columns c) (limitAt columns j) (f .2) in
+        (below, twins-ahead j c k (omega arith) (f .1) (omega (arith, less)) (λ n. (f .3, less)))
+
+  -- THE HOURS
+  module _ (off root low gap first last turn columns : List ℕ) (lowSize : length low ≡ 38448) (offFits : Small 1600 off)
+      (offIs : (h : ℕ) → 1 ≤ h → h ≤ 24 → getD off (h - 1) 0 ≡ boughtIn count blockSides hours blockQuantities h)
+      (rows : RowsAre sides prices quantities ends off low) (ranges : RangesAre sides prices quantities ends off root low gap first last turn)
+      (blocks : Completed blockSides hours blockPrices blockQuantities root count columns) where
+    abbrev rootOf : ℕ → ℕ
+    rootOf h = getD root (h - 1) 0
+
+    -- what the gap table leaves off an hour's gaps
+    abbrev restOf : ℕ → ℕ
+    restOf h = slack (rootOf h) (hourAt (dayFrom b) h (ofHour first h)) - cell gap h (ofHour first h)
+
+    module _ (h : ℕ) (from : 1 ≤ h) (to : h ≤ 24) where
+      inside : h - 1 < 24
+      inside = omega arith
+
+      off-is : getD off (h - 1) 0 ≡ overBlocks (buys h) (dayFrom b .blocks)
+      off-is = offIs h from to ∙ bought-is h
+
+      abbrev steps : List Step
+      steps = stepsIn h (dayFrom b .steps)
+
+      abbrev offHere : ℕ
+      offHere = getD off (h - 1) 0
+
+      range : RangedAt sides prices quantities ends off root low gap first last turn (h - 1)
+      range = ranges (h - 1) inside
+
+      unit-prices : UnitPrices steps offHere (rowOf low (h - 1))
+      unit-prices = rw (steps-are h from to) (rows (h - 1) inside h)
+
+      prices-here : PricesInRange steps
+      prices-here = prices-in h (dayFrom b .steps) (prices-in-range b a)
+
+      bought-here : range .bought ≡ allBuys steps
+      bought-here = rw (steps-are h from to) (range .all .allBought h (rw (steps-are h from to) at prices-here))
+
+      sold-here : range .sold ≡ allSells steps
+      sold-here = rw (steps-are h from to) (range .all .allSold h (rw (steps-are h from to) at prices-here))
+
+      clearing-at : (i : ℕ) → i ≤ 1600 → ((ofHour first h ≤ i) × (i ≤ ofHour last h)) ↔ Clearable (net steps i offHere)
+      clearing-at = range .range .clearing steps bought-here sold-here
+
+      cell-is : (table : List ℕ) (i : ℕ) → i ≤ 1601 → getD (rowOf table (h - 1)) i 0 ≡ cell table h i
+      cell-is table i k = row-at table (h - 1) i (omega arith)
+
+      low-is : (i : ℕ) → i ≤ 1601 → cell low h i ≡ unitPrice (net steps i (suc (overBlocks (buys h) (dayFrom b .blocks))))
+      low-is i k =
+          rw (← off-is) (sym (cell-is low i k) ∙ unit-prices i (omega (arith, row-length low (h - 1) lowSize inside)))
+
+      row-falls : NotRising (rowOf low (h - 1))
+      row-falls = table-not-rising steps offHere (rowOf low (h - 1)) unit-prices
+
+      row-inside : ofHour last h < length (rowOf low (h - 1))
+      row-inside = omega (arith, range .range .inside, row-length low (h - 1) lowSize inside)
+
+      clears-at : (i : ℕ) → i ≤ 1600 → ofHour first h ≤ i → i ≤ ofHour last h → Clearable (hourAt (dayFrom b) h i)
+      clears-at i k x y = rw (← off-is) (clearing-at i k .0 (x, y))
+
+      clears-only : (i : ℕ) → i ≤ 1600 → Clearable (hourAt (dayFrom b) h i) → (ofHour first h ≤ i) × (i ≤ ofHour last h)
+      clears-only i k c = clearing-at i k .1 (rw (← off-is) at c)
+
+      -- the gap table
+      ordered : (ofHour first h ≤ offHere) × (offHere ≤ ofHour last h)
+      ordered = range-holds (range .bought) (range .sold) offHere (ofHour first h) (ofHour last h) (range .range) (offFits (h - 1))
+
+      gap-here : (i : ℕ) → ofHour first h ≤ i → i ≤ ofHour last h →
+          slack (rootOf h) (net steps i offHere) ≡ getD (rowOf gap (h - 1)) i 0 + slack (rootOf h) (net steps (ofHour turn h) offHere)
+      gap-here =
+          let o = ordered in
+          let top = range .range .inside in
+          gap-table steps prices-here offHere (rowOf low (h - 1)) unit-prices (rootOf h) (ofHour first h) (ofHour last h) (ofHour turn h)
+          (rowOf gap (h - 1)) (range .gaps) (omega (arith, row-length low (h - 1) lowSize inside))
+          (clearing-at (ofHour first h) (omega arith) .0 (omega arith, omega arith))
+          (clearing-at (ofHour last h) (omega arith) .0 (omega arith, omega arith))
+
+      gap-is : (i : ℕ) → ofHour first h ≤ i → i ≤ ofHour last h → slack (rootOf h) (hourAt (dayFrom b) h i) ≡ cell gap h i + restOf h
+      gap-is i x y =
+          let o = ordered in
+          let top = range .range .inside in
+          rw (← off-is)
+          (omega (
+            arith,
+            gap-here i x y,
+            gap-here (ofHour first h) (omega arith) (omega arith),
+            cell-is gap i (omega arith),
+            cell-is gap (ofHour first h) (omega arith),
+          ))
+
+    pub known : Known (dayFrom b) rootOf restOf low gap first last columns count
+    known = record {
+      prices = prices-in-range b a;
+      hours = hours-in-range b a;
+      counted = blocks-counted;
+      fits = λ h from to. blocks-fit h;
+      lowIs = λ h i from to. low-is h from to i;
+      clears = λ h i from to. clears-at h from to i;
+      clearsOnly = λ h i from to. clears-only h from to i;
+      gapIs = λ h i from to. gap-is h from to i;
+      shown = block-shown root columns blocks;
+      ahead = is-ahead root columns blocks;
+      behind = is-behind root columns blocks;
+    }
+
+    pub turning : Turning gap first last turn
+    turning = record {
+      falls = λ h i j from to x y z t.
+          let o = range h from to .range .inside in
+          let g = gap-falls _ _ _ _ _ _ (row-falls h from to) (row-inside h from to) (range h from to .gaps) i j x y z t in
+          rw (cell-is h from to gap i (omega arith), cell-is h from to gap j (omega arith)) at g;
+      rises = λ h i j from to x y z t.
+          let o = range h from to .range .inside in
+          let g = gap-rises _ _ _ _ _ _ (row-falls h from to) (row-inside h from to) (range h from to .gaps) i j x y z t in
+          rw (cell-is h from to gap i (omega arith), cell-is h from to gap j (omega arith)) at g;
+    }
+
+-- WHAT IS PREPARED
+pub set-up : (low gap first last columns : List ℕ) → length low ≡ 38448 → length gap ≡ 38448 → length first ≡ 24 → length last ≡ 24 →
+    Small 1600 last → Small 300000 low → BlocksSized columns → Sized low gap first last columns
+set-up low gap first last columns l g f t s m c =
+    record { lowRows = l; gapRows = g; firstHours = f; lastHours = t; lastFits = s; lowFits = m; blocksFit = c }
+
+pub ready : (sides prices quantities ends : List ℕ) (count : ℕ) (records blockSides hours blockPrices blockQuantities : List ℕ)
+    (off root low gap first last turn columns : List ℕ) → length low ≡ 38448 → Small 1600 off →
+    ((h : ℕ) → 1 ≤ h → h ≤ 24 → getD off (h - 1) 0 ≡ boughtIn count blockSides hours blockQuantities h) →
+    RowsAre sides prices quantities ends off low → RangesAre sides prices quantities ends off root low gap first last turn →
+    Completed blockSides hours blockPrices blockQuantities root count columns →
+    ReadyFor sides prices quantities ends count records blockSides hours blockPrices blockQuantities low gap first last turn columns
+ready sides prices quantities ends count records blockSides hours blockPrices blockQuantities off root low gap first last turn columns l s o rows
+    ranges w b stepRecords a sc bc =
+    record {
+      p = _;
+      rest = _;
+      known = known b ends stepRecords sides prices quantities count records blockSides hours blockPrices blockQuantities a sc bc off root low gap
+          first last turn columns l s o rows ranges w;
+      turning = turning b ends stepRecords sides prices quantities count records blockSides hours blockPrices blockQuantities a sc bc off root low gap
+          first last turn columns l s o rows ranges w;
+    }
+
+-- WHAT SAFETY ASKS holds of an accepted book's columns, where the steps' are arrays of 2,048
+pub steps-held : (b ends stepRecords sides prices quantities : List ℕ) → StepColumns b ends stepRecords sides prices quantities →
+    length sides ≡ 2048 → length prices ≡ 2048 → length quantities ≡ 2048 → StepsHeld sides prices quantities ends
+steps-held b ends stepRecords sides prices quantities c s p q = record {
+  asManyPrices = s ∙ sym p;
+  asManyQuantities = s ∙ sym q;
+  notTooMany = omega arith;
+  rising = λ h k. ends-rise b ends stepRecords sides prices quantities c h (h + 1) (omega arith) (omega arith);
+  inside = λ h k. omega (arith, ends-fit b ends stepRecords sides prices quantities c h k);
+}
+
+pub blocks-held : (b : List ℕ) (count : ℕ) (records sides hours prices quantities : List ℕ) →
+    BlockColumns b count records sides hours prices quantities → Accepted b → BlocksHeld count prices quantities
+blocks-held b count records sides hours prices quantities c a = record {
+  few = c .few;
+  pricesFit = λ i k. block-place b count records sides hours prices quantities c a i k .priceRange .1;
+  quantitiesFit = λ i k. block-place b count records sides hours prices quantities c a i k .quantityRange .1;
+}

@@ -1,0 +1,225 @@
+-- The tables of the search, filled row after row: the price tables, the ranges and the gap tables of the hours. Assumes nothing.
+use Prim.Native.Nat.{ℕ, zero, suc, _+_, _-_, _*_, _≤_, _<_}
+use mathlib.Core.Path.{_≡_, refl, sym, ap, _∙_}
+use mathlib.Core.List.{List, [], _∷_, _++_}
+use native.Mathlib.Omega.{arith}
+use native.Mathlib.Decide.{decLe}
+use native.Mathlib.Nat.{lt-of-not-le}
+use lib.ListN.{length, take, drop, getD, set, replicate, length-set, length-take, length-drop}
+use lib.Seq.{length-take-le, take-take, take-nil, drop-nil, drop-at, take-at, getD-set-same, getD-set-other}
+use borrow.Rule.Slice.PartMut.{putMid, midOf, take-put, same-len-mid}
+use Rattle.rules.specs.Orders.{Step, buy, sell}
+use Rattle.orders.specs.Columns.{stepsFrom}
+use Rattle.pricing.specs.Tables.{PriceTable, AllOf, ClearRange, NotRising, GapsFor, GapTable}
+use Rattle.pricing.proofs.LevelLaws.{table-not-rising, table-in-range}
+use Rattle.search.specs.Search.{Small}
+use Rattle.setup.specs.Setup.{StepsHeld, PartHeld, between, partOf, rowOf, RowIs, RowsAre, Ranged, RangedAt, RangesAre}
+use Rattle.search.proofs.LeafLaws.{zeros}
+
+-- PARTS
+pub take-drop : (m k : ℕ) (l : List ℕ) → take k (drop m l) ≡ drop m (take (m + k) l)
+take-drop zero k l = let e : 0 + k ≡ k = omega arith in rw e
+take-drop (suc m) k [] = rw (take-nil, take-nil, drop-nil)
+take-drop (suc m) k (x ∷ l) = let e : suc m + k ≡ suc (m + k) = omega arith in rw e (take-drop m k l)
+
+-- a part that lies in front depends on the front alone
+part-front : (m k n : ℕ) (l r : List ℕ) → m + k ≤ n → take n l ≡ take n r → take k (drop m l) ≡ take k (drop m r)
+part-front m k n l r a e =
+    take-drop m k l ∙ ap (drop m) (sym (take-take (m + k) n l a) ∙ ap (take (m + k)) e ∙ take-take (m + k) n r a) ∙ sym (take-drop m k r)
+
+pub between-length : (a e : ℕ) (column : List ℕ) → a ≤ e → e ≤ length column → length (between a e column) ≡ e - a
+between-length a e column o i = simp (length-take, length-drop) (omega arith)
+
+pub part-held : (sides prices quantities ends : List ℕ) → StepsHeld sides prices quantities ends → (h : ℕ) → h < 24 →
+    PartHeld sides prices quantities (getD ends h 0) (getD ends (h + 1) 0)
+part-held sides prices quantities ends s h k = record {
+  asManyPrices = s .asManyPrices;
+  asManyQuantities = s .asManyQuantities;
+  notTooMany = s .notTooMany;
+  ordered = s .rising h k;
+  inside = s .inside (h + 1) (omega arith);
+}
+
+-- ROWS
+module _ (table row : List ℕ) (h k : ℕ) (size : length table ≡ 38448) (here : h < 24) (full : length row ≡ 1602) (wide : k ≡ 1602) where
+  pub row-put : rowOf (putMid (h * 1602) k table row) h ≡ row
+  row-put =
+      let n : h * 1602 ≤ length table = omega arith in
+      rw (
+        drop-at (take (h * 1602) table) (row ++ drop k (drop (h * 1602) table)) (h * 1602) (length-take-le (h * 1602) table n),
+        take-at row (drop k (drop (h * 1602) table)) 1602 full,
+      )
+
+  pub row-before : (j : ℕ) → j < h → rowOf (putMid (h * 1602) k table row) j ≡ rowOf table j
+  row-before j a =
+      part-front (j * 1602) 1602 (h * 1602) (putMid (h * 1602) k table row) table (omega arith) (take-put (h * 1602) k table row (omega arith))
+
+  pub put-size : length (putMid (h * 1602) k table row) ≡ 38448
+  put-size =
+      let e : length row ≡ length (midOf (h * 1602) k table) = rw (wide, full) (simp (length-take, length-drop) (omega arith)) in
+      same-len-mid (h * 1602) k table row e ∙ size
+
+pub row-length : (table : List ℕ) (h : ℕ) → length table ≡ 38448 → h < 24 → length (rowOf table h) ≡ 1602
+row-length table h size k = simp (length-take, length-drop) (omega arith)
+
+pub part-length : (table : List ℕ) (h : ℕ) → length table ≡ 38448 → h < 24 →
+    length (take (h * 1602 + 1602 - h * 1602) (drop (h * 1602) table)) ≡ 1602
+part-length table h size k = simp (length-take, length-drop) (omega arith)
+
+pub row-wide : (h : ℕ) → h * 1602 + 1602 - h * 1602 ≡ 1602
+row-wide h = omega arith
+
+-- the part of a table that is lent is the row
+pub part-row : (table : List ℕ) (h : ℕ) → take (h * 1602 + 1602 - h * 1602) (drop (h * 1602) table) ≡ rowOf table h
+part-row table h = rw (row-wide h)
+
+-- what holds below h and at h holds below h + 1
+below-next : (P : ℕ → Type 0) (h k : ℕ) → (k < h → P k) → P h → k < h + 1 → P k
+below-next P h k f p a = elim (decLe h k) [
+  | yes z ↦ let e : k ≡ h = omega arith in rw e p
+  | no z ↦ f (lt-of-not-le z)
+]
+
+pub set-small : (m : ℕ) (l : List ℕ) (h v : ℕ) → h < length l → v ≤ m → Small m l → Small m (set l h v)
+set-small m l h v k a small j = elim (decLe j h) [
+  | yes b ↦ elim (decLe h j) [
+    | yes c ↦ let e : j ≡ h = omega arith in rw (e, getD-set-same l h v 0 k) a
+    | no c ↦ let d : j < h = lt-of-not-le c in rw (getD-set-other l h j v 0 (λ e. omega arith)) (small j)
+  ]
+  | no b ↦ let d : h < j = lt-of-not-le b in rw (getD-set-other l h j v 0 (λ e. omega arith)) (small j)
+]
+
+-- PLACES ADDED UP, hour by hour
+pub record AddedTo (a b : List ℕ) (h : ℕ) (r : List ℕ) : Type 0 where
+  pub size : length r ≡ 24
+  pub most : (i : ℕ) → getD r i 0 ≤ getD a i 0 + getD b i 0
+  pub ahead : (i : ℕ) → h ≤ i → getD r i 0 ≡ getD a i 0
+
+pub added-start : (a b : List ℕ) → length a ≡ 24 → AddedTo a b 0 a
+added-start a b e = record { size = e; most = λ i. omega arith; ahead = λ i k. refl }
+
+pub added-next : (a b : List ℕ) (h : ℕ) (r : List ℕ) → AddedTo a b h r → h < 24 → AddedTo a b (h + 1) (set r h (getD r h 0 + getD b h 0))
+added-next a b h r d k =
+    let inside : h < length r = omega (arith, d .size) in
+    record {
+      size = rw length-set (d .size);
+      most = λ i. elim (decLe i h) [
+        | yes x ↦ elim (decLe h i) [
+          | yes y ↦ let e : i ≡ h = omega arith in rw (e, getD-set-same r h (getD r h 0 + getD b h 0) 0 inside) (omega (arith, d .ahead h (omega arith)))
+          | no y ↦ let z : i < h = lt-of-not-le y in rw (getD-set-other r h i (getD r h 0 + getD b h 0) 0 (λ e. omega arith)) (d .most i)
+        ]
+        | no x ↦ let z : h < i = lt-of-not-le x in rw (getD-set-other r h i (getD r h 0 + getD b h 0) 0 (λ e. omega arith)) (d .most i)
+      ];
+      ahead = λ i x. getD-set-other r h i (getD r h 0 + getD b h 0) 0 (λ e. omega arith) ∙ d .ahead i (omega arith);
+    }
+
+-- THE PRICE TABLES
+module _ (sides prices quantities ends off : List ℕ) where
+  pub record RowsTo (low : List ℕ) (h : ℕ) : Type 0 where
+    pub inside : h ≤ 24
+    pub size : length low ≡ 38448
+    pub done : (j : ℕ) → j < h → RowIs sides prices quantities ends off low j
+
+  pub rows-start : (low : List ℕ) → length low ≡ 38448 → RowsTo low 0
+  rows-start low e = record { inside = omega arith; size = e; done = λ j a. absurd (omega arith) }
+
+  pub rows-next : (low row : List ℕ) (h k : ℕ) → RowsTo low h → h < 24 → length row ≡ 1602 → k ≡ 1602 →
+      PriceTable (partOf ends h sides) (partOf ends h prices) (partOf ends h quantities) (getD off h 0) row →
+      RowsTo (putMid (h * 1602) k low row) (h + 1)
+  rows-next low row h k r a full wide t = record {
+    inside = omega arith;
+    size = put-size low row h k (r .size) a full wide;
+    done = λ j b. below-next (RowIs sides prices quantities ends off (putMid (h * 1602) k low row)) h j
+        (λ c. rw (row-before low row h k (r .size) a full wide j c) (r .done j c)) (rw (row-put low row h k (r .size) a full wide) t) b;
+  }
+
+  pub rows-all : (low : List ℕ) (h : ℕ) → RowsTo low h → 24 ≤ h → RowsAre sides prices quantities ends off low
+  rows-all low h r k j a = r .done j (omega arith)
+
+-- ONE HOUR'S RANGE: it has the place off
+pub range-holds : (buys sells off first last : ℕ) → ClearRange buys sells off 1600 first last → off ≤ 1600 → (first ≤ off) × (off ≤ last)
+range-holds buys sells off first last r k =
+    let l : List Step = record { hour = 1; side = buy; price = 1; quantity = buys } ∷ record { hour = 1; side = sell; price = 1; quantity = sells } ∷ [] in
+    r .clearing l (omega arith) (omega arith) off k .1 (record { buysSuffice = omega arith; sellsSuffice = omega arith })
+
+module _ (sides prices quantities : List ℕ) (off price : ℕ) (row : List ℕ) (table : PriceTable sides prices quantities off row)
+    (size : length row ≡ 1602) (small : off ≤ 1600) (top : price ≤ 300000) where
+  pub hour-room : (buys sells first last : ℕ) (gap : List ℕ) → length gap ≡ 1602 → ClearRange buys sells off 1600 first last →
+      GapsFor row price first last gap × NotRising row
+  hour-room buys sells first last gap e r =
+      let l = stepsFrom 0 sides prices quantities in (
+        record {
+          ordered = omega (arith, range-holds buys sells off first last r small);
+          inside = omega (arith, r .inside);
+          asMany = size ∙ sym e;
+          few = omega arith;
+          inRange = table-in-range l off row (table 0);
+          priceInRange = top;
+        },
+        table-not-rising l off row (table 0),
+      )
+
+  pub hour-ranged : (buys sells first last turn : ℕ) (gap : List ℕ) → AllOf sides prices quantities buys sells →
+      ClearRange buys sells off 1600 first last → GapTable row price first last turn gap →
+      ((first ≤ 1600) × (last ≤ 1600) × (turn ≤ 1600)) × Ranged sides prices quantities off price first last turn row gap
+  hour-ranged buys sells first last turn gap a r g = (
+    (omega (arith, range-holds buys sells off first last r small), r .inside, omega (arith, g .to, r .inside)),
+    record { bought = buys; sold = sells; all = a; range = r; gaps = g },
+  )
+
+-- THE RANGES AND THE GAP TABLES
+module _ (sides prices quantities ends off root low : List ℕ) where
+  pub record RangesTo (gap first last turn : List ℕ) (h : ℕ) : Type 0 where
+    pub inside : h ≤ 24
+    pub size : length gap ≡ 38448
+    pub firstSize : length first ≡ 24
+    pub lastSize : length last ≡ 24
+    pub turnSize : length turn ≡ 24
+    pub small : (j : ℕ) → getD last j 0 ≤ 1600
+    pub done : (j : ℕ) → j < h → RangedAt sides prices quantities ends off root low gap first last turn j
+
+  pub ranges-start : (gap : List ℕ) → length gap ≡ 38448 → RangesTo gap (replicate 24 0) (replicate 24 0) (replicate 24 0) 0
+  ranges-start gap e = record {
+    inside = omega arith;
+    size = e;
+    firstSize = refl;
+    lastSize = refl;
+    turnSize = refl;
+    small = λ j. omega (arith, zeros 24 j);
+    done = λ j a. absurd (omega arith);
+  }
+
+  pub ranges-next : (gap first last turn row : List ℕ) (h k f l m : ℕ) → RangesTo gap first last turn h → h < 24 → length row ≡ 1602 → k ≡ 1602 → l ≤ 1600 →
+      Ranged (partOf ends h sides) (partOf ends h prices) (partOf ends h quantities) (getD off h 0) (getD root h 0) f l m (rowOf low h) row →
+      RangesTo (putMid (h * 1602) k gap row) (set first h f) (set last h l) (set turn h m) (h + 1)
+  ranges-next gap first last turn row h k f l m r a full wide small t =
+      let inF : h < length first = omega (arith, r .firstSize) in
+      let inL : h < length last = omega (arith, r .lastSize) in
+      let inT : h < length turn = omega (arith, r .turnSize) in
+      let new = putMid (h * 1602) k gap row in
+      record {
+        inside = omega arith;
+        size = put-size gap row h k (r .size) a full wide;
+        firstSize = rw length-set (r .firstSize);
+        lastSize = rw length-set (r .lastSize);
+        turnSize = rw length-set (r .turnSize);
+        small = set-small 1600 last h l inL small (r .small);
+        done = λ j b. below-next (RangedAt sides prices quantities ends off root low new (set first h f) (set last h l) (set turn h m)) h j
+            (λ c. rw (
+              row-before gap row h k (r .size) a full wide j c,
+              getD-set-other first h j f 0 (λ e. omega arith),
+              getD-set-other last h j l 0 (λ e. omega arith),
+              getD-set-other turn h j m 0 (λ e. omega arith),
+            ) (r .done j c))
+            (rw (
+              row-put gap row h k (r .size) a full wide,
+              getD-set-same first h f 0 inF,
+              getD-set-same last h l 0 inL,
+              getD-set-same turn h m 0 inT,
+            ) t) b;
+      }
+
+  pub ranges-all : (gap first last turn : List ℕ) (h : ℕ) → RangesTo gap first last turn h → 24 ≤ h →
+      ((length first ≡ 24) × (length last ≡ 24) × (length turn ≡ 24) × Small 1600 last)
+      × RangesAre sides prices quantities ends off root low gap first last turn
+  ranges-all gap first last turn h r k = ((r .firstSize, r .lastSize, r .turnSize, r .small), λ j a. r .done j (omega arith))

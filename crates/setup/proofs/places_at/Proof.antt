@@ -1,0 +1,132 @@
+-- `setup::places_at` meets its contract: each block moves the places on by at most 50. Assumes nothing.
+use Prim.Native.Nat.{_-_, _*_, _≤_}
+use mathlib.Core.Logic.{⊎-elim}
+use native.Mathlib.Omega.{arith}
+use lib.ListN.{getD}
+use Rattle.search.specs.Search.{Small}
+use Rattle.search.proofs.LeafLaws.{zeros}
+use Rattle.setup.proofs.SetupBlockLaws.{limit-fits, moved-small}
+use borrow.Author.Needs.{needs}
+use Rattle.setup.proofs.places_at.Statement.{statement}
+use Rattle.setup.proofs.places_at.Tie as tie
+use Rattle.setup.proofs.places_at.Reads as reads
+use Rattle.setup.proofs.places_at.Lts as lts
+use Rattle.book.proofs.hour_count.Reads as hour-count-reads
+use Rattle.search.proofs.keeps_limit.Reads as keeps-limit-reads
+use Rattle.search.proofs.moved.Reads as moved-reads
+
+abbrev Inv-loop : tie.InvT-loop
+Inv-loop count root sides hours prices quantities places₀ i₀ places i = (i ≤ count) × Small (i * 50) places
+
+abbrev μ-loop : tie.MeasureT-loop
+μ-loop count root sides hours prices quantities places₀ i₀ places i = count - i
+
+loop-holds : tie.Need-loop-holds Inv-loop μ-loop
+loop-holds c = (omega arith, λ j. omega (arith, zeros 24 j))
+
+array-read-keeps-limit : tie.Need-array-read-keeps-limit Inv-loop μ-loop
+array-read-keeps-limit c = search needs
+
+cast-keeps-limit : tie.Need-cast-keeps-limit Inv-loop μ-loop
+cast-keeps-limit c = search needs
+
+mul-keeps-limit : tie.Need-mul-keeps-limit Inv-loop μ-loop
+mul-keeps-limit c = search needs
+
+array-read-keeps-limit-2 : tie.Need-array-read-keeps-limit-2 Inv-loop μ-loop
+array-read-keeps-limit-2 c = search needs
+
+mul-keeps-limit-2 : tie.Need-mul-keeps-limit-2 Inv-loop μ-loop
+mul-keeps-limit-2 c = search needs
+
+array-read-keeps-limit-3 : tie.Need-array-read-keeps-limit-3 Inv-loop μ-loop
+array-read-keeps-limit-3 c = search needs
+
+mul-hour-count : tie.Need-mul-hour-count Inv-loop μ-loop
+mul-hour-count c = search needs
+
+array-read-hour-count : tie.Need-array-read-hour-count Inv-loop μ-loop
+array-read-hour-count c = search needs
+
+hour-count-requires : tie.Need-hour-count-requires Inv-loop μ-loop
+hour-count-requires c κs = search needs
+
+mul-keeps-limit-3 : tie.Need-mul-keeps-limit-3 Inv-loop μ-loop
+mul-keeps-limit-3 c =
+    let v = c .before .before .loop in
+    let s = c .before .before .before in
+    let fits = limit-fits (getD (s .args .t4) (v .i) 0) (getD (s .args .t3) (v .i) 0) (s .pre .0 .pricesFit (v .i) (c .before .loop-test .taken)) in
+    rw (c .hour-count .ensures) (record { fits = omega (arith, fits) })
+
+keeps-limit-requires : tie.Need-keeps-limit-requires Inv-loop μ-loop
+keeps-limit-requires c κs = search needs
+
+array-read-if1 : tie.Need-array-read-if1 Inv-loop μ-loop
+array-read-if1 c = search needs
+
+mul-quantity : tie.Need-mul-quantity Inv-loop μ-loop
+mul-quantity c = search needs
+
+array-read-quantity : tie.Need-array-read-quantity Inv-loop μ-loop
+array-read-quantity c = search needs
+
+mul-moved : tie.Need-mul-moved Inv-loop μ-loop
+mul-moved c = search needs
+
+array-read-moved : tie.Need-array-read-moved Inv-loop μ-loop
+array-read-moved c = search needs
+
+moved-requires : tie.Need-moved-requires Inv-loop μ-loop
+moved-requires c κs =
+    let v = c .before .before .before .before .loop in
+    let s = c .before .before .before .before .before in
+    let q = s .pre .0 .quantitiesFit (v .i) (c .before .before .before .loop-test .taken) in
+    (λ j. omega (arith, v .inv .1 j, v .inv .0, s .pre .0 .few), ⊎-elim (λ w. omega arith) (λ w. omega arith) (c .if1 .came))
+
+add-i : tie.Need-add-i Inv-loop μ-loop
+add-i c = search needs
+
+loop-less : tie.Need-loop-less Inv-loop μ-loop
+loop-less c = search needs
+
+loop-again : tie.Need-loop-again Inv-loop μ-loop
+loop-again c =
+    let b = c .before in
+    let v = b .before .before .before .before .loop in
+    let s = b .before .before .before .before .before in
+    let k = b .before .before .before .loop-test .taken in
+    let q = s .pre .0 .quantitiesFit (v .i) k in
+    let fits : b .if1 .quantity ≤ 50 = ⊎-elim (λ w. omega arith) (λ w. omega arith) (b .if1 .came) in
+    (omega (arith, k), moved-small _ _ _ (v .places) (c .moved .result) (v .inv .1) fits (c .moved .ensures .0) (c .moved .ensures .1))
+
+returns : tie.Need-returns Inv-loop μ-loop
+returns c = λ j. omega (arith, c .before .loop .inv .1 j, c .before .loop .inv .0, c .before .before .pre .0 .few)
+
+pub places-at-spec : {M : Type 1} → statement M
+places-at-spec =
+    tie.close
+    (tie.spec
+    Inv-loop
+    μ-loop
+    loop-holds
+    array-read-keeps-limit
+    cast-keeps-limit
+    mul-keeps-limit
+    array-read-keeps-limit-2
+    mul-keeps-limit-2
+    array-read-keeps-limit-3
+    mul-hour-count
+    array-read-hour-count
+    hour-count-requires
+    mul-keeps-limit-3
+    keeps-limit-requires
+    array-read-if1
+    mul-quantity
+    array-read-quantity
+    mul-moved
+    array-read-moved
+    moved-requires
+    add-i
+    loop-less
+    loop-again
+    returns)

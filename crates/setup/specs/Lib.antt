@@ -1,0 +1,2 @@
+-- The setup of the search: what its tables and columns hold. Definitions only.
+pub mod Setup

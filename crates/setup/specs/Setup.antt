@@ -1,0 +1,177 @@
+-- THE SETUP OF THE SEARCH: what its tables and columns hold, said of a book's decoded columns. Definitions only. Assumes nothing.
+use Prim.Native.Nat.{ℕ, zero, suc, _+_, _-_, _*_, _≤_, _<_}
+use mathlib.Core.List.{List}
+use mathlib.Core.Path.{_≡_}
+use mathlib.Core.Bool.{Bool, true, false}
+use lib.Dec.{leb}
+use lib.ListN.{length, take, drop, getD, set}
+use Rattle.book.specs.Records.{holdsHour, hourCount}
+use Rattle.book.specs.Refusals.{Accepted}
+use Rattle.orders.specs.Bridge.{dayFrom}
+use Rattle.orders.specs.Columns.{StepColumns, BlockColumns, sideFor}
+use Rattle.rules.specs.Hour.{bySide, when}
+use Rattle.rules.specs.Execution.{testSide}
+use Rattle.pricing.specs.Tables.{PriceTable, AllOf, ClearRange, GapTable}
+use Rattle.search.specs.Search.{Small, sideAt, hoursAt, quantityAt, limitAt, againstAt, gainAt, aheadAt, behindAt, rowAt, sumOfHours}
+use Rattle.search.specs.Meaning.{Known, Turning}
+
+-- WHAT SAFETY ASKS of the columns
+-- The steps' columns have one length, at most 2,048; the hours' ends rise and stay within it.
+pub record StepsHeld (sides prices quantities ends : List ℕ) : Type 0 where
+  pub asManyPrices : length sides ≡ length prices
+  pub asManyQuantities : length sides ≡ length quantities
+  pub notTooMany : length sides ≤ 2048
+  pub rising : (h : ℕ) → h < 24 → getD ends h 0 ≤ getD ends (h + 1) 0
+  pub inside : (h : ℕ) → h ≤ 24 → getD ends h 0 ≤ length sides
+
+-- The same of the part from a to e, that of an hour.
+pub record PartHeld (sides prices quantities : List ℕ) (a e : ℕ) : Type 0 where
+  pub asManyPrices : length sides ≡ length prices
+  pub asManyQuantities : length sides ≡ length quantities
+  pub notTooMany : length sides ≤ 2048
+  pub ordered : a ≤ e
+  pub inside : e ≤ length sides
+
+-- There are at most 32 blocks, with prices of at most 300,000 and quantities of at most 50.
+pub record BlocksHeld (count : ℕ) (prices quantities : List ℕ) : Type 0 where
+  pub few : count ≤ 32
+  pub pricesFit : (i : ℕ) → i < count → getD prices i 0 ≤ 300000
+  pub quantitiesFit : (i : ℕ) → i < count → getD quantities i 0 ≤ 50
+
+-- PARTS: the numbers of a column from a up to e; those of hour h + 1; and that hour's row of a table.
+abbrev pub between : ℕ → ℕ → List ℕ → List ℕ
+between a e column = take (e - a) (drop a column)
+
+abbrev pub partOf : List ℕ → ℕ → List ℕ → List ℕ
+partOf ends h column = between (getD ends h 0) (getD ends (h + 1) 0) column
+
+abbrev pub rowOf : List ℕ → ℕ → List ℕ
+rowOf table h = take 1602 (drop (h * 1602) table)
+
+-- THE TABLES
+-- A row is the price table of the steps from a up to e.
+abbrev pub TableOf : (sides prices quantities : List ℕ) (a e off : ℕ) (row : List ℕ) → Type 0
+TableOf sides prices quantities a e off row = PriceTable (between a e sides) (between a e prices) (between a e quantities) off row
+
+-- The row of hour h + 1 is its price table.
+abbrev pub RowIs : (sides prices quantities ends off low : List ℕ) → ℕ → Type 0
+RowIs sides prices quantities ends off low h =
+    PriceTable (partOf ends h sides) (partOf ends h prices) (partOf ends h quantities) (getD off h 0) (rowOf low h)
+
+abbrev pub RowsAre : (sides prices quantities ends off low : List ℕ) → Type 0
+RowsAre sides prices quantities ends off low = (h : ℕ) → h < 24 → RowIs sides prices quantities ends off low h
+
+-- The places at which an hour clears, and its gaps there at a price, the least at turn.
+pub record Ranged (sides prices quantities : List ℕ) (off price first last turn : ℕ) (low gap : List ℕ) : Type 0 where
+  pub bought : ℕ
+  pub sold : ℕ
+  pub all : AllOf sides prices quantities bought sold
+  pub range : ClearRange bought sold off 1600 first last
+  pub gaps : GapTable low price first last turn gap
+
+abbrev pub RangedOf : (sides prices quantities : List ℕ) (a e off price first last turn : ℕ) (low gap : List ℕ) → Type 0
+RangedOf sides prices quantities a e off price first last turn low gap =
+    Ranged (between a e sides) (between a e prices) (between a e quantities) off price first last turn low gap
+
+abbrev pub RangedAt : (sides prices quantities ends off root low gap first last turn : List ℕ) → ℕ → Type 0
+RangedAt sides prices quantities ends off root low gap first last turn h =
+    Ranged (partOf ends h sides) (partOf ends h prices) (partOf ends h quantities) (getD off h 0) (getD root h 0) (getD first h 0) (getD last h 0)
+    (getD turn h 0) (rowOf low h) (rowOf gap h)
+
+abbrev pub RangesAre : (sides prices quantities ends off root low gap first last turn : List ℕ) → Type 0
+RangesAre sides prices quantities ends off root low gap first last turn =
+    (h : ℕ) → h < 24 → RangedAt sides prices quantities ends off root low gap first last turn h
+
+-- THE BLOCKS
+-- The sum of a number of each of the first n places.
+unfoldable pub sumBelow : ℕ → (ℕ → ℕ) → ℕ
+sumBelow zero f = 0
+sumBelow (suc n) f = sumBelow n f + f n
+
+-- What the buy blocks of the columns buy in hour h.
+abbrev pub boughtIn : (count : ℕ) (sides hours quantities : List ℕ) → ℕ → ℕ
+boughtIn count sides hours quantities h =
+    sumBelow count (λ i. when (holdsHour (getD hours i 0) h) (bySide (sideFor (getD sides i 0)) (getD quantities i 0) 0))
+
+-- The columns with block i written.
+unfoldable pub written : (columns : List ℕ) (i side hours quantity limit sum : ℕ) → List ℕ
+written columns i side hours quantity limit sum =
+    set (set (set (set (set (set columns i side) (32 + i) hours) (64 + i) quantity) (96 + i) limit)
+    (128 + i) (quantity * bySide (sideFor side) (sum - limit) (limit - sum)))
+    (160 + i) (quantity * bySide (sideFor side) (limit - sum) (sum - limit))
+
+-- Block i of the six columns, at hourly prices root.
+pub record Written (sides hours prices quantities root columns : List ℕ) (i : ℕ) : Type 0 where
+  pub sideIs : sideAt columns i ≡ getD sides i 0
+  pub hoursIs : hoursAt columns i ≡ getD hours i 0
+  pub quantityIs : quantityAt columns i ≡ getD quantities i 0
+  pub limitIs : limitAt columns i ≡ getD prices i 0 * hourCount 24 (getD hours i 0)
+  pub againstIs : againstAt columns i ≡ getD quantities i 0
+      * bySide (sideFor (getD sides i 0)) (sumOfHours root (getD hours i 0) - getD prices i 0 * hourCount 24 (getD hours i 0))
+      (getD prices i 0 * hourCount 24 (getD hours i 0) - sumOfHours root (getD hours i 0))
+  pub gainIs : gainAt columns i ≡ getD quantities i 0
+      * bySide (sideFor (getD sides i 0)) (getD prices i 0 * hourCount 24 (getD hours i 0) - sumOfHours root (getD hours i 0))
+      (sumOfHours root (getD hours i 0) - getD prices i 0 * hourCount 24 (getD hours i 0))
+
+-- THE WHOLE LIST OF THE BLOCKS
+-- The six columns, and nothing behind them yet.
+pub record Widened (columns blocks : List ℕ) : Type 0 where
+  pub size : length blocks ≡ 1024
+  pub same : (k : ℕ) → k < 192 → getD blocks k 0 ≡ getD columns k 0
+  pub none : (k : ℕ) → 192 ≤ k → getD blocks k 0 ≡ 0
+
+-- No row stands yet, and no quantity is above 50.
+pub record RowsEmpty (blocks : List ℕ) : Type 0 where
+  pub small : (i : ℕ) → i < 32 → quantityAt blocks i ≤ 50
+  pub none : (k : ℕ) → 256 ≤ k → getD blocks k 0 ≡ 0
+
+-- The rows of the first count blocks stand.
+pub record RowsWritten (count : ℕ) (before blocks : List ℕ) : Type 0 where
+  pub size : length blocks ≡ 1024
+  pub same : (k : ℕ) → k < 256 → getD blocks k 0 ≡ getD before k 0
+  pub row : (j h : ℕ) → j < count → 1 ≤ h → h ≤ 24 → rowAt blocks j h ≡ when (holdsHour (hoursAt before j) h) (quantityAt before j)
+  pub fits : (k : ℕ) → 256 ≤ k → getD blocks k 0 ≤ 50
+
+-- Blocks a and b are twins: of the same side, hours and quantity.
+pub record TwinsAt (blocks : List ℕ) (a b : ℕ) : Type 0 where
+  pub sameSide : sideAt blocks a ≡ sideAt blocks b
+  pub sameHours : hoursAt blocks a ≡ hoursAt blocks b
+  pub sameQuantity : quantityAt blocks a ≡ quantityAt blocks b
+
+-- A limit is kept wherever another is.
+unfoldable pub noWorse : (side limit other : ℕ) → Bool
+noWorse side limit other = testSide (sideFor side) (leb other limit) (leb limit other)
+
+-- A number that is 0, or 1 and the number of an earlier twin that is taken before block i; .. that is taken after block i.
+abbrev pub AheadOf : (blocks : List ℕ) (i found : ℕ) → Type 0
+AheadOf blocks i found = (a : ℕ) → found ≡ suc a → (a < i) × TwinsAt blocks a i × (noWorse (sideAt blocks i) (limitAt blocks a) (limitAt blocks i) ≡ true)
+
+abbrev pub BehindOf : (blocks : List ℕ) (i found : ℕ) → Type 0
+BehindOf blocks i found = (b : ℕ) → found ≡ suc b →
+    (b < i) × TwinsAt blocks i b × (noWorse (sideAt blocks i) (limitAt blocks b) (limitAt blocks i) ≡ false) × (1 ≤ quantityAt blocks i)
+
+-- No twin stands yet.
+abbrev pub TwinsEmpty : List ℕ → Type 0
+TwinsEmpty blocks = (k : ℕ) → 192 ≤ k → k < 256 → getD blocks k 0 ≡ 0
+
+-- The twins of the first count blocks stand.
+pub record TwinsWritten (count : ℕ) (before blocks : List ℕ) : Type 0 where
+  pub size : length blocks ≡ 1024
+  pub columns : (k : ℕ) → k < 192 → getD blocks k 0 ≡ getD before k 0
+  pub rows : (k : ℕ) → 256 ≤ k → getD blocks k 0 ≡ getD before k 0
+  pub ahead : (i : ℕ) → i < count → AheadOf before i (aheadAt blocks i)
+  pub behind : (i : ℕ) → i < count → BehindOf before i (behindAt blocks i)
+  pub none : (i : ℕ) → count ≤ i → i < 32 → (aheadAt blocks i ≡ 0) × (behindAt blocks i ≡ 0)
+
+-- WHAT IS READY: the day of an accepted book behind the tables, at some prices.
+pub record Ready (b low gap first last turn columns : List ℕ) (count : ℕ) : Type 0 where
+  pub p : ℕ → ℕ
+  pub rest : ℕ → ℕ
+  pub known : Known (dayFrom b) p rest low gap first last columns count
+  pub turning : Turning gap first last turn
+
+abbrev pub ReadyFor : (sides prices quantities ends : List ℕ) (count : ℕ) (records blockSides hours blockPrices blockQuantities : List ℕ)
+    (low gap first last turn columns : List ℕ) → Type 0
+ReadyFor sides prices quantities ends count records blockSides hours blockPrices blockQuantities low gap first last turn columns =
+    (b stepRecords : List ℕ) → Accepted b → StepColumns b ends stepRecords sides prices quantities →
+    BlockColumns b count records blockSides hours blockPrices blockQuantities → Ready b low gap first last turn columns count

@@ -1,0 +1,638 @@
+// The setup of the search: from a book's decoded columns to the tables of the hours and the columns of the blocks. Assumes nothing.
+ghost use mathlib.Core.Path.{_≡_};
+ghost use Prim.Native.Nat.{ℕ, _+_, _-_, _*_, _≤_, _<_};
+ghost use lib.ListN.{length, getD};
+ghost use Rattle.rules.specs.Hour.{bySide};
+ghost use Rattle.orders.specs.Columns.{sideFor};
+ghost use Rattle.search.specs.Search.{Small, quantityAt, firstOf, lastOf, turnOf};
+ghost use mathlib.Core.Bool.{true, cond};
+ghost use Rattle.setup.specs.Setup.{StepsHeld, PartHeld, BlocksHeld, TableOf, RowsAre, RangedOf, RangesAre};
+ghost use Rattle.setup.specs.Setup.{boughtIn, written, Written, ReadyFor};
+ghost use Rattle.setup.specs.Setup.{Widened, RowsEmpty, RowsWritten, TwinsAt, noWorse, AheadOf, BehindOf, TwinsEmpty, TwinsWritten};
+ghost use Rattle.search.specs.Meaning.{Sized};
+use book::hour_count;
+use orders::Blocks;
+use pricing::table::all_totals;
+use pricing::table::clear_range;
+use pricing::table::fill_gaps;
+use pricing::table::fill_prices;
+use search::keeps_limit;
+use search::moved;
+use search::price_sum;
+use search::prices_at;
+
+// The first and the last place at which an hour clears, and the place of its least gap.
+pub struct Range {
+    pub first: usize,
+    pub last: usize,
+    pub turn: usize,
+}
+
+// The same of each hour.
+pub struct Ranges {
+    pub first: [u32; 24],
+    pub last: [u32; 24],
+    pub turn: [u32; 24],
+}
+
+// What the search is given besides the two tables: the hours' three columns, and the blocks' columns and rows.
+pub struct Prepared {
+    pub hours: [u32; 72],
+    pub columns: [u32; 1024],
+}
+
+// The price table of an hour, whose steps stand from a up to e.
+fn fill_row(
+    sides: &[u8],
+    prices: &[u32],
+    quantities: &[u32],
+    a: usize,
+    e: usize,
+    off: u32,
+    row: &mut [u32],
+)
+    requires { ⌜ PartHeld (now sides) (now prices) (now quantities) a e × (off ≤ 1600) × (length (now row) ≡ 1602) ⌝ }
+    ensures { λ _. ⌜ TableOf (now (sides .entry)) (now (prices .entry)) (now (quantities .entry)) a e off (now (row .exit)) ⌝ }
+{
+    fill_prices(&sides[a..e], &prices[a..e], &quantities[a..e], off, row);
+}
+
+// The price tables of the hours, row after row.
+fn fill_tables(
+    sides: &[u8],
+    prices: &[u32],
+    quantities: &[u32],
+    ends: [u16; 25],
+    off: [u32; 24],
+    low: &mut [u32],
+)
+    requires { ⌜ StepsHeld (now sides) (now prices) (now quantities) ends × Small 1600 off × (length (now low) ≡ 38448) ⌝ }
+    ensures { λ _. ⌜ RowsAre (now (sides .entry)) (now (prices .entry)) (now (quantities .entry)) ends off (now (low .exit)) ⌝ }
+{
+    let mut h: usize = 0;
+    while h < 24 {
+        let from = h * 1602;
+        let to = from + 1602;
+        fill_row(
+            sides,
+            prices,
+            quantities,
+            ends[h] as usize,
+            ends[h + 1] as usize,
+            off[h],
+            &mut low[from..to],
+        );
+        h += 1;
+    }
+}
+
+// The places at which an hour clears, whose steps stand from a up to e, and its gaps there at a price. The range has the place off: there N is 0.
+fn fill_hour(
+    sides: &[u8],
+    prices: &[u32],
+    quantities: &[u32],
+    a: usize,
+    e: usize,
+    off: u32,
+    price: u32,
+    row: &[u32],
+    gap: &mut [u32],
+) -> Range
+    requires held { ⌜ PartHeld (now sides) (now prices) (now quantities) a e × (off ≤ 1600) × (price ≤ 300000) × (length (now gap) ≡ 1602) ⌝ }
+    requires table { ⌜ (length (now row) ≡ 1602) × TableOf (now sides) (now prices) (now quantities) a e off (now row) ⌝ }
+    ensures fits { λ r. ⌜ (r .first ≤ 1600) × (r .last ≤ 1600) × (r .turn ≤ 1600) ⌝ }
+    ensures ranged { λ r. ⌜ RangedOf (now (sides .entry)) (now (prices .entry)) (now (quantities .entry)) a e off price
+        (r .first) (r .last) (r .turn) (now (row .entry)) (now (gap .exit)) ⌝ }
+{
+    let all = all_totals(&sides[a..e], &prices[a..e], &quantities[a..e]);
+    let range = clear_range(all.buys, all.sells, off, 1600);
+    let turn = fill_gaps(row, price, range.first, range.last, gap);
+    Range {
+        first: range.first,
+        last: range.last,
+        turn: turn,
+    }
+}
+
+// The hours' ranges, and their gaps at the prices root, row after row.
+fn fill_ranges(
+    sides: &[u8],
+    prices: &[u32],
+    quantities: &[u32],
+    ends: [u16; 25],
+    off: [u32; 24],
+    root: [u32; 24],
+    low: &[u32],
+    gap: &mut [u32],
+) -> Ranges
+    requires held { ⌜ StepsHeld (now sides) (now prices) (now quantities) ends × Small 1600 off × Small 300000 root × (length (now gap) ≡ 38448) ⌝ }
+    requires tables { ⌜ (length (now low) ≡ 38448) × RowsAre (now sides) (now prices) (now quantities) ends off (now low) ⌝ }
+    ensures small { λ r. ⌜ (length (r .first) ≡ 24) × (length (r .last) ≡ 24) × (length (r .turn) ≡ 24) × Small 1600 (r .last) ⌝ }
+    ensures ranges { λ r. ⌜ RangesAre (now (sides .entry)) (now (prices .entry)) (now (quantities .entry)) ends off root
+        (now (low .entry)) (now (gap .exit)) (r .first) (r .last) (r .turn) ⌝ }
+{
+    let mut first = [0; 24];
+    let mut last = [0; 24];
+    let mut turn = [0; 24];
+    let mut h: usize = 0;
+    while h < 24 {
+        let from = h * 1602;
+        let to = from + 1602;
+        let range = fill_hour(
+            sides,
+            prices,
+            quantities,
+            ends[h] as usize,
+            ends[h + 1] as usize,
+            off[h],
+            root[h],
+            &low[from..to],
+            &mut gap[from..to],
+        );
+        first[h] = range.first as u32;
+        last[h] = range.last as u32;
+        turn[h] = range.turn as u32;
+        h += 1;
+    }
+    Ranges { first, last, turn }
+}
+
+// The difference, or 0.
+fn less(a: u32, b: u32) -> u32
+    ensures { λ r. ⌜ r ≡ a - b ⌝ }
+{
+    if b <= a { a - b } else { 0 }
+}
+
+// The first number for a buy, the second for a sell.
+fn by_side(side: u8, a: u32, b: u32) -> u32
+    ensures { λ r. ⌜ r ≡ bySide (sideFor side) a b ⌝ }
+{
+    if side == 0 { a } else { b }
+}
+
+// What the buy blocks buy in each hour.
+fn bought_by_hour(
+    count: usize,
+    sides: [u8; 32],
+    hours: [u32; 32],
+    quantities: [u32; 32],
+) -> [u32; 24]
+    requires { ⌜ (count ≤ 32) × ((i : ℕ) → i < count → getD quantities i 0 ≤ 50) ⌝ }
+    ensures { λ r. ⌜ Small 1600 r × ((h : ℕ) → 1 ≤ h → h ≤ 24 → getD r (h - 1) 0 ≡ boughtIn count sides hours quantities h) ⌝ }
+{
+    let mut off = [0; 24];
+    let mut i: usize = 0;
+    while i < count {
+        let more = moved(off, hours[i], by_side(sides[i], quantities[i], 0));
+        off = more;
+        i += 1;
+    }
+    off
+}
+
+// The columns with block i written: its side, hours, quantity, limit, and what it loses if taken and if left out.
+fn with_block(
+    columns: [u32; 192],
+    i: usize,
+    side: u8,
+    hours: u32,
+    quantity: u32,
+    limit: u32,
+    sum: u32,
+) -> [u32; 192]
+    requires { ⌜ (i < 32) × (quantity ≤ 50) × (limit ≤ 7200000) × (sum ≤ 7200000) ⌝ }
+    ensures { λ r. ⌜ r ≡ written columns i side hours quantity limit sum ⌝ }
+{
+    let mut r = columns;
+    let over = less(sum, limit);
+    let under = less(limit, sum);
+    r[i] = side as u32;
+    r[32 + i] = hours;
+    r[64 + i] = quantity;
+    r[96 + i] = limit;
+    r[128 + i] = quantity * by_side(side, over, under);
+    r[160 + i] = quantity * by_side(side, under, over);
+    r
+}
+
+// The blocks' six columns, at the prices root.
+fn block_columns(
+    count: usize,
+    sides: [u8; 32],
+    hours: [u32; 32],
+    prices: [u32; 32],
+    quantities: [u32; 32],
+    root: [u32; 24],
+) -> [u32; 192]
+    requires { ⌜ BlocksHeld count prices quantities × Small 300000 root ⌝ }
+    ensures small { λ r. ⌜ ((i : ℕ) → i < 32 → quantityAt r i ≤ 50) ⌝ }
+    ensures blocks { λ r. ⌜ ((i : ℕ) → i < count → Written sides hours prices quantities root r i) ⌝ }
+{
+    let mut columns = [0; 192];
+    let mut i: usize = 0;
+    while i < count {
+        let limit = prices[i] * hour_count(hours[i]);
+        let more = with_block(
+            columns,
+            i,
+            sides[i],
+            hours[i],
+            quantities[i],
+            limit,
+            price_sum(root, hours[i]),
+        );
+        columns = more;
+        i += 1;
+    }
+    columns
+}
+
+// The hours' three columns in one list.
+fn joined(first: [u32; 24], last: [u32; 24], turn: [u32; 24]) -> [u32; 72]
+    ensures { λ r. ⌜ (firstOf r ≡ first) × (lastOf r ≡ last) × (turnOf r ≡ turn) ⌝ }
+{
+    let mut r = [0; 72];
+    let mut h: usize = 0;
+    while h < 24 {
+        r[h] = first[h];
+        r[24 + h] = last[h];
+        r[48 + h] = turn[h];
+        h += 1;
+    }
+    r
+}
+
+// The blocks' six columns with room for their twins and rows.
+fn widened(columns: [u32; 192]) -> [u32; 1024]
+    ensures { λ r. ⌜ Widened columns r ⌝ }
+{
+    let mut r = [0; 1024];
+    let mut k: usize = 0;
+    while k < 192 {
+        r[k] = columns[k];
+        k += 1;
+    }
+    r
+}
+
+// The same with a row for each block: what it trades in each of the 24 hours.
+fn with_rows(count: usize, blocks: [u32; 1024]) -> [u32; 1024]
+    requires { ⌜ (count ≤ 32) × RowsEmpty blocks ⌝ }
+    ensures { λ r. ⌜ RowsWritten count blocks r ⌝ }
+{
+    let mut r = blocks;
+    let mut k: usize = 0;
+    while k < 24 * count {
+        let runs = (blocks[32 + k / 24] >> (k % 24)) % 2;
+        r[256 + k] = runs * blocks[64 + k / 24];
+        k += 1;
+    }
+    r
+}
+
+// Whether two blocks are twins: of the same side, hours and quantity.
+fn are_twins(blocks: &[u32], a: usize, b: usize) -> bool
+    requires { ⌜ (length (now blocks) ≡ 1024) × (a < 32) × (b < 32) ⌝ }
+    ensures { λ r. ⌜ (r ≡ true → TwinsAt (now (blocks .entry)) a b) ⌝ }
+{
+    let same_side = blocks[a] == blocks[b];
+    let same_hours = blocks[32 + a] == blocks[32 + b];
+    let same_quantity = blocks[64 + a] == blocks[64 + b];
+    (same_side & same_hours) & same_quantity
+}
+
+// Whether a limit is kept wherever another is: a buy's is no lower, a sell's no higher.
+fn is_no_worse(side: u32, limit: u32, other: u32) -> bool
+    ensures { λ r. ⌜ r ≡ noWorse side limit other ⌝ }
+{
+    if side == 0 {
+        other <= limit
+    } else {
+        limit <= other
+    }
+}
+
+// The first number where the test passes, else the second.
+fn choose(test: bool, a: u32, b: u32) -> u32
+    ensures { λ r. ⌜ r ≡ cond test a b ⌝ }
+{
+    if test { a } else { b }
+}
+
+// Of the blocks before block i, the twin that is taken before it, the last by limit; its number and 1, or 0 for none.
+fn twin_ahead(blocks: &[u32], i: usize) -> u32
+    requires { ⌜ (length (now blocks) ≡ 1024) × (i < 32) ⌝ }
+    ensures { λ r. ⌜ AheadOf (now (blocks .entry)) i r ⌝ }
+{
+    let side = blocks[i];
+    let limit = blocks[96 + i];
+    let mut found: u32 = 0;
+    let mut edge = choose(side == 0, 4294967295, 0);
+    let mut j: usize = 0;
+    while j < i {
+        let here = blocks[96 + j];
+        let ahead = are_twins(blocks, j, i) & is_no_worse(side, here, limit);
+        let test = ahead & is_no_worse(side, edge, here);
+        let next = choose(test, (j + 1) as u32, found);
+        let nearer = choose(test, here, edge);
+        found = next;
+        edge = nearer;
+        j += 1;
+    }
+    found
+}
+
+// Of the blocks before block i, the twin that is taken after it, the first by limit; its number and 1, or 0 for none.
+fn twin_behind(blocks: &[u32], i: usize) -> u32
+    requires { ⌜ (length (now blocks) ≡ 1024) × (i < 32) ⌝ }
+    ensures { λ r. ⌜ BehindOf (now (blocks .entry)) i r ⌝ }
+{
+    let side = blocks[i];
+    let limit = blocks[96 + i];
+    let trades = 0 < blocks[64 + i];
+    let mut found: u32 = 0;
+    let mut edge = choose(side == 0, 0, 4294967295);
+    let mut j: usize = 0;
+    while j < i {
+        let here = blocks[96 + j];
+        let behind = (are_twins(blocks, i, j) & !is_no_worse(side, here, limit)) & trades;
+        let test = behind & !is_no_worse(side, edge, here);
+        let next = choose(test, (j + 1) as u32, found);
+        let nearer = choose(test, here, edge);
+        found = next;
+        edge = nearer;
+        j += 1;
+    }
+    found
+}
+
+// The same with the twins of each block.
+fn with_twins(count: usize, blocks: [u32; 1024]) -> [u32; 1024]
+    requires { ⌜ (count ≤ 32) × TwinsEmpty blocks ⌝ }
+    ensures { λ r. ⌜ TwinsWritten count blocks r ⌝ }
+{
+    let mut r = blocks;
+    let mut i: usize = 0;
+    while i < count {
+        r[192 + i] = twin_ahead(&blocks, i);
+        r[224 + i] = twin_behind(&blocks, i);
+        i += 1;
+    }
+    r
+}
+
+// The places where each block that gains at the prices is taken, and no other.
+fn places_at(
+    count: usize,
+    sides: [u8; 32],
+    hours: [u32; 32],
+    prices: [u32; 32],
+    quantities: [u32; 32],
+    root: [u32; 24],
+) -> [u32; 24]
+    requires { ⌜ BlocksHeld count prices quantities × Small 300000 root ⌝ }
+    ensures { λ r. ⌜ Small 1600 r ⌝ }
+{
+    let mut places = [0; 24];
+    let mut i: usize = 0;
+    while i < count {
+        let gains = keeps_limit(
+            sides[i] as u32,
+            hours[i],
+            prices[i] * hour_count(hours[i]),
+            root,
+        );
+        let mut quantity = 0;
+        if gains == (sides[i] != 0) {
+            quantity = quantities[i];
+        }
+        let more = moved(places, hours[i], quantity);
+        places = more;
+        i += 1;
+    }
+    places
+}
+
+// Two lists of places added up.
+fn added(a: [u32; 24], b: [u32; 24]) -> [u32; 24]
+    requires { ⌜ Small 1000000 a × Small 1600 b ⌝ }
+    ensures { λ r. ⌜ ((i : ℕ) → getD r i 0 ≤ getD a i 0 + getD b i 0) ⌝ }
+{
+    let mut r = a;
+    let mut h: usize = 0;
+    while h < 24 {
+        r[h] += b[h];
+        h += 1;
+    }
+    r
+}
+
+// The places on the average, where n of them are added up.
+fn averaged(sum: [u32; 24], n: u32) -> [u32; 24]
+    requires { ⌜ (1 ≤ n) × Small (n * 1600) sum ⌝ }
+    ensures { λ r. ⌜ Small 1600 r ⌝ }
+{
+    let mut r = [0; 24];
+    let mut h: usize = 0;
+    while h < 24 {
+        r[h] = sum[h] / n;
+        h += 1;
+    }
+    r
+}
+
+// Prices moved an eighth of the way to others.
+fn closer(a: [u32; 24], b: [u32; 24]) -> [u32; 24]
+    requires { ⌜ Small 300000 a × Small 300000 b ⌝ }
+    ensures { λ r. ⌜ Small 300000 r ⌝ }
+{
+    let mut r = [0; 24];
+    let mut h: usize = 0;
+    while h < 24 {
+        r[h] = (7 * a[h] + b[h]) / 8;
+        h += 1;
+    }
+    r
+}
+
+// The empty set's prices, moved 200 times towards those at the average of the places so far at which the blocks that gain are taken.
+fn moved_prices(
+    low: &[u32],
+    off: [u32; 24],
+    count: usize,
+    sides: [u8; 32],
+    hours: [u32; 32],
+    prices: [u32; 32],
+    quantities: [u32; 32],
+) -> [u32; 24]
+    requires tables { ⌜ (length (now low) ≡ 38448) × Small 300000 (now low) × Small 1600 off ⌝ }
+    requires blocks { ⌜ BlocksHeld count prices quantities ⌝ }
+    ensures { λ r. ⌜ Small 300000 r ⌝ }
+{
+    let mut root = prices_at(low, off);
+    let mut sum = off;
+    let mut n: u32 = 1;
+    while n <= 200 {
+        let places = places_at(count, sides, hours, prices, quantities, root);
+        let more = added(sum, places);
+        let mean = averaged(more, n + 1);
+        let there = prices_at(low, mean);
+        let next = closer(root, there);
+        sum = more;
+        root = next;
+        n += 1;
+    }
+    root
+}
+
+// What an hour at the place from loses at a price below its own: how far the prices of the places above stand over it.
+fn gap_up(low: &[u32], row: usize, from: usize, price: u32) -> u64
+    requires { ⌜ (length (now low) ≡ 38448) × Small 300000 (now low) × (row ≤ 36846) × (from ≤ 1600) ⌝ }
+    ensures { λ r. ⌜ r ≤ 1602 * 300000 ⌝ }
+{
+    let mut sum: u64 = 0;
+    let mut i = from + 1;
+    while i < 1602 {
+        let cell = low[row + i];
+        if cell <= price {
+            return sum;
+        }
+        sum += (cell - price) as u64;
+        i += 1;
+    }
+    sum
+}
+
+// What it loses at a price above its own: how far the prices of the places down from it stand under it.
+fn gap_down(low: &[u32], row: usize, from: usize, price: u32) -> u64
+    requires { ⌜ (length (now low) ≡ 38448) × (row ≤ 36846) × (from ≤ 1600) × (price ≤ 300000) ⌝ }
+    ensures { λ r. ⌜ r ≤ 1602 * 300000 ⌝ }
+{
+    let mut sum: u64 = 0;
+    let mut i = from;
+    while 0 < i {
+        let cell = low[row + i];
+        if price <= cell {
+            return sum;
+        }
+        sum += (price - cell) as u64;
+        i -= 1;
+    }
+    sum
+}
+
+// What the hours at the places off lose at the prices.
+fn gaps_from(low: &[u32], off: [u32; 24], prices: [u32; 24]) -> u64
+    requires { ⌜ (length (now low) ≡ 38448) × Small 300000 (now low) × Small 1600 off × Small 300000 prices ⌝ }
+    ensures { λ r. ⌜ r ≤ 48 * (1602 * 300000) ⌝ }
+{
+    let mut sum: u64 = 0;
+    let mut h: usize = 0;
+    while h < 24 {
+        let row = h * 1602;
+        let from = off[h] as usize;
+        let up = gap_up(low, row, from, prices[h]);
+        let down = gap_down(low, row, from, prices[h]);
+        sum += up + down;
+        h += 1;
+    }
+    sum
+}
+
+// What a block gains at a sum of prices over its hours.
+fn gain_of(side: u8, quantity: u32, limit: u32, sum: u32) -> u32
+    requires { ⌜ (quantity ≤ 50) × (limit ≤ 7200000) × (sum ≤ 7200000) ⌝ }
+    ensures { λ r. ⌜ r ≤ 360000000 ⌝ }
+{
+    quantity * by_side(side, less(limit, sum), less(sum, limit))
+}
+
+// What the blocks gain at the prices root.
+fn gains_at(
+    count: usize,
+    sides: [u8; 32],
+    hours: [u32; 32],
+    prices: [u32; 32],
+    quantities: [u32; 32],
+    root: [u32; 24],
+) -> u64
+    requires { ⌜ BlocksHeld count prices quantities × Small 300000 root ⌝ }
+    ensures { λ r. ⌜ r ≤ 32 * 360000000 ⌝ }
+{
+    let mut gains: u64 = 0;
+    let mut i: usize = 0;
+    while i < count {
+        let limit = prices[i] * hour_count(hours[i]);
+        let sum = price_sum(root, hours[i]);
+        let gain = gain_of(sides[i], quantities[i], limit, sum);
+        gains += gain as u64;
+        i += 1;
+    }
+    gains
+}
+
+// The prices that the search goes by: the empty set's own or the moved ones, where it loses less. At its own its hours lose nothing. Any prices are right.
+fn root_prices(
+    low: &[u32],
+    off: [u32; 24],
+    count: usize,
+    sides: [u8; 32],
+    hours: [u32; 32],
+    prices: [u32; 32],
+    quantities: [u32; 32],
+) -> [u32; 24]
+    requires tables { ⌜ (length (now low) ≡ 38448) × Small 300000 (now low) × Small 1600 off ⌝ }
+    requires blocks { ⌜ BlocksHeld count prices quantities ⌝ }
+    ensures { λ r. ⌜ Small 300000 r ⌝ }
+{
+    let own = prices_at(low, off);
+    let other = moved_prices(low, off, count, sides, hours, prices, quantities);
+    let own_loss = gains_at(count, sides, hours, prices, quantities, own);
+    let other_gains = gains_at(count, sides, hours, prices, quantities, other);
+    let other_gaps = gaps_from(low, off, other);
+    if own_loss <= other_gains + other_gaps {
+        own
+    } else {
+        other
+    }
+}
+
+// All that the search is given, from the columns of a book's steps and blocks; low and gap are its two tables, 24 rows of 1,602 places.
+pub fn prepare(
+    sides: &[u8],
+    prices: &[u32],
+    quantities: &[u32],
+    ends: [u16; 25],
+    blocks: Blocks,
+    low: &mut [u32],
+    gap: &mut [u32],
+) -> Prepared
+    requires steps { ⌜ StepsHeld (now sides) (now prices) (now quantities) ends ⌝ }
+    requires blocks { ⌜ BlocksHeld (blocks .count) (blocks .prices) (blocks .quantities) ⌝ }
+    requires tables { ⌜ (length (now low) ≡ 38448) × (length (now gap) ≡ 38448) ⌝ }
+    ensures sized { λ r. ⌜ Sized (now (low .exit)) (now (gap .exit)) (firstOf (r .hours)) (lastOf (r .hours)) (r .columns) ⌝ }
+    ensures ready { λ r. ⌜ ReadyFor (now (sides .entry)) (now (prices .entry)) (now (quantities .entry)) ends
+        (blocks .count) (blocks .records) (blocks .sides) (blocks .hours) (blocks .prices) (blocks .quantities)
+        (now (low .exit)) (now (gap .exit)) (firstOf (r .hours)) (lastOf (r .hours)) (turnOf (r .hours)) (r .columns) ⌝ }
+{
+    let count = blocks.count;
+    let block_sides = blocks.sides;
+    let hours = blocks.hours;
+    let limits = blocks.prices;
+    let amounts = blocks.quantities;
+    let off = bought_by_hour(count, block_sides, hours, amounts);
+    fill_tables(sides, prices, quantities, ends, off, low);
+    let root = root_prices(low, off, count, block_sides, hours, limits, amounts);
+    let ranges = fill_ranges(sides, prices, quantities, ends, off, root, low, gap);
+    let columns = block_columns(count, block_sides, hours, limits, amounts, root);
+    let first = ranges.first;
+    let last = ranges.last;
+    let turn = ranges.turn;
+    let wide = widened(columns);
+    let traded = with_rows(count, wide);
+    Prepared {
+        hours: joined(first, last, turn),
+        columns: with_twins(count, traded),
+    }
+}
