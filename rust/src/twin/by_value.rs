@@ -13,3 +13,9 @@ pub mod orders;
 #[allow(clippy::all, unused)]
 #[rustfmt::skip]
 pub mod pricing;
+#[allow(clippy::all, unused)]
+#[rustfmt::skip]
+pub mod search;
+#[allow(clippy::all, unused)]
+#[rustfmt::skip]
+pub mod setup;

@@ -1,18 +1,16 @@
 // Written by `twin_source` from crates/clearing/src/lib.rt.
 // The clearing: layer 3, above pricing.
 use crate::twin::by_value::clearing::publish::publish;
-use crate::twin::by_value::clearing::search::find;
-use crate::twin::by_value::clearing::setup::prepare;
 use crate::twin::by_value::book::Reading;
 use crate::twin::by_value::book::read;
 use crate::twin::by_value::book::record_count;
 use crate::twin::by_value::orders::blocks_of;
 use crate::twin::by_value::orders::steps_of;
+use crate::twin::by_value::search::find;
+use crate::twin::by_value::setup::prepare;
 
 mod publish; // the published set as the result
 mod result; // the result's bytes
-mod search; // the published set
-mod setup; // the tables of the search
 
 // What a clearing answers: the outcome is published, or refused with its number.
 #[derive(Clone, Copy)]

@@ -1,4 +1,4 @@
-// Written by `twin_source` from crates/clearing/src/search.rt.
+// Written by `twin_source` from crates/search/src/lib.rt.
 // The search over the blocks: each first taken and then left out, by loss at fixed hourly prices. Its tables hold, for each hour (a row of 1,602 places,
 // hour 1 first), the hour's prices and gaps at each place; a place is what the taken blocks sell and the left-out blocks would buy in the hour.
 
