@@ -167,10 +167,6 @@ module _ (blocks : List ℕ) (set : ℕ) (high low : List ℕ) where
       rw (all-keep n (λ j k c. f j (omega arith) c))
       (by-eq (λ t. ((not t || keepsHere blocks set high low n) && true) ≡ true) (set / 2 ^ n % 2) 1 (λ c. rw (f n (omega arith) c)) (λ c. refl))
 
-either-way : (t : Bool) (l : List ℕ) → cond t l l ≡ l
-either-way true l = refl
-either-way false l = refl
-
 same-test : (side side′ : Side) (sum sum′ limit limit′ : ℕ) → side ≡ side′ → sum ≡ sum′ → limit ≡ limit′ →
     testSide side (leb sum limit) (leb limit sum) ≡ testSide side′ (leb sum′ limit′) (leb limit′ sum′)
 same-test side side′ sum sum′ limit limit′ a b c = rw (a, b, c)
@@ -254,7 +250,7 @@ module _ (day : Day) (p rest : ℕ → ℕ) (low gap first last blocks : List �
           let sum : daySum (day .hours) (λ h. when (s .block .runs h) (pricesAt day (place (day .blocks) d) h))
           ≡ sumTo 24 (λ h. when (holdsHour (hoursAt blocks j) h) (getD prices (h - 1) 0)) =
           daySum-plain (day .hours) _ ∙ sumTo-in 24 _ _ (λ h a b. rw (s .runsIs h, ← (price-at h a b))) in
-          rw (either-way (eqb (sideAt blocks j) 0) prices) (same-test _ _ _ _ _ _ (s .sideIs) sum (s .limitIs))
+          same-test _ _ _ _ _ _ (s .sideIs) sum (s .limitIs)
 
       bit-is : (j : ℕ) → j < count → getD d j false ≡ eqb (set / 2 ^ j % 2) 1
       bit-is j k = rw (← (branch .setIs)) (bits-at (length d) set j (omega arith))

@@ -140,7 +140,7 @@ module _ (low places : List ℕ) where
 -- LIMITS
 module _ (blocks : List ℕ) (chosen : ℕ) (high low : List ℕ) where
   abbrev pub keepsHere : ℕ → Bool
-  keepsHere i = keepsAt (sideAt blocks i) (hoursAt blocks i) (limitAt blocks i) (cond (eqb (sideAt blocks i) 0) low high)
+  keepsHere i = keepsAt (sideAt blocks i) (hoursAt blocks i) (limitAt blocks i) high low
 
   keep-more : (i : ℕ) → 0 < i →
       allKeep blocks chosen high low i ≡ ((not (eqb (chosen / 2 ^ (i - 1) % 2) 1) || keepsHere (i - 1)) && allKeep blocks chosen high low (i - 1))
@@ -162,10 +162,6 @@ module _ (blocks : List ℕ) (chosen : ℕ) (high low : List ℕ) where
 
     pub keep-skips : (chosen / 2 ^ (i - 1) % 2 ≡ 1 → ⊥) → allKeep blocks chosen high low i ≡ allKeep blocks chosen high low (i - 1)
     keep-skips c = rw (keep-more i k, ne-eqb _ 1 c)
-
-pub either-small : (m : ℕ) (t : Bool) (a b : List ℕ) → Small m a → Small m b → Small m (cond t a b)
-either-small m true a b x y = x
-either-small m false a b x y = y
 
 -- places in range are small
 pub places-small : (first last places : List ℕ) → InRange first last places → Small 1600 last → length places ≡ 24 → Small 1600 places

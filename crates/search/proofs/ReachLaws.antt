@@ -197,19 +197,11 @@ module _ (day : Day) (p rest : ℕ → ℕ) (low gap first last blocks : List �
       daySum-plain (day .hours) _
       ∙ sumTo-in 24 _ _ (λ h a b. rw (s .runsIs h, ← (price-at-table day p rest low gap first last blocks count known at prices priced h a b (fits h a b))))
 
-  could-same : keepsAt (sideAt blocks j) (hoursAt blocks j) (limitAt blocks j) (cond (eqb (sideAt blocks j) 0) lowest high)
+  could-same : keepsAt (sideAt blocks j) (hoursAt blocks j) (limitAt blocks j) high lowest
       ≡ couldKeep (day .hours) (pricesAt day (ofHour from)) (pricesAt day (ofHour to)) (s .block)
   unfolding keepsAt couldKeep
   could-same =
-      go (sideAt blocks j) (limitAt blocks j)
-      ∙ sym (same-could _ _ _ _ _ _ _ _ (s .sideIs) (sum-same to lowest priced-low to-fits) (sum-same from high priced-high from-fits) (s .limitIs))
-    where
-      go : (side limit : ℕ) →
-          testSide (sideFor side) (leb (sumOfHours (cond (eqb side 0) lowest high) (hoursAt blocks j)) limit)
-          (leb limit (sumOfHours (cond (eqb side 0) lowest high) (hoursAt blocks j)))
-          ≡ testSide (sideFor side) (leb (sumOfHours lowest (hoursAt blocks j)) limit) (leb limit (sumOfHours high (hoursAt blocks j)))
-      go zero limit = refl
-      go (suc side) limit = rw (ne-eqb (suc side) 0 (omega arith))
+      sym (same-could _ _ _ _ _ _ _ _ (s .sideIs) (sum-same to lowest priced-low to-fits) (sum-same from high priced-high from-fits) (s .limitIs))
 
 other : Block
 other = record { number = 0; side = buy; price = 0; quantity = 0; runs = λ h. false }

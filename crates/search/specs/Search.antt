@@ -91,16 +91,16 @@ isBarred blocks i set = not (eqb (aheadAt blocks i) 0) && eqb (set / 2 ^ (aheadA
 unfoldable pub isDue : (blocks : List ℕ) (i set : ℕ) → Bool
 isDue blocks i set = not (eqb (behindAt blocks i) 0) && eqb (set / 2 ^ (behindAt blocks i - 1) % 2) 1
 
--- A block keeps its limit at a column of prices.
-unfoldable pub keepsAt : ℕ → ℕ → ℕ → List ℕ → Bool
-keepsAt side hours limit prices = testSide (sideFor side) (leb (sumOfHours prices hours) limit) (leb limit (sumOfHours prices hours))
+-- A block keeps its limit, a buy at the low prices, a sell at the high ones.
+unfoldable pub keepsAt : (side hours limit : ℕ) (high low : List ℕ) → Bool
+keepsAt side hours limit high low = testSide (sideFor side) (leb (sumOfHours low hours) limit) (leb limit (sumOfHours high hours))
 
--- Each of the first n blocks that a set of bits holds keeps its limit, a buy at the low prices, a sell at the high ones.
+-- Each of the first n blocks that a set of bits holds does.
 unfoldable pub allKeep : (blocks : List ℕ) (set : ℕ) (high low : List ℕ) → ℕ → Bool
 allKeep blocks set high low zero = true
 allKeep blocks set high low (suc i) =
     (not (eqb (set / 2 ^ i % 2) 1)
-    || keepsAt (sideAt blocks i) (hoursAt blocks i) (limitAt blocks i) (cond (eqb (sideAt blocks i) 0) low high))
+    || keepsAt (sideAt blocks i) (hoursAt blocks i) (limitAt blocks i) high low)
     && allKeep blocks set high low i
 
 -- THE REACH: the places that a branch can still come to, hour by hour. With so much lost, a decision that loses up to the limit is not made.

@@ -107,24 +107,17 @@ pub fn prices_at(low: &[u32], places: [u32; 24]) -> [u32; 24]
     prices
 }
 
-// Whether a block keeps its limit at the prices: the sum over its hours is at least the limit for a sell, at most that for a buy.
-pub fn keeps_limit(side: u32, hours: u32, limit: u32, prices: [u32; 24]) -> bool
-    requires { ⌜ Small 300000 prices ⌝ }
-    ensures { λ r. ⌜ r ≡ keepsAt side hours limit prices ⌝ }
+// Whether a block keeps its limit: the sum of the low prices over its hours is at most the limit for a buy, that of the high prices at least the limit
+// for a sell.
+pub fn keeps_limit(side: u32, hours: u32, limit: u32, high: [u32; 24], low: [u32; 24]) -> bool
+    requires { ⌜ Small 300000 high × Small 300000 low ⌝ }
+    ensures { λ r. ⌜ r ≡ keepsAt side hours limit high low ⌝ }
 {
-    let sum = price_sum(prices, hours);
     if side == 0 {
-        sum <= limit
+        price_sum(low, hours) <= limit
     } else {
-        limit <= sum
+        limit <= price_sum(high, hours)
     }
-}
-
-// The first list where the test passes, else the second.
-fn pick(test: bool, a: [u32; 24], b: [u32; 24]) -> [u32; 24]
-    ensures { λ r. ⌜ r ≡ cond test a b ⌝ }
-{
-    if test { a } else { b }
 }
 
 // Whether each of the first count blocks that the set holds keeps its limit: a buy at the low prices, a sell at the high ones.
@@ -137,8 +130,7 @@ fn keeps_limits(blocks: &[u32], count: usize, set: u32, high: [u32; 24], low: [u
         i -= 1;
         let chosen = (set >> (i as u32)) % 2;
         if chosen == 1 {
-            let prices = pick(blocks[i] == 0, low, high);
-            if !keeps_limit(blocks[i], blocks[32 + i], blocks[96 + i], prices) {
+            if !keeps_limit(blocks[i], blocks[32 + i], blocks[96 + i], high, low) {
                 return false;
             }
         }

@@ -1,22 +1,23 @@
+-- `search::keeps_limit` meets its contract: a side that is not 0 sells. Assumes nothing.
 use Rattle.search.specs.Search.{keepsAt}
 use Rattle.search.proofs.LeafLaws.{side-sell}
 use borrow.Author.Needs.{needs}
 use Rattle.search.proofs.keeps_limit.Statement.{statement}
 use Rattle.search.proofs.keeps_limit.Tie as tie
-use Rattle.search.proofs.keeps_limit.Reads as reads
-use Rattle.search.proofs.keeps_limit.Lts as lts
-use Rattle.search.proofs.price_sum.Reads as price-sum-reads
 
 price-sum-requires : tie.Need-price-sum-requires
 price-sum-requires c κs = search needs
 
+price-sum-requires-2 : tie.Need-price-sum-requires-2
+price-sum-requires-2 c κs = search needs
+
 returns : tie.Need-returns
 unfolding keepsAt
-returns c = rw (c .before .price-sum .ensures .0, c .if1 .taken)
+returns c = rw (c .price-sum .ensures .0, c .before .if1 .taken)
 
 returns-2 : tie.Need-returns-2
 unfolding keepsAt
-returns-2 c = rw (c .before .price-sum .ensures .0, side-sell _ (c .if1 .left))
+returns-2 c = rw (c .price-sum2 .ensures .0, side-sell _ (c .before .if1 .left))
 
 pub keeps-limit-spec : {M : Type 1} → statement M
-keeps-limit-spec = tie.close (tie.spec price-sum-requires returns returns-2)
+keeps-limit-spec = tie.close (tie.spec price-sum-requires price-sum-requires-2 returns returns-2)

@@ -1,17 +1,13 @@
 -- `search::keeps_limits` meets its contract: the blocks from number i on keep their limits. Assumes nothing.
-use borrow.Author.Tests.{not-true, not-false}
-use Prim.Native.Nat.{_-_, _≤_}
-use lib.Dec.{eqb}
+use Prim.Native.Nat.{_≤_}
 use mathlib.Core.Path.{_≡_, refl, sym, _∙_}
 use native.Mathlib.Omega.{arith}
-use Rattle.search.specs.Search.{sideAt, allKeep}
-use Rattle.search.proofs.LeafLaws.{keep-none, keep-fails, keep-passes, keep-skips, either-small}
+use borrow.Author.Tests.{not-true, not-false}
+use Rattle.search.specs.Search.{allKeep}
+use Rattle.search.proofs.LeafLaws.{keep-none, keep-fails, keep-passes, keep-skips}
 use borrow.Author.Needs.{needs}
 use Rattle.search.proofs.keeps_limits.Statement.{statement}
 use Rattle.search.proofs.keeps_limits.Tie as tie
-use Rattle.search.proofs.keeps_limits.Reads as reads
-use Rattle.search.proofs.keeps_limits.Lts as lts
-use Rattle.search.proofs.keeps_limit.Reads as keeps-limit-reads
 
 abbrev Inv-loop : tie.InvT-loop
 Inv-loop blocks count set high low i₀ i = (i ≤ 32) × (allKeep blocks set high low count ≡ allKeep blocks set high low i)
@@ -30,15 +26,6 @@ cast-chosen c = search needs
 
 shr-chosen : tie.Need-shr-chosen Inv-loop μ-loop
 shr-chosen c = omega (arith, c .before .loop .inv .0)
-
-mul-pick : tie.Need-mul-pick Inv-loop μ-loop
-mul-pick c = search needs
-
-shared-slice-read-pick : tie.Need-shared-slice-read-pick Inv-loop μ-loop
-shared-slice-read-pick c = search needs
-
-pick-requires : tie.Need-pick-requires Inv-loop μ-loop
-pick-requires c κs = search needs
 
 mul-keeps-limit : tie.Need-mul-keeps-limit Inv-loop μ-loop
 mul-keeps-limit c = search needs
@@ -65,26 +52,23 @@ shared-slice-read-keeps-limit-3 : tie.Need-shared-slice-read-keeps-limit-3 Inv-l
 shared-slice-read-keeps-limit-3 c = search needs
 
 keeps-limit-requires : tie.Need-keeps-limit-requires Inv-loop μ-loop
-keeps-limit-requires c κs =
-    let s = c .before .before .before .before .before .before .before .before .before in
-    rw (c .before .before .before .pick .ensures)
-    (either-small 300000 (eqb (sideAt (s .args .blocks .now) (c .before .before .before .before .before .before .before .loop .i - 1)) 0) (s .args .low) (s .args .high) (s .pre .3) (s .pre .2))
+keeps-limit-requires c κs = search needs
 
 returns : tie.Need-returns Inv-loop μ-loop
 returns c =
-    let v = c .before .before .before .before .before .before .before .before in
-    sym (v .before .loop .inv .1 ∙ keep-fails _ _ _ _ _ (v .loop-test .taken) (c .before .before .before .before .before .before .before .if1 .taken)
-    (rw (c .before .before .before .before .before .pick .ensures) at (sym (c .before .keeps-limit .ensures)) ∙ not-true _ (c .if2 .taken)))
+    let v = c .before .before .before .before .before .before in
+    sym (v .before .loop .inv .1 ∙ keep-fails _ _ _ _ _ (v .loop-test .taken) (c .before .before .before .before .before .if1 .taken)
+    (sym (c .before .keeps-limit .ensures) ∙ not-true _ (c .if2 .taken)))
 
 loop-less : tie.Need-loop-less Inv-loop μ-loop
 loop-less c = search needs
 
 loop-again : tie.Need-loop-again Inv-loop μ-loop
 loop-again c =
-    let v = c .before .before .before .before .before .before .before .before in (
+    let v = c .before .before .before .before .before .before in (
       omega (arith, v .before .loop .inv .0),
-      v .before .loop .inv .1 ∙ keep-passes _ _ _ _ _ (v .loop-test .taken) (c .before .before .before .before .before .before .before .if1 .taken)
-          (rw (c .before .before .before .before .before .pick .ensures) at (sym (c .before .keeps-limit .ensures)) ∙ not-false _ (c .if2 .left)),
+      v .before .loop .inv .1 ∙ keep-passes _ _ _ _ _ (v .loop-test .taken) (c .before .before .before .before .before .if1 .taken)
+          (sym (c .before .keeps-limit .ensures) ∙ not-false _ (c .if2 .left)),
     )
 
 loop-less-2 : tie.Need-loop-less-2 Inv-loop μ-loop
@@ -108,9 +92,6 @@ keeps-limits-spec =
     sub-i
     cast-chosen
     shr-chosen
-    mul-pick
-    shared-slice-read-pick
-    pick-requires
     mul-keeps-limit
     shared-slice-read-keeps-limit
     add-keeps-limit
