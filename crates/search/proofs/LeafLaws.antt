@@ -173,37 +173,41 @@ places-small first last places r small e i = at (native.Mathlib.Decide.decLe 24 
         let a = rw sub-one at (r (suc i) (omega arith) (omega (arith, native.Mathlib.Nat.lt-of-not-le k))) in
         omega (arith, a .1, small i)
 
--- A ROW ADDED to places, hour by hour
-module _ (places blocks : List ℕ) (i : ℕ) where
+-- A ROW ADDED to places so many times, hour by hour
+pub times-when : (t : Bool) (x : ℕ) → cond t 1 0 * x ≡ when t x
+times-when true x = omega arith
+times-when false x = omega arith
+
+pub times-le : (t : Bool) (n x : ℕ) → n ≡ cond t 1 0 → n * x ≤ x
+times-le true n x e = rw e (omega arith)
+times-le false n x e = rw e (omega arith)
+
+module _ (places blocks : List ℕ) (i times : ℕ) where
   pub record RowTo (h : ℕ) (r : List ℕ) : Type 0 where
     pub inside : h ≤ 24
     pub size : length r ≡ 24
-    pub done : (k : ℕ) → k < h → getD r k 0 ≡ getD places k 0 + getD blocks (256 + 24 * i + k) 0
+    pub done : (k : ℕ) → k < h → getD r k 0 ≡ getD places k 0 + times * getD blocks (256 + 24 * i + k) 0
     pub ahead : (k : ℕ) → h ≤ k → getD r k 0 ≡ getD places k 0
 
   pub row-start : length places ≡ 24 → RowTo 0 places
   row-start e = record { inside = omega arith; size = e; done = λ k a. absurd (omega arith); ahead = λ k a. refl }
 
-  pub row-next : (h : ℕ) (r : List ℕ) → RowTo h r → h < 24 → RowTo (h + 1) (set r h (getD r h 0 + getD blocks (256 + 24 * i + h) 0))
+  pub row-next : (h : ℕ) (r : List ℕ) → RowTo h r → h < 24 → RowTo (h + 1) (set r h (getD r h 0 + times * getD blocks (256 + 24 * i + h) 0))
   row-next h r g k =
       let inside : h < length r = omega (arith, g .size) in
-      let v = getD r h 0 + getD blocks (256 + 24 * i + h) 0 in
+      let v = getD r h 0 + times * getD blocks (256 + 24 * i + h) 0 in
       record {
         inside = omega arith;
         size = rw length-set (g .size);
-        done = λ j a. below-next (λ n. getD (set r h v) n 0 ≡ getD places n 0 + getD blocks (256 + 24 * i + n) 0) h j
+        done = λ j a. below-next (λ n. getD (set r h v) n 0 ≡ getD places n 0 + times * getD blocks (256 + 24 * i + n) 0) h j
             (λ b. getD-set-other r h j v 0 (omega arith) ∙ g .done j b)
             (getD-set-same r h v 0 inside ∙ rw (g .ahead h (omega arith))) (rw add-one at a);
         ahead = λ j a. getD-set-other r h j v 0 (omega arith) ∙ g .ahead j (omega arith);
       }
 
-  module _ (test : Bool) where
-    pub row-all : test ≡ true → (h : ℕ) (r : List ℕ) → RowTo h r → 24 ≤ h → (k : ℕ) → 1 ≤ k → k ≤ 24 →
-        getD r (k - 1) 0 ≡ getD places (k - 1) 0 + when test (rowAt blocks i k)
-    row-all t h r g e k a b = rw t (g .done (k - 1) (omega (arith, g .inside)))
-
-    pub row-none : test ≡ false → (k : ℕ) → 1 ≤ k → k ≤ 24 → getD places (k - 1) 0 ≡ getD places (k - 1) 0 + when test (rowAt blocks i k)
-    row-none t k a b = rw t (omega arith)
+  pub row-all : (test : Bool) → times ≡ cond test 1 0 → (h : ℕ) (r : List ℕ) → RowTo h r → 24 ≤ h → (k : ℕ) → 1 ≤ k → k ≤ 24 →
+      getD r (k - 1) 0 ≡ getD places (k - 1) 0 + when test (rowAt blocks i k)
+  row-all test t h r g e k a b = g .done (k - 1) (omega (arith, g .inside)) ∙ rw (t, times-when test (rowAt blocks i k))
 
 -- TWINS
 module _ (blocks : List ℕ) (i chosen : ℕ) where

@@ -45,6 +45,7 @@ use Rattle.search.specs.Search.{
   mustMove,
   mayMove,
   addedIn,
+  AddedTo,
   RestOf,
   larger,
   smaller,
@@ -398,11 +399,12 @@ module _ (blocks : List ℕ) (count at loss limit : ℕ) (places : List ℕ) whe
       rw (e, f)
 
   pub rest-next : (i : ℕ) (least free more freer : List ℕ) → RestTo i least free → at < i → ((h : ℕ) → rowAt blocks (i - 1) h ≤ 50000) →
-      length more ≡ 24 → length freer ≡ 24 →
-      ((h : ℕ) → 1 ≤ h → h ≤ 24 → ofHour more h ≡ ofHour least h + when (mustMove blocks loss limit (i - 1)) (rowAt blocks (i - 1) h)) →
-      ((h : ℕ) → 1 ≤ h → h ≤ 24 → ofHour freer h ≡ ofHour free h + when (mayMove blocks loss limit (i - 1)) (rowAt blocks (i - 1) h)) →
-      RestTo (i - 1) more freer
-  rest-next i least free more freer r pos few sm sf m f =
+      AddedTo blocks (i - 1) (mustMove blocks loss limit (i - 1)) (mayMove blocks loss limit (i - 1)) least free more freer → RestTo (i - 1) more freer
+  rest-next i least free more freer r pos few added =
+      let sm = added .moreSize in
+      let sf = added .freerSize in
+      let m = added .moreIs in
+      let f = added .freerIs in
       let n₁ : at + (count - (i - 1)) ≡ at + (count - i) + 1 = omega (arith, r .to) in
       let n₂ : count - (i - 1) ≡ count - i + 1 = omega (arith, r .to) in
       record {

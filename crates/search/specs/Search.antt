@@ -123,6 +123,13 @@ unfoldable pub addedIn : (blocks : List ℕ) → (ℕ → Bool) → ℕ → ℕ 
 addedIn blocks moves h zero i = 0
 addedIn blocks moves h (suc n) i = when (moves i) (rowAt blocks i h) + addedIn blocks moves h n (suc i)
 
+-- The least places and what is free with block i more, each where the block moves it.
+pub record AddedTo (blocks : List ℕ) (i : ℕ) (must may : Bool) (least free more freer : List ℕ) : Type 0 where
+  pub moreSize : length more ≡ 24
+  pub freerSize : length freer ≡ 24
+  pub moreIs : (h : ℕ) → 1 ≤ h → h ≤ 24 → ofHour more h ≡ ofHour least h + when must (rowAt blocks i h)
+  pub freerIs : (h : ℕ) → 1 ≤ h → h ≤ 24 → ofHour freer h ≡ ofHour free h + when may (rowAt blocks i h)
+
 -- The least places of the hours, and what the blocks from number j on are free to add.
 pub record RestOf (blocks : List ℕ) (count j loss limit : ℕ) (places least free : List ℕ) : Type 0 where
   pub leastIs : (h : ℕ) → 1 ≤ h → h ≤ 24 → ofHour least h ≡ ofHour places h + addedIn blocks (mustMove blocks loss limit) h (count - j) j

@@ -6,7 +6,7 @@ ghost use lib.ListN.{length, getD};
 ghost use Rattle.rules.specs.Hour.{when};
 ghost use Rattle.book.specs.Records.{holdsHour};
 ghost use mathlib.Core.Bool.{false, cond};
-ghost use Rattle.search.specs.Search.{Small, sumOfHours, ofHour, GapsOf, PricesOf, keepsAt, allKeep, mustMove, mayMove, isBarred, isDue, rowAt, RestOf, ReachOf, leastGaps, firstOf, lastOf, turnOf};
+ghost use Rattle.search.specs.Search.{Small, sumOfHours, ofHour, GapsOf, PricesOf, keepsAt, allKeep, mustMove, mayMove, AddedTo, isBarred, isDue, rowAt, RestOf, ReachOf, leastGaps, firstOf, lastOf, turnOf};
 ghost use Rattle.search.specs.Search as numbers;
 ghost use Rattle.search.specs.Meaning.{BlocksSized, Sized, Fits, Decided, TakenTo, LeftTo, DroppedFrom, ExploredFrom, FoundIn};
 
@@ -182,19 +182,24 @@ fn decide(
     }
 }
 
+// 1 where the test passes, else 0.
+fn number_of(test: bool) -> u32
+    ensures { λ r. ⌜ r ≡ cond test 1 0 ⌝ }
+{
+    if test { 1 } else { 0 }
+}
+
 // The places with what block i trades in each hour more, where the test passes.
 fn moved_where(test: bool, places: [u32; 24], blocks: &[u32], i: usize) -> [u32; 24]
     requires { ⌜ BlocksSized (now blocks) × (i < 32) × Small 1600000 places ⌝ }
     ensures { λ r. ⌜ (length r ≡ 24) × ((h : ℕ) → 1 ≤ h → h ≤ 24 → getD r (h - 1) 0 ≡ getD places (h - 1) 0 + when test (rowAt (now (blocks .entry)) i h)) ⌝ }
 {
-    let mut r = places;
-    if !test {
-        return r;
-    }
+    let times = number_of(test);
     let row = 256 + 24 * i;
+    let mut r = places;
     let mut h: usize = 0;
     while h < 24 {
-        r[h] += blocks[row + h];
+        r[h] += times * blocks[row + h];
         h += 1;
     }
     r
@@ -269,6 +274,29 @@ pub struct Rest {
     pub free: [u32; 24],
 }
 
+// The least places and what is free with block i more, where it must move them on, or may.
+fn with_block(least: [u32; 24], free: [u32; 24], moves: Moves, blocks: &[u32], i: usize) -> Rest
+    requires { ⌜ BlocksSized (now blocks) × (i < 32) × Small 1600000 least × Small 1600000 free ⌝ }
+    ensures { λ r. ⌜ AddedTo (now (blocks .entry)) i (moves .must) (moves .may) least free (r .least) (r .free) ⌝ }
+{
+    let must = number_of(moves.must);
+    let may = number_of(moves.may);
+    let row = 256 + 24 * i;
+    let mut more = least;
+    let mut freer = free;
+    let mut h: usize = 0;
+    while h < 24 {
+        let traded = blocks[row + h];
+        more[h] += must * traded;
+        freer[h] += may * traded;
+        h += 1;
+    }
+    Rest {
+        least: more,
+        free: freer,
+    }
+}
+
 // The undecided blocks, from number at on, added to the places.
 fn rest_of(
     blocks: &[u32],
@@ -287,10 +315,9 @@ fn rest_of(
     while at < i {
         i -= 1;
         let moves = moves_of(blocks, i, loss, limit);
-        let more = moved_where(moves.must, least, blocks, i);
-        let freer = moved_where(moves.may, free, blocks, i);
-        least = more;
-        free = freer;
+        let more = with_block(least, free, moves, blocks, i);
+        least = more.least;
+        free = more.free;
     }
     Rest { least, free }
 }

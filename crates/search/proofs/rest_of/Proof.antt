@@ -23,30 +23,26 @@ moves-of-requires c κs =
     let s = c .before .before .before in
     (s .pre .0, omega (arith, s .pre .1, c .before .loop .inv .to), s .pre .3)
 
-moved-where-requires : tie.Need-moved-where-requires Inv-loop μ-loop
-moved-where-requires c κs =
+with-block-requires : tie.Need-with-block-requires Inv-loop μ-loop
+with-block-requires c κs =
     let v = c .before .before .loop in
-    let s = c .before .before .before .before in
-    (s .pre .0, omega (arith, s .pre .1, v .inv .to), λ j. omega (arith, v .inv .leastFits j, v .inv .from, v .inv .to, s .pre .1))
-
-moved-where-requires-2 : tie.Need-moved-where-requires-2 Inv-loop μ-loop
-moved-where-requires-2 c κs =
-    let v = c .before .before .before .loop in
-    let s = c .before .before .before .before .before in
-    (s .pre .0, omega (arith, s .pre .1, v .inv .to), λ j. omega (arith, v .inv .freeFits j, v .inv .from, v .inv .to, s .pre .1))
+    let s = c .before .before .before .before in (
+      s .pre .0,
+      omega (arith, s .pre .1, v .inv .to),
+      λ j. omega (arith, v .inv .leastFits j, v .inv .from, v .inv .to, s .pre .1),
+      λ j. omega (arith, v .inv .freeFits j, v .inv .from, v .inv .to, s .pre .1),
+    )
 
 loop-less : tie.Need-loop-less Inv-loop μ-loop
 loop-less c = search needs
 
 loop-again : tie.Need-loop-again Inv-loop μ-loop
 loop-again c =
-    let v = c .before .before .before .before .loop in
-    let s = c .before .before .before .before .before .before in
-    let moves = c .before .before .moves-of .ensures in
-    let more = c .before .moved-where .ensures in
-    let freer = c .moved-where2 .ensures in
-    rest-next _ _ _ _ _ _ _ _ _ _ _ (v .inv) (c .before .before .before .loop-test .taken) (s .pre .0 .rowsFit (v .i - 1)) (more .0) (freer .0)
-    (rw (moves .0) at (more .1)) (rw (moves .1) at (freer .1))
+    let v = c .before .before .before .before .before .loop in
+    let s = c .before .before .before .before .before .before .before in
+    let moves = c .before .before .before .moves-of .ensures in
+    rest-next _ _ _ _ _ _ _ _ _ _ _ (v .inv) (c .before .before .before .before .loop-test .taken) (s .pre .0 .rowsFit (v .i - 1))
+    (rw (moves .0, moves .1) at (c .before .before .with-block .ensures))
 
 returns : tie.Need-returns Inv-loop μ-loop
 returns c = rest-all _ _ _ _ _ _ _ _ _ (c .before .loop .inv) (c .loop-test .left) (c .before .before .before .pre .1)
@@ -60,8 +56,7 @@ rest-of-spec =
     loop-holds
     sub-i
     moves-of-requires
-    moved-where-requires
-    moved-where-requires-2
+    with-block-requires
     loop-less
     loop-again
     returns)
