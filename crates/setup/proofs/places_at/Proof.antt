@@ -1,5 +1,5 @@
 -- `setup::places_at` meets its contract: each block moves the places on by at most 50. Assumes nothing.
-use Prim.Native.Nat.{_-_, _*_, _≤_}
+use Prim.Native.Nat.{_+_, _-_, _*_, _≤_}
 use mathlib.Core.Logic.{⊎-elim}
 use native.Mathlib.Omega.{arith}
 use lib.ListN.{getD}
@@ -9,11 +9,6 @@ use Rattle.setup.proofs.SetupBlockLaws.{limit-fits, moved-small}
 use borrow.Author.Needs.{needs}
 use Rattle.setup.proofs.places_at.Statement.{statement}
 use Rattle.setup.proofs.places_at.Tie as tie
-use Rattle.setup.proofs.places_at.Reads as reads
-use Rattle.setup.proofs.places_at.Lts as lts
-use Rattle.book.proofs.hour_count.Reads as hour-count-reads
-use Rattle.search.proofs.keeps_limit.Reads as keeps-limit-reads
-use Rattle.search.proofs.moved.Reads as moved-reads
 
 abbrev Inv-loop : tie.InvT-loop
 Inv-loop count root sides hours prices quantities places₀ i₀ places i = (i ≤ count) × Small (i * 50) places
@@ -64,24 +59,23 @@ keeps-limit-requires c κs = search needs
 array-read-if1 : tie.Need-array-read-if1 Inv-loop μ-loop
 array-read-if1 c = search needs
 
-mul-quantity : tie.Need-mul-quantity Inv-loop μ-loop
-mul-quantity c = search needs
-
-array-read-quantity : tie.Need-array-read-quantity Inv-loop μ-loop
-array-read-quantity c = search needs
-
 mul-moved : tie.Need-mul-moved Inv-loop μ-loop
 mul-moved c = search needs
 
 array-read-moved : tie.Need-array-read-moved Inv-loop μ-loop
 array-read-moved c = search needs
 
+mul-moved-2 : tie.Need-mul-moved-2 Inv-loop μ-loop
+mul-moved-2 c = search needs
+
+array-read-moved-2 : tie.Need-array-read-moved-2 Inv-loop μ-loop
+array-read-moved-2 c = search needs
+
 moved-requires : tie.Need-moved-requires Inv-loop μ-loop
 moved-requires c κs =
     let v = c .before .before .before .before .loop in
     let s = c .before .before .before .before .before in
-    let q = s .pre .0 .quantitiesFit (v .i) (c .before .before .before .loop-test .taken) in
-    (λ j. omega (arith, v .inv .1 j, v .inv .0, s .pre .0 .few), ⊎-elim (λ w. omega arith) (λ w. omega arith) (c .if1 .came))
+    (λ j. omega (arith, v .inv .1 j, v .inv .0, s .pre .0 .few), omega (arith, s .pre .0 .quantitiesFit (v .i) (c .before .before .before .loop-test .taken)))
 
 add-i : tie.Need-add-i Inv-loop μ-loop
 add-i c = search needs
@@ -91,13 +85,14 @@ loop-less c = search needs
 
 loop-again : tie.Need-loop-again Inv-loop μ-loop
 loop-again c =
-    let b = c .before in
-    let v = b .before .before .before .before .loop in
-    let s = b .before .before .before .before .before in
-    let k = b .before .before .before .loop-test .taken in
-    let q = s .pre .0 .quantitiesFit (v .i) k in
-    let fits : b .if1 .quantity ≤ 50 = ⊎-elim (λ w. omega arith) (λ w. omega arith) (b .if1 .came) in
-    (omega (arith, k), moved-small _ _ _ (v .places) (c .moved .result) (v .inv .1) fits (c .moved .ensures .0) (c .moved .ensures .1))
+    let v = c .before .before .before .before .loop in
+    let s = c .before .before .before .before .before in
+    let k = c .before .before .before .loop-test .taken in (
+      omega (arith, k),
+      ⊎-elim
+          (λ w. rw (w .2) (moved-small _ _ _ (v .places) (w .1 .result) (v .inv .1) (s .pre .0 .quantitiesFit (v .i) k) (w .1 .ensures .0) (w .1 .ensures .1)))
+          (λ w. rw (w .1) (λ j. omega (arith, v .inv .1 j))) (c .if1 .came),
+    )
 
 returns : tie.Need-returns Inv-loop μ-loop
 returns c = λ j. omega (arith, c .before .loop .inv .1 j, c .before .loop .inv .0, c .before .before .pre .0 .few)
@@ -121,10 +116,10 @@ places-at-spec =
     mul-keeps-limit-3
     keeps-limit-requires
     array-read-if1
-    mul-quantity
-    array-read-quantity
     mul-moved
     array-read-moved
+    mul-moved-2
+    array-read-moved-2
     moved-requires
     add-i
     loop-less
