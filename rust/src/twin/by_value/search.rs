@@ -92,21 +92,15 @@ pub fn prices_at(low: &[u32], places: [u32; 24]) -> [u32; 24]
     prices
 }
 
-// Whether a block keeps its limit at the prices: the sum over its hours is at least the limit for a sell, at most that for a buy.
-pub fn keeps_limit(side: u32, hours: u32, limit: u32, prices: [u32; 24]) -> bool
+// Whether a block keeps its limit: the sum of the low prices over its hours is at most the limit for a buy, that of the high prices at least the limit
+// for a sell.
+pub fn keeps_limit(side: u32, hours: u32, limit: u32, high: [u32; 24], low: [u32; 24]) -> bool
 {
-    let sum = price_sum(prices, hours);
     if side == 0 {
-        sum <= limit
+        price_sum(low, hours) <= limit
     } else {
-        limit <= sum
+        limit <= price_sum(high, hours)
     }
-}
-
-// The first list where the test passes, else the second.
-fn pick(test: bool, a: [u32; 24], b: [u32; 24]) -> [u32; 24]
-{
-    if test { a } else { b }
 }
 
 // Whether each of the first count blocks that the set holds keeps its limit: a buy at the low prices, a sell at the high ones.
@@ -117,8 +111,7 @@ fn keeps_limits(blocks: &[u32], count: usize, set: u32, high: [u32; 24], low: [u
         i -= 1;
         let chosen = (set >> (i as u32)) % 2;
         if chosen == 1 {
-            let prices = pick(blocks[i] == 0, low, high);
-            if !keeps_limit(blocks[i], blocks[32 + i], blocks[96 + i], prices) {
+            if !keeps_limit(blocks[i], blocks[32 + i], blocks[96 + i], high, low) {
                 return false;
             }
         }
@@ -169,17 +162,21 @@ fn decide(
     }
 }
 
+// 1 where the test passes, else 0.
+fn number_of(test: bool) -> u32
+{
+    if test { 1 } else { 0 }
+}
+
 // The places with what block i trades in each hour more, where the test passes.
 fn moved_where(test: bool, places: [u32; 24], blocks: &[u32], i: usize) -> [u32; 24]
 {
-    let mut r = places;
-    if !test {
-        return r;
-    }
+    let times = number_of(test);
     let row = 256 + 24 * i;
+    let mut r = places;
     let mut h: usize = 0;
     while h < 24 {
-        r[h] += blocks[row + h];
+        r[h] += times * blocks[row + h];
         h += 1;
     }
     r
@@ -248,6 +245,27 @@ pub struct Rest {
     pub free: [u32; 24],
 }
 
+// The least places and what is free with block i more, where it must move them on, or may.
+fn with_block(least: [u32; 24], free: [u32; 24], moves: Moves, blocks: &[u32], i: usize) -> Rest
+{
+    let must = number_of(moves.must);
+    let may = number_of(moves.may);
+    let row = 256 + 24 * i;
+    let mut more = least;
+    let mut freer = free;
+    let mut h: usize = 0;
+    while h < 24 {
+        let traded = blocks[row + h];
+        more[h] += must * traded;
+        freer[h] += may * traded;
+        h += 1;
+    }
+    Rest {
+        least: more,
+        free: freer,
+    }
+}
+
 // The undecided blocks, from number at on, added to the places.
 fn rest_of(
     blocks: &[u32],
@@ -264,10 +282,9 @@ fn rest_of(
     while at < i {
         i -= 1;
         let moves = moves_of(blocks, i, loss, limit);
-        let more = moved_where(moves.must, least, blocks, i);
-        let freer = moved_where(moves.may, free, blocks, i);
-        least = more;
-        free = freer;
+        let more = with_block(least, free, moves, blocks, i);
+        least = more.least;
+        free = more.free;
     }
     Rest { least, free }
 }

@@ -356,13 +356,12 @@ fn places_at(
             hours[i],
             prices[i] * hour_count(hours[i]),
             root,
+            root,
         );
-        let mut quantity = 0;
         if gains == (sides[i] != 0) {
-            quantity = quantities[i];
+            let more = moved(places, hours[i], quantities[i]);
+            places = more;
         }
-        let more = moved(places, hours[i], quantity);
-        places = more;
         i += 1;
     }
     places
