@@ -173,13 +173,13 @@ module _ (day : Day) (sought : List Bool → Type 0) (loss : List Bool → ℕ) 
       new k (inr less) = left-out less (b .better less)
 
   -- ONE BRANCH SKIPPED
-  -- where no lawful completion that is sought takes the block, it is left out at once
+  -- where every lawful completion that is sought and takes the block loses the limit or more, it is left out at once
   pub only-left : (n : ℕ) (d : List Bool) (best r : Best) →
-      ((t : List Bool) → length t ≡ n → lawful day (d ++ (true ∷ t)) ≡ true → sought (d ++ (true ∷ t)) → ⊥) →
+      ((t : List Bool) → length t ≡ n → lawful day (d ++ (true ∷ t)) ≡ true → sought (d ++ (true ∷ t)) → best .limit ≤ loss (d ++ (true ∷ t))) →
       Explored day sought loss n (d ++ (false ∷ [])) best r → Explored day sought loss (suc n) d best r
   only-left n d best r out b =
       joined n d best best r
-      (branch-unlawful n (d ++ (true ∷ [])) best (λ t l law is. out t l (rw decided-next at law) (rw decided-next at is))) b
+      (branch-cut n (d ++ (true ∷ [])) best (λ t l law is. rw decided-next (out t l (rw decided-next at law) (rw decided-next at is)))) b
 
   -- where none leaves it out, it is only taken
   pub only-taken : (n : ℕ) (d : List Bool) (best r : Best) →

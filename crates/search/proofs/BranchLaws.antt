@@ -10,7 +10,7 @@ use native.Mathlib.Numerals.{add-one, sub-one}
 use lib.Dec.{eqb, leb}
 use lib.ListN.{length, drop, getD, length-append}
 use lib.Seq.{drop-drop, getD-drop}
-use lib.Pow.{pow-mono}
+use lib.Pow.{pow-mono, shr-shr}
 use borrow.Author.Tests.{eqb-true, eqb-false, eq-eqb, ne-eqb, not-true}
 use Rattle.book.specs.Records.{holdsHour}
 use Rattle.orders.specs.Columns.{sideFor}
@@ -45,6 +45,7 @@ use Rattle.rules.proofs.TableLaws.{unitPrice, unit-net, tablePrice}
 use Rattle.rules.proofs.NeighbourLaws.{slack}
 use Rattle.rules.proofs.LossLaws.{losses, lossOf, gaps, losses-taken, losses-left, bound-with}
 use Rattle.rules.proofs.LossSearchLaws as by-loss
+use Rattle.rules.proofs.SearchLaws.{decided-next}
 use Rattle.rules.proofs.TwinLaws.{Ahead, InTurn, turn-left, turn-taken}
 use Rattle.rules.proofs.SetBits.{bits-length, bits-at, bits-taken, bits-left, bits-room}
 use Rattle.rules.proofs.PlaceLaws.{
@@ -82,6 +83,7 @@ use Rattle.search.specs.Search.{
   rowAt,
   isBarred,
   isDue,
+  isOut,
   keepsAt,
   allKeep,
 }
@@ -96,7 +98,10 @@ use Rattle.search.specs.Meaning.{
   DayOf,
   Outcome,
   Decided,
+  OutOf,
+  At,
   DroppedFrom,
+  JudgedFrom,
   ExploredFrom,
   TakenTo,
   LeftTo,
@@ -467,34 +472,80 @@ module _ (low gap first last blocks : List ℕ) (count : ℕ) where
 
   module _ (turn : List ℕ) where
     -- the branch is dropped
-    pub explored-dropped : (left : ℕ) (node : Node) (best : Best) → DroppedFrom low gap first last turn blocks count left node (best .limit) →
-        ExploredFrom low gap first last turn blocks count left node best best
-    explored-dropped left node best dropped day p rest d known turning branch size =
-        as-it-was day p rest count left d best (λ t l law. dropped day p rest d t known turning branch size l law)
+    pub explored-dropped : (left out : ℕ) (node : Node) (best : Best) → DroppedFrom low gap first last turn blocks count left out node (best .limit) →
+        ExploredFrom low gap first last turn blocks count left out node best best
+    explored-dropped left out node best dropped day p rest d at = as-it-was day p rest count left d best (λ t l law. dropped day p rest d t at l law)
+
+    -- the branch is judged: what is out of it then
+    pub explored-judged : (left out r-out : ℕ) (node : Node) (best r : Best) (isDropped : Bool) → isDropped ≡ false →
+        JudgedFrom low gap first last turn blocks count left out node (best .limit) isDropped r-out →
+        ExploredFrom low gap first last turn blocks count left r-out node best r → ExploredFrom low gap first last turn blocks count left out node best r
+    explored-judged left out r-out node best r isDropped e judged f day p rest d at =
+        f day p rest d record {
+          known = at .known;
+          turning = at .turning;
+          branch = at .branch;
+          size = at .size;
+          outOf = judged .outOf e day p rest d at;
+        }
 
     -- no block is left
-    pub explored-decided : (left : ℕ) (node : Node) (best r : Best) → left ≡ 0 → node .set < 2 ^ count →
+    pub explored-decided : (left out : ℕ) (node : Node) (best r : Best) → left ≡ 0 → node .set < 2 ^ count →
         Decided low gap first last blocks count (node .set) (node .loss) (node .places) best r →
-        ExploredFrom low gap first last turn blocks count left node best r
-    explored-decided left node best r e room f day p rest d known turning branch size =
-        rw e (f day p rest d known branch (omega arith) room)
+        ExploredFrom low gap first last turn blocks count left out node best r
+    explored-decided left out node best r e room f day p rest d at =
+        rw e (f day p rest d (at .known) (at .branch) (omega (arith, at .size)) room)
+
+    -- the next block is decided: what is out of the branch stays out, and the next bit is the lowest
+    out-next : (day : Day) (p rest : ℕ → ℕ) (d : List Bool) (x : Bool) (left limit less out : ℕ) → 0 < left → less ≤ limit →
+        OutOf day p rest d left limit out → OutOf day p rest (d ++ (x ∷ [])) (left - 1) less (out / 2)
+    out-next day p rest d x left limit less out pos le f t k l law low inside is =
+        let e : 1 + k ≡ suc k = omega arith in
+        f (x ∷ t) (suc k) (omega arith) (rw decided-next at law) (omega (arith, rw (decided-next d x t) at low)) (omega arith)
+        (rw (← (rw e at (shr-shr out 1 k))) is)
+
+    module _ (left out : ℕ) (node : Node) (limit : ℕ) (pos : 0 < left) (le : left ≤ count) (room : node .set < 2 ^ (count - left))
+        (day : Day) (p rest : ℕ → ℕ) (d : List Bool) (here : At low gap first last turn blocks count left node limit out day p rest d) where
+      at-is : count - left ≡ length d
+      at-is = omega (arith, here .size)
+
+      one-more : length d < count
+      one-more = omega (arith, here .size)
+
+      room-here : node .set < 2 ^ length d
+      room-here = rw (← at-is) room
+
+      pub at-taken : (r : Node) (less : ℕ) → TakenTo blocks (count - left) node r → less ≤ limit →
+          At low gap first last turn blocks count (left - 1) r less (out / 2) day p rest (d ++ (true ∷ []))
+      at-taken r less t small = record {
+        known = here .known;
+        turning = here .turning;
+        branch = branch-taken day p rest low gap first last blocks count (here .known) d node r (here .branch) room-here one-more (rw at-is at t);
+        size = omega (arith, length-append d (true ∷ []), here .size);
+        outOf = out-next day p rest d true left limit less out pos small (here .outOf);
+      }
+
+      pub at-left : (r : Node) (less : ℕ) → LeftTo blocks (count - left) node r → less ≤ limit →
+          At low gap first last turn blocks count (left - 1) r less (out / 2) day p rest (d ++ (false ∷ []))
+      at-left r less t small = record {
+        known = here .known;
+        turning = here .turning;
+        branch = branch-left day p rest low gap first last blocks count (here .known) d node r (here .branch) room-here one-more (rw at-is at t);
+        size = omega (arith, length-append d (false ∷ []), here .size);
+        outOf = out-next day p rest d false left limit less out pos small (here .outOf);
+      }
 
     -- a block is taken and then left out
-    pub explored-both : (left : ℕ) (node taken-node left-node : Node) (best m r : Best) → 0 < left → left ≤ count →
+    pub explored-both : (left out : ℕ) (node taken-node left-node : Node) (best m r : Best) → 0 < left → left ≤ count →
         node .set < 2 ^ (count - left) → TakenTo blocks (count - left) node taken-node → LeftTo blocks (count - left) node left-node →
-        ExploredFrom low gap first last turn blocks count (left - 1) taken-node best m →
-        ExploredFrom low gap first last turn blocks count (left - 1) left-node m r →
-        ExploredFrom low gap first last turn blocks count left node best r
-    explored-both left node nt nl best m r pos le room t l f g day p rest d known turning branch size =
-        let at : count - left ≡ length d = omega arith in
-        let k : length d < count = omega arith in
-        let room′ : node .set < 2 ^ length d = rw (← at) room in
-        let bt = branch-taken day p rest low gap first last blocks count known d node nt branch room′ k (rw at at t) in
-        let bl = branch-left day p rest low gap first last blocks count known d node nl branch room′ k (rw at at l) in
-        let a = f day p rest (d ++ (true ∷ [])) known turning bt (omega (arith, length-append d (true ∷ []))) in
-        let b = g day p rest (d ++ (false ∷ [])) known turning bl (omega (arith, length-append d (false ∷ []))) in
-        let one : suc (left - 1) ≡ left = omega arith in
+        ExploredFrom low gap first last turn blocks count (left - 1) (out / 2) taken-node best m →
+        ExploredFrom low gap first last turn blocks count (left - 1) (out / 2) left-node m r →
+        ExploredFrom low gap first last turn blocks count left out node best r
+    explored-both left out node nt nl best m r pos le room t l f g day p rest d at =
+        let a = f day p rest (d ++ (true ∷ [])) (at-taken left out node (best .limit) pos le room day p rest d at nt (best .limit) t (omega arith)) in
         let lower₁ : m .limit ≤ best .limit = a .explored .noMore in
+        let b = g day p rest (d ++ (false ∷ [])) (at-left left out node (best .limit) pos le room day p rest d at nl (m .limit) l lower₁) in
+        let one : suc (left - 1) ≡ left = omega arith in
         let lower₂ : r .limit ≤ m .limit = b .explored .noMore in
         record {
           explored = rw one at (by-loss.joined day (InTurn day p) (lossAbove day p rest) (left - 1) d _ _ _ (a .explored) (b .explored));
@@ -508,51 +559,63 @@ module _ (low gap first last blocks : List ℕ) (count : ℕ) where
         by-which less a b le (inl e) = rw (b .same e) (a .found (omega arith))
         by-which less a b le (inr e) = b .found e
 
-    -- of twins, one that is not taken after the other is left out, or taken
     decided-bit : (day : Day) (p : ℕ → ℕ) (d : List Bool) (set loss : ℕ) (places : List ℕ) → Branch day p d set loss places → (a : ℕ) → a < length d →
         getD d a false ≡ eqb (set / 2 ^ a % 2) 1
     decided-bit day p d set loss places branch a k = rw (← (branch .setIs)) (bits-at (length d) set a k)
 
-    pub explored-left : (left : ℕ) (node left-node : Node) (best r : Best) → 0 < left → left ≤ count → node .set < 2 ^ (count - left) →
-        isBarred blocks (count - left) (node .set) ≡ true → LeftTo blocks (count - left) node left-node →
-        ExploredFrom low gap first last turn blocks count (left - 1) left-node best r →
-        ExploredFrom low gap first last turn blocks count left node best r
+    -- a block is in no completion that counts: a twin that is taken before it is left out, or it is out
+    barred-not : (day : Day) (p rest : ℕ → ℕ) (d : List Bool) (set loss : ℕ) (places : List ℕ) → Known day p rest low gap first last blocks count →
+        Branch day p d set loss places → length d < count → isBarred blocks (length d) set ≡ true → (t : List Bool) → InTurn day p (d ++ (true ∷ t)) → ⊥
     unfolding isBarred
-    explored-left left node nl best r pos le room barred l g day p rest d known turning branch size =
-        let at : count - left ≡ length d = omega arith in
-        let k : length d < count = omega arith in
-        let room′ : node .set < 2 ^ length d = rw (← at) room in
-        let bl = branch-left day p rest low gap first last blocks count known d node nl branch room′ k (rw at at l) in
-        let b = g day p rest (d ++ (false ∷ [])) known turning bl (omega (arith, length-append d (false ∷ []))) in
-        let one : suc (left - 1) ≡ left = omega arith in
-        let tests = both (not (eqb (aheadAt blocks (length d)) 0)) (eqb (node .set / 2 ^ (aheadAt blocks (length d) - 1) % 2) 0) (rw at at barred) in
+    barred-not day p rest d set loss places known branch k barred t kept =
+        let tests = both (not (eqb (aheadAt blocks (length d)) 0)) (eqb (set / 2 ^ (aheadAt blocks (length d) - 1) % 2) 0) barred in
         let some = eqb-false (aheadAt blocks (length d)) 0 (not-true _ (tests .0)) in
-        let a = aheadAt blocks (length d) - 1 in
         let is : aheadAt blocks (length d) ≡ suc (aheadAt blocks (length d) - 1) = omega arith in
         let twin = known .ahead (length d) (aheadAt blocks (length d) - 1) k is in
-        let zero-bit = eqb-true (node .set / 2 ^ (aheadAt blocks (length d) - 1) % 2) 0 (tests .1) in
-        let out : getD d (aheadAt blocks (length d) - 1) false ≡ false =
-        decided-bit day p d _ _ _ branch (aheadAt blocks (length d) - 1) (twin .0) ∙ ne-eqb (node .set / 2 ^ (aheadAt blocks (length d) - 1) % 2) 1 (λ e. omega arith) in
+        let zero-bit = eqb-true (set / 2 ^ (aheadAt blocks (length d) - 1) % 2) 0 (tests .1) in
+        let without : getD d (aheadAt blocks (length d) - 1) false ≡ false =
+        decided-bit day p d _ _ _ branch (aheadAt blocks (length d) - 1) (twin .0) ∙ ne-eqb (set / 2 ^ (aheadAt blocks (length d) - 1) % 2) 1 (λ e. omega arith) in
+        turn-left day p d (aheadAt blocks (length d) - 1) (twin .0) (twin .1) without t kept
+
+    out-not : (day : Day) (p rest : ℕ → ℕ) (d : List Bool) (left limit out : ℕ) → 0 < left → OutOf day p rest d left limit out → isOut out 0 ≡ true →
+        (t : List Bool) → length t ≡ left - 1 → lawful day (d ++ (true ∷ t)) ≡ true → limit ≤ lossAbove day p rest (d ++ (true ∷ t))
+    out-not day p rest d left limit out pos f is t l law = elim (native.Mathlib.Decide.decLe limit (lossAbove day p rest (d ++ (true ∷ t)))) [
+      | yes k ↦ k
+      | no k ↦ clash refl (f (true ∷ t) 0 (omega arith) law (native.Mathlib.Nat.lt-of-not-le k) pos is)
+    ]
+
+    pub explored-left : (left out : ℕ) (node left-node : Node) (best r : Best) → 0 < left → left ≤ count → node .set < 2 ^ (count - left) →
+        (isOut out 0 || isBarred blocks (count - left) (node .set)) ≡ true → LeftTo blocks (count - left) node left-node →
+        ExploredFrom low gap first last turn blocks count (left - 1) (out / 2) left-node best r →
+        ExploredFrom low gap first last turn blocks count left out node best r
+    explored-left left out node nl best r pos le room barred l g day p rest d at =
+        let here : count - left ≡ length d = omega (arith, at .size) in
+        let b = g day p rest (d ++ (false ∷ [])) (at-left left out node (best .limit) pos le room day p rest d at nl (best .limit) l (omega arith)) in
+        let one : suc (left - 1) ≡ left = omega arith in
         record {
           explored = rw one at (by-loss.only-left day (InTurn day p) (lossAbove day p rest) (left - 1) d _ _
-              (λ t _ _ kept. turn-left day p d (aheadAt blocks (length d) - 1) (twin .0) (twin .1) out t kept) (b .explored));
+              (λ t lt law kept. by-test (λ u. (u || isBarred blocks (length d) (node .set)) ≡ true → isOut out 0 ≡ u → best .limit ≤ lossAbove day p rest (d ++ (true ∷ t))) (isOut out 0)
+              (λ is _ _. out-not day p rest d left (best .limit) out pos (at .outOf) is t lt law)
+              (λ _ is _. absurd (barred-not day p rest d _ _ _ (at .known) (at .branch) (omega (arith, at .size)) is t kept))
+              (rw here at barred) refl)
+              (b .explored));
           same = b .same;
           found = b .found;
         }
 
-    pub explored-taken : (left : ℕ) (node taken-node : Node) (best r : Best) → 0 < left → left ≤ count → node .set < 2 ^ (count - left) →
+    pub explored-taken : (left out : ℕ) (node taken-node : Node) (best r : Best) → 0 < left → left ≤ count → node .set < 2 ^ (count - left) →
         isDue blocks (count - left) (node .set) ≡ true → TakenTo blocks (count - left) node taken-node →
-        ExploredFrom low gap first last turn blocks count (left - 1) taken-node best r →
-        ExploredFrom low gap first last turn blocks count left node best r
+        ExploredFrom low gap first last turn blocks count (left - 1) (out / 2) taken-node best r →
+        ExploredFrom low gap first last turn blocks count left out node best r
     unfolding isDue
-    explored-taken left node nt best r pos le room due t f day p rest d known turning branch size =
-        let at : count - left ≡ length d = omega arith in
-        let k : length d < count = omega arith in
-        let room′ : node .set < 2 ^ length d = rw (← at) room in
-        let bt = branch-taken day p rest low gap first last blocks count known d node nt branch room′ k (rw at at t) in
-        let b = f day p rest (d ++ (true ∷ [])) known turning bt (omega (arith, length-append d (true ∷ []))) in
+    explored-taken left out node nt best r pos le room due t f day p rest d at =
+        let here : count - left ≡ length d = omega (arith, at .size) in
+        let k : length d < count = omega (arith, at .size) in
+        let known = at .known in
+        let branch = at .branch in
+        let b = f day p rest (d ++ (true ∷ [])) (at-taken left out node (best .limit) pos le room day p rest d at nt (best .limit) t (omega arith)) in
         let one : suc (left - 1) ≡ left = omega arith in
-        let tests = both (not (eqb (behindAt blocks (length d)) 0)) (eqb (node .set / 2 ^ (behindAt blocks (length d) - 1) % 2) 1) (rw at at due) in
+        let tests = both (not (eqb (behindAt blocks (length d)) 0)) (eqb (node .set / 2 ^ (behindAt blocks (length d) - 1) % 2) 1) (rw here at due) in
         let some = eqb-false (behindAt blocks (length d)) 0 (not-true _ (tests .0)) in
         let is : behindAt blocks (length d) ≡ suc (behindAt blocks (length d) - 1) = omega arith in
         let twin = known .behind (length d) (behindAt blocks (length d) - 1) k is in

@@ -1,5 +1,5 @@
 -- A pass over all blocks: one that finds a set has found the published one, and one with a large threshold finds. Assumes nothing.
-use Prim.Native.Nat.{ℕ, zero, suc, _+_, _-_, _*_, _^_, _≤_, _<_}
+use Prim.Native.Nat.{ℕ, zero, suc, _+_, _-_, _*_, _/_, _^_, _≤_, _<_}
 use mathlib.Core.Path.{_≡_, refl, sym, subst, _∙_}
 use mathlib.Core.List.{List, [], _∷_, _++_}
 use mathlib.Core.Bool.{Bool, true, false}
@@ -7,10 +7,12 @@ use mathlib.Core.Logic.{_⊎_, inl, inr}
 use native.Mathlib.Omega.{arith}
 use native.Mathlib.Nat.{eq-or-lt-of-le}
 use lib.ListN.{length, drop, getD, replicate, length-replicate}
+use lib.Pow.{shr-le, pow-pos}
 use Rattle.rules.specs.Orders.{Block}
 use Rattle.rules.specs.Day.{Day, daySum, sumTo, taken, decisions, overBlocks, sells, buys, hourOf, lawful}
 use Rattle.rules.specs.Outcome.{outcome}
 use Rattle.rules.specs.Contender.{Counts}
+use Rattle.rules.proofs.Tests.{clash}
 use Rattle.rules.proofs.DayLaws.{empty-lawful}
 use Rattle.rules.proofs.BoundLaws.{gain}
 use Rattle.rules.proofs.NeighbourLaws.{slack}
@@ -18,7 +20,7 @@ use Rattle.rules.proofs.LossLaws.{losses, gaps, wholeOf, lossOf, losses-none, l
 use Rattle.rules.proofs.LossSearchLaws as by-loss
 use Rattle.rules.proofs.TwinLaws.{InTurn, outcome-in-turn}
 use Rattle.rules.proofs.PlaceLaws.{place, place-none}
-use Rattle.search.specs.Search.{Small, cell, ofHour, InRange, gainAt}
+use Rattle.search.specs.Search.{Small, cell, ofHour, InRange, gainAt, isOut}
 use Rattle.search.specs.Meaning.{Sized, Fits, Shown, Known, Turning, Branch, lossAbove, bestAs, DayOf, Outcome, ExploredFrom, FoundIn}
 use Rattle.search.specs.declared.Best.{Best}
 use Rattle.search.specs.declared.Node.{Node}
@@ -29,8 +31,8 @@ use Rattle.search.proofs.BranchLaws.{counts, sumTo-in, sumTo-add, daySu
 abbrev pub root : Node
 root = record { set = 0; loss = 0; places = replicate 24 0 }
 
-pub root-fits : Fits 0 0 0 (replicate 24 0)
-root-fits = record { setFits = omega arith; lossFits = omega arith; placesSize = refl; placesFit = λ i. omega (arith, zeros 24 i) }
+pub root-fits : (n : ℕ) → Fits n 0 0 (replicate 24 0)
+root-fits n = record { setFits = pow-pos n; lossFits = omega arith; placesSize = refl; placesFit = λ i. omega (arith, zeros 24 i) }
 
 root-branch : (day : Day) (p : ℕ → ℕ) → Branch day p [] 0 0 (replicate 24 0)
 unfolding decisions
@@ -39,6 +41,10 @@ root-branch day p = record {
   lossIs = sym (losses-none (day .hours) p (day .blocks));
   placesAre = λ h a b. zeros 24 (h - 1) ∙ sym (place-none (day .blocks) h);
 }
+
+-- and none is out
+none-out : (k : ℕ) → isOut 0 k ≡ false
+none-out k = let z : 0 / 2 ^ k ≡ 0 = omega (arith, shr-le 0 k) in rw z
 
 -- small sums
 sum-fits : (n m : ℕ) (f : ℕ → ℕ) → ((h : ℕ) → f h ≤ m) → sumTo n f ≤ n * m
@@ -86,9 +92,15 @@ module _ (low gap first last blocks : List ℕ) (count : ℕ) (few : count ≤ 3
       (λ set size law. omega (arith, bound-with day p [] set 0 rest (omega arith) (rest-below low gap first last blocks count day p rest known set (size ∙ known .counted) law)))
 
   module _ (turn : List ℕ) (turning : Turning gap first last turn) (best r : Best)
-      (pass : ExploredFrom low gap first last turn blocks count count root best r) where
+      (pass : ExploredFrom low gap first last turn blocks count count 0 root best r) where
     outcome-of : Outcome day p rest count count [] best r
-    outcome-of = pass day p rest [] known turning (root-branch day p) (omega arith)
+    outcome-of = pass day p rest [] record {
+      known = known;
+      turning = turning;
+      branch = root-branch day p;
+      size = omega arith;
+      outOf = λ t k l law less inside is. clash is (none-out k);
+    }
 
     whole-pass : by-loss.Pass day (InTurn day p) (lossAbove day p rest) (bestAs count best) (bestAs count r)
     whole-pass =

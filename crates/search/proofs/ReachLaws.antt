@@ -6,7 +6,8 @@ use mathlib.Core.List.{List, [], _∷_, _++_}
 use mathlib.Core.Bool.{Bool, true, false, cond, not, _&&_, _||_}
 use native.Mathlib.Omega.{arith}
 use native.Mathlib.Decide.{decLe}
-use native.Mathlib.Nat.{lt-of-not-le, suc-inj}
+use native.Mathlib.Nat.{lt-of-not-le, suc-inj, div-one}
+use lib.Pow.{shr-shr, pow-mono}
 use native.Mathlib.Numerals.{add-one, sub-one}
 use lib.Dec.{eqb, leb}
 use lib.ListN.{length, drop, getD, set, replicate, length-append, length-set, List·getD-append, List·getD-eq-default}
@@ -40,10 +41,14 @@ use Rattle.search.specs.Search.{
   againstAt,
   gainAt,
   keepsAt,
+  isOut,
+  isRuledOut,
   isLeft,
   isTaken,
   mustMove,
   mayMove,
+  mustFrom,
+  mayFrom,
   addedIn,
   AddedTo,
   RestOf,
@@ -54,7 +59,7 @@ use Rattle.search.specs.Search.{
   leastGaps,
   allKeep,
 }
-use Rattle.search.specs.Meaning.{Shown, Known, Turning, Branch, lossAbove, DroppedFrom}
+use Rattle.search.specs.Meaning.{Shown, Known, Turning, Branch, lossAbove, OutOf, At, DroppedFrom, JudgedFrom}
 use Rattle.search.specs.declared.Node.{Node}
 use Rattle.search.proofs.LeafLaws.{zeros, below-next}
 use Rattle.search.proofs.BranchLaws.{
@@ -113,27 +118,28 @@ nearest-least f n a b i x y falls rises =
     (λ z. falls i b x y (omega arith) (omega arith)))
 
 -- WHETHER ONE BLOCK MOVES its places on, in the code's form
-pub moves-are : (blocks : List ℕ) (loss limit i : ℕ) →
-    (((isLeft blocks loss limit i && eqb (sideAt blocks i) 0) || (isTaken blocks loss limit i && not (eqb (sideAt blocks i) 0))) ≡ mustMove blocks loss limit i)
-    × ((not (isLeft blocks loss limit i) && not (isTaken blocks loss limit i)) ≡ mayMove blocks loss limit i)
+pub moves-are : (blocks : List ℕ) (out : Bool) (loss limit i : ℕ) →
+    (((isLeft blocks out loss limit i && eqb (sideAt blocks i) 0) || (isTaken blocks loss limit i && not (eqb (sideAt blocks i) 0)))
+    ≡ mustMove blocks out loss limit i)
+    × ((not (isLeft blocks out loss limit i) && not (isTaken blocks loss limit i)) ≡ mayMove blocks out loss limit i)
 unfolding mustMove mayMove
-moves-are blocks loss limit i = (refl, refl)
+moves-are blocks out loss limit i = (refl, refl)
 
--- WHAT ONE BLOCK ADDS to an hour: where it is taken, or left out, at a loss below the limit
-module _ (blocks : List ℕ) (loss limit i row : ℕ) where
+-- WHAT ONE BLOCK ADDS to an hour: where it is taken and not out, or left out, at a loss below the limit
+module _ (blocks : List ℕ) (out : Bool) (loss limit i row : ℕ) where
   abbrev must-add : ℕ
-  must-add = when (mustMove blocks loss limit i) row
+  must-add = when (mustMove blocks out loss limit i) row
 
   abbrev may-add : ℕ
-  may-add = when (mayMove blocks loss limit i) row
+  may-add = when (mayMove blocks out loss limit i) row
 
-  pub taken-adds : loss + againstAt blocks i < limit →
+  pub taken-adds : out ≡ false → loss + againstAt blocks i < limit →
       (must-add ≤ when (not (eqb (sideAt blocks i) 0)) row) × (when (not (eqb (sideAt blocks i) 0)) row ≤ must-add + may-add)
   unfolding mustMove mayMove
-  taken-adds k = rw (lt-leb limit (loss + againstAt blocks i) k) (go (eqb (sideAt blocks i) 0) (isTaken blocks loss limit i))
+  taken-adds e k = rw (e, lt-leb limit (loss + againstAt blocks i) k) (go (eqb (sideAt blocks i) 0) (isTaken blocks loss limit i))
     where
-      go : (b t : Bool) → (when ((false && b) || (t && not b)) row ≤ when (not b) row)
-          × (when (not b) row ≤ when ((false && b) || (t && not b)) row + when (not false && not t) row)
+      go : (b t : Bool) → (when (((false || false) && b) || (t && not b)) row ≤ when (not b) row)
+          × (when (not b) row ≤ when (((false || false) && b) || (t && not b)) row + when (not (false || false) && not t) row)
       go true true = (omega arith, omega arith)
       go true false = (omega arith, omega arith)
       go false true = (omega arith, omega arith)
@@ -142,7 +148,7 @@ module _ (blocks : List ℕ) (loss limit i row : ℕ) where
   pub left-adds : loss + gainAt blocks i < limit →
       (must-add ≤ when (eqb (sideAt blocks i) 0) row) × (when (eqb (sideAt blocks i) 0) row ≤ must-add + may-add)
   unfolding mustMove mayMove
-  left-adds k = rw (lt-leb limit (loss + gainAt blocks i) k) (go (eqb (sideAt blocks i) 0) (isLeft blocks loss limit i))
+  left-adds k = rw (lt-leb limit (loss + gainAt blocks i) k) (go (eqb (sideAt blocks i) 0) (isLeft blocks out loss limit i))
     where
       go : (b l : Bool) → (when ((l && b) || (false && not b)) row ≤ when b row)
           × (when b row ≤ when ((l && b) || (false && not b)) row + when (not l && not false) row)
@@ -151,33 +157,48 @@ module _ (blocks : List ℕ) (loss limit i row : ℕ) where
       go false true = (omega arith, omega arith)
       go false false = (omega arith, omega arith)
 
--- THE PLACE OF THE REST at a loss below the limit
+-- THE PLACE OF THE REST at a loss below the limit, where it takes no block that is out
 module _ (day : Day) (p rest : ℕ → ℕ) (low gap first last blocks : List ℕ) (count : ℕ) (known : Known day p rest low gap first last blocks count)
-    (loss limit h : ℕ) (hour-first : 1 ≤ h) (hour-last : h ≤ 24) where
+    (at out loss limit h : ℕ) (hour-first : 1 ≤ h) (hour-last : h ≤ 24) where
   abbrev must : ℕ → ℕ → ℕ
-  must = addedIn blocks (mustMove blocks loss limit) h
+  must = addedIn blocks (mustFrom blocks at out loss limit) h
 
   abbrev may : ℕ → ℕ → ℕ
-  may = addedIn blocks (mayMove blocks loss limit) h
+  may = addedIn blocks (mayFrom blocks at out loss limit) h
 
-  pub rest-within : (n i : ℕ) (t : List Bool) → i + n ≡ count → length t ≡ n → loss + losses (day .hours) p (drop i (day .blocks)) t < limit →
+  -- none of the blocks from number i on that is out is taken
+  abbrev Avoids : ℕ → ℕ → List Bool → Type 0
+  Avoids n i t = (k : ℕ) → k < n → isOut out (i - at + k) ≡ true → getD t k false ≡ false
+
+  avoids-next : (n i : ℕ) (x : Bool) (t : List Bool) → at ≤ i → Avoids (suc n) i (x ∷ t) → Avoids n (suc i) t
+  avoids-next n i x t le f k inside is =
+      let e : suc i - at + k ≡ i - at + suc k = omega arith in
+      f (suc k) (omega arith) (rw e at is)
+
+  first-not-out : (n i : ℕ) (t : List Bool) → Avoids (suc n) i (true ∷ t) → isOut out (i - at) ≡ false
+  first-not-out n i t f =
+      let e : i - at + 0 ≡ i - at = omega arith in
+      by-test (λ u. isOut out (i - at) ≡ u → u ≡ false) (isOut out (i - at)) (λ is _. clash refl (f 0 (omega arith) (rw e is))) (λ _ _. refl) refl
+
+  pub rest-within : (n i : ℕ) (t : List Bool) → at ≤ i → i + n ≡ count → length t ≡ n → Avoids n i t →
+      loss + losses (day .hours) p (drop i (day .blocks)) t < limit →
       (must n i ≤ place (drop i (day .blocks)) t h) × (place (drop i (day .blocks)) t h ≤ must n i + may n i)
   unfolding addedIn place losses
-  rest-within zero i [] e l k = let none = place-none (drop i (day .blocks)) h in (omega arith, omega arith)
-  rest-within zero i (x ∷ t) e l k = absurd (omega arith)
-  rest-within (suc n) i [] e l k = absurd (omega arith)
-  rest-within (suc n) i (true ∷ t) e l k =
+  rest-within zero i [] le e l f k = let none = place-none (drop i (day .blocks)) h in (omega arith, omega arith)
+  rest-within zero i (x ∷ t) le e l f k = absurd (omega arith)
+  rest-within (suc n) i [] le e l f k = absurd (omega arith)
+  rest-within (suc n) i (true ∷ t) le e l f k =
       let s = known .shown i (omega arith) in
       let k′ : loss + (against (day .hours) p (s .block) + losses (day .hours) p (drop (suc i) (day .blocks)) t) < limit = rw (s .next) at k in
-      let one = taken-adds blocks loss limit i (rowAt blocks i h) (omega (arith, s .againstIs)) in
-      let more = rest-within n (suc i) t (omega arith) (suc-inj l) (omega arith) in
+      let one = taken-adds blocks (isOut out (i - at)) loss limit i (rowAt blocks i h) (first-not-out n i t f) (omega (arith, s .againstIs)) in
+      let more = rest-within n (suc i) t (omega arith) (omega arith) (suc-inj l) (avoids-next n i true t le f) (omega arith) in
       let adds = sells-at day p blocks i s h hour-first hour-last in
       rw (s .next) (omega arith, omega arith)
-  rest-within (suc n) i (false ∷ t) e l k =
+  rest-within (suc n) i (false ∷ t) le e l f k =
       let s = known .shown i (omega arith) in
       let k′ : loss + (gain (day .hours) p (s .block) + losses (day .hours) p (drop (suc i) (day .blocks)) t) < limit = rw (s .next) at k in
-      let one = left-adds blocks loss limit i (rowAt blocks i h) (omega (arith, s .gainIs)) in
-      let more = rest-within n (suc i) t (omega arith) (suc-inj l) (omega arith) in
+      let one = left-adds blocks (isOut out (i - at)) loss limit i (rowAt blocks i h) (omega (arith, s .gainIs)) in
+      let more = rest-within n (suc i) t (omega arith) (omega arith) (suc-inj l) (avoids-next n i false t le f) (omega arith) in
       let adds = buys-at day p blocks i s h hour-first hour-last in
       rw (s .next) (omega arith, omega arith)
 
@@ -214,24 +235,49 @@ unless limit n f = elim (decLe limit n) [
   | no k ↦ f (lt-of-not-le k)
 ]
 
+-- behind the first list stands the second
+getD-behind : (d t : List Bool) (j : ℕ) → getD (d ++ t) (length d + j) false ≡ getD t j false
+getD-behind [] t j = let e : 0 + j ≡ j = omega arith in rw e
+getD-behind (x ∷ d) t j = let e : suc (length d) + j ≡ suc (length d + j) = omega arith in rw e (getD-behind d t j)
+
+either-out : (was keeps : Bool) → keeps ≡ true → (was || not keeps) ≡ true → was ≡ true
+either-out true keeps k e = refl
+either-out false keeps k e = clash e (rw k)
+
 -- ONE LAW FOR EACH REASON to drop a branch
-module _ (low gap first last turn blocks : List ℕ) (count left : ℕ) (node : Node) (limit : ℕ) where
+module _ (low gap first last turn blocks : List ℕ) (count left out : ℕ) (node : Node) (limit : ℕ) where
   -- the decided blocks lose as much already
-  pub dropped-by-loss : limit ≤ node .loss → DroppedFrom low gap first last turn blocks count left node limit
+  pub dropped-by-loss : limit ≤ node .loss → DroppedFrom low gap first last turn blocks count left out node limit
   unfolding lossAbove
-  dropped-by-loss k day p rest d t known turning branch size l law =
+  dropped-by-loss k day p rest d t at l law =
       omega (
         arith,
-        branch .lossIs,
-        bound-with day p d t 0 rest (omega arith) (rest-below low gap first last blocks count day p rest known (d ++ t) (length-append d t ∙ rw l size) law),
+        at .branch .lossIs,
+        bound-with day p d t 0 rest (omega arith) (rest-below low gap first last blocks count day p rest (at .known) (d ++ t) (length-append d t ∙ rw l (at .size)) law),
       )
 
-  module _ (least free : List ℕ) (added : RestOf blocks count (count - left) (node .loss) limit (node .places) least free)
+  -- a branch that is dropped, and one that is not looked into
+  pub judged-dropped : (r : ℕ) → DroppedFrom low gap first last turn blocks count left out node limit →
+      JudgedFrom low gap first last turn blocks count left out node limit true r
+  judged-dropped r drop = record { dropped = λ _. drop; outOf = λ z. clash refl z }
+
+  pub judged-as-it-was : JudgedFrom low gap first last turn blocks count left out node limit false out
+  judged-as-it-was = record { dropped = λ z. clash z refl; outOf = λ _ day p rest d at. at .outOf }
+
+  module _ (least free : List ℕ) (added : RestOf blocks count (count - left) out (node .loss) limit (node .places) least free)
       (balances : Bool) (from to : List ℕ) (reach : ReachOf first last least free balances from to) where
     -- a lawful completion that loses less has its places from `from` to `to`
-    module _ (day : Day) (p rest : ℕ → ℕ) (d t : List Bool) (known : Known day p rest low gap first last blocks count)
-        (branch : Branch day p d (node .set) (node .loss) (node .places)) (size : length d + left ≡ count) (l : length t ≡ left)
-        (law : lawful day (d ++ t) ≡ true) where
+    module _ (day : Day) (p rest : ℕ → ℕ) (d t : List Bool) (at : At low gap first last turn blocks count left node limit out day p rest d)
+        (l : length t ≡ left) (law : lawful day (d ++ t) ≡ true) where
+      known : Known day p rest low gap first last blocks count
+      known = at .known
+
+      branch : Branch day p d (node .set) (node .loss) (node .places)
+      branch = at .branch
+
+      size : length d + left ≡ count
+      size = at .size
+
       whole : length (d ++ t) ≡ count
       whole = length-append d t ∙ rw l size
 
@@ -251,7 +297,10 @@ module _ (low gap first last turn blocks : List ℕ) (count left : ℕ) (node : 
           let here : count - left ≡ length d = omega arith in
           let after : count - length d ≡ left = omega arith in
           let range = lawful-place low gap first last blocks count day p rest known (d ++ t) whole law h a b in
-          let within = rest-within day p rest low gap first last blocks count known (node .loss) limit h a b left (length d) t size l (rest-loses k) in
+          let avoids : (j : ℕ) → j < left → isOut out (length d - length d + j) ≡ true → getD t j false ≡ false = λ j inside is.
+          let e : length d - length d + j ≡ j = omega arith in
+          at .outOf t j l law k inside (rw e at is) in
+          let within = rest-within day p rest low gap first last blocks count known (length d) out (node .loss) limit h a b left (length d) t (omega arith) size l avoids (rest-loses k) in
           let must = rw (here, after) at (added .leastIs h a b) in
           let may = rw (here, after) at (added .freeIs h a b) in
           let split = place-split (day .blocks) d t h in
@@ -261,9 +310,9 @@ module _ (low gap first last turn blocks : List ℕ) (count left : ℕ) (node : 
           )
 
       -- its gaps are at least the least gaps there
-      gaps-least : Turning gap first last turn → lossAbove day p rest (d ++ t) < limit → node .loss + leastGaps gap turn from to ≤ lossAbove day p rest (d ++ t)
+      gaps-least : lossAbove day p rest (d ++ t) < limit → node .loss + leastGaps gap turn from to ≤ lossAbove day p rest (d ++ t)
       unfolding lossAbove leastGaps
-      gaps-least turning k =
+      gaps-least k =
           let g : ℕ → ℕ = λ h. cell gap h (nearest (ofHour turn h) (ofHour from h) (ofHour to h)) in
           omega (
             arith,
@@ -288,25 +337,21 @@ module _ (low gap first last turn blocks : List ℕ) (count left : ℕ) (node : 
                 arith,
                 gap-of-lawful low gap first last blocks count day p rest known (d ++ t) whole law h c,
                 nearest-least (λ i. cell gap h i) (ofHour turn h) (ofHour from h) (ofHour to h) (place (day .blocks) (d ++ t) h) (r .0) (r .1)
-                    (λ x y i j z w. turning .falls h x y a b (omega arith) j (omega arith) w)
-                    (λ x y i j z w. turning .rises h x y a b (omega arith) j (omega arith) w),
+                    (λ x y i j z w. at .turning .falls h x y a b (omega arith) j (omega arith) w)
+                    (λ x y i j z w. at .turning .rises h x y a b (omega arith) j (omega arith) w),
               )
 
-      -- its taken blocks keep their limits at the best prices there
-      blocks-could : (high lowest : List ℕ) → PricesOf low from high → PricesOf low to lowest → balances ≡ true →
-          Small 1600 last → lossAbove day p rest (d ++ t) < limit → allKeep blocks (node .set) high lowest (count - left) ≡ true
-      blocks-could high lowest ph pl e small k =
-          all-keep blocks (node .set) high lowest (count - left) (λ j m bit.
-          let inside : j < count = omega arith in
+      -- each of its blocks keeps its limit at the best prices there
+      block-could : (high lowest : List ℕ) → PricesOf low from high → PricesOf low to lowest → balances ≡ true → Small 1600 last →
+          lossAbove day p rest (d ++ t) < limit → (j : ℕ) → j < count → getD (d ++ t) j false ≡ true →
+          keepsAt (sideAt blocks j) (hoursAt blocks j) (limitAt blocks j) high lowest ≡ true
+      block-could high lowest ph pl e small k j inside set-bit =
           let s = known .shown j inside in
-          let here : j < length d = omega arith in
-          let set-bit : getD (d ++ t) j false ≡ true =
-          List·getD-append d t false j here ∙ rw (← (branch .setIs)) (bits-at (length d) (node .set) j here ∙ eq-eqb _ 1 bit) in
           let could = taken-could day (known .prices) (known .hours) (d ++ t) (whole ∙ sym (known .counted)) law (ofHour from) (ofHour to)
           record { from = λ h c. in-reach k h (c .first) (c .last) .0; to = λ h c. in-reach k h (c .first) (c .last) .1 }
           j other (omega (arith, known .counted)) set-bit in
           could-same day p rest low gap first last blocks count known from to high lowest ph pl (fits-in .0) (fits-in .1) j s
-          ∙ rw (block-at (day .blocks) j (s .block) _ other (s .next)) at could)
+          ∙ rw (block-at (day .blocks) j (s .block) _ other (s .next)) at could
         where
           fits-in : ((h : ℕ) → 1 ≤ h → h ≤ 24 → ofHour from h ≤ 1600) × ((h : ℕ) → 1 ≤ h → h ≤ 24 → ofHour to h ≤ 1600)
           fits-in = (
@@ -318,22 +363,52 @@ module _ (low gap first last turn blocks : List ℕ) (count left : ℕ) (node : 
                 omega (arith, reach .toIs h a b, small (h - 1)),
           )
 
+      -- the decided ones, and one of the rest
+      decided-could : (high lowest : List ℕ) → PricesOf low from high → PricesOf low to lowest → balances ≡ true → Small 1600 last →
+          lossAbove day p rest (d ++ t) < limit → allKeep blocks (node .set) high lowest (count - left) ≡ true
+      decided-could high lowest ph pl e small k =
+          all-keep blocks (node .set) high lowest (count - left) (λ j m bit.
+          let here : j < length d = omega (arith, size) in
+          block-could high lowest ph pl e small k j (omega arith)
+          (List·getD-append d t false j here ∙ rw (← (branch .setIs)) (bits-at (length d) (node .set) j here ∙ eq-eqb _ 1 bit)))
+
+      rest-could : (high lowest : List ℕ) → PricesOf low from high → PricesOf low to lowest → balances ≡ true → Small 1600 last →
+          lossAbove day p rest (d ++ t) < limit → (j : ℕ) → j < left → getD t j false ≡ true →
+          keepsAt (sideAt blocks (count - left + j)) (hoursAt blocks (count - left + j)) (limitAt blocks (count - left + j)) high lowest ≡ true
+      rest-could high lowest ph pl e small k j inside bit =
+          let here : count - left ≡ length d = omega (arith, size) in
+          block-could high lowest ph pl e small k (count - left + j) (omega (arith, size)) (rw here (getD-behind d t j ∙ bit))
+
     -- some hour can no longer balance
-    pub dropped-unbalanced : balances ≡ false → DroppedFrom low gap first last turn blocks count left node limit
-    dropped-unbalanced e day p rest d t known turning branch size l law =
+    pub dropped-unbalanced : balances ≡ false → DroppedFrom low gap first last turn blocks count left out node limit
+    dropped-unbalanced e day p rest d t at l law =
         unless _ _ (λ k. absurd (reach .unbalanced e (λ h a b.
-        let r = in-reach day p rest d t known branch size l law k h a b in omega arith)))
+        let r = in-reach day p rest d t at l law k h a b in omega arith)))
 
     -- the least gaps within reach come to as much
-    pub dropped-by-gaps : limit ≤ node .loss + leastGaps gap turn from to → DroppedFrom low gap first last turn blocks count left node limit
-    dropped-by-gaps z day p rest d t known turning branch size l law =
-        unless _ _ (λ k. absurd (omega (arith, gaps-least day p rest d t known branch size l law turning k)))
+    pub dropped-by-gaps : limit ≤ node .loss + leastGaps gap turn from to → DroppedFrom low gap first last turn blocks count left out node limit
+    dropped-by-gaps z day p rest d t at l law = unless _ _ (λ k. absurd (omega (arith, gaps-least day p rest d t at l law k)))
 
     -- a taken block misses its limit at the best prices within reach
     pub dropped-by-limit : (high lowest : List ℕ) → PricesOf low from high → PricesOf low to lowest → balances ≡ true → Small 1600 last →
-        allKeep blocks (node .set) high lowest (count - left) ≡ false → DroppedFrom low gap first last turn blocks count left node limit
-    dropped-by-limit high lowest ph pl e small misses day p rest d t known turning branch size l law =
-        unless _ _ (λ k. clash (blocks-could day p rest d t known branch size l law high lowest ph pl e small k) misses)
+        allKeep blocks (node .set) high lowest (count - left) ≡ false → DroppedFrom low gap first last turn blocks count left out node limit
+    dropped-by-limit high lowest ph pl e small misses day p rest d t at l law =
+        unless _ _ (λ k. clash (decided-could day p rest d t at l law high lowest ph pl e small k) misses)
+
+    -- WHAT IS OUT: what was before, and an undecided block that misses its limit at the best prices within reach
+    pub judged-open : (high lowest : List ℕ) → PricesOf low from high → PricesOf low to lowest → balances ≡ true → Small 1600 last → left ≤ count → (r : ℕ) →
+        ((k : ℕ) → k < count - (count - left) → isOut r k ≡ isRuledOut blocks (count - left + k) (isOut out k) high lowest) →
+        JudgedFrom low gap first last turn blocks count left out node limit false r
+    unfolding isRuledOut
+    judged-open high lowest ph pl e small le r is = record {
+      dropped = λ z. clash z refl;
+      outOf = λ _ day p rest d at t k l law less inside ruled.
+          by-test (λ u. getD t k false ≡ u → u ≡ false) (getD t k false)
+          (λ bit _.
+          let keeps = rest-could day p rest d t at l law high lowest ph pl e small less k inside bit in
+          clash (sym (at .outOf t k l law less inside (either-out (isOut out k) _ keeps (sym (is k (omega arith)) ∙ ruled))) ∙ bit) refl)
+          (λ _ _. refl) refl;
+    }
 
 -- THE PLACES WITHIN REACH lie in the tables' rows
 column-small : (m : ℕ) (l : List ℕ) → length l ≡ 24 → ((h : ℕ) → h < 24 → getD l h 0 ≤ m) → Small m l
@@ -359,7 +434,7 @@ module _ (first last least free : List ℕ) (balances : Bool) (from to : List �
       omega (arith, to-fits h k))
 
 -- THE LOOPS: the undecided blocks from the last on
-module _ (blocks : List ℕ) (count at loss limit : ℕ) (places : List ℕ) where
+module _ (blocks : List ℕ) (count at out loss limit : ℕ) (places : List ℕ) where
   abbrev added : (ℕ → Bool) → ℕ → ℕ → ℕ
   added moves h i = addedIn blocks moves h (count - i) i
 
@@ -368,8 +443,8 @@ module _ (blocks : List ℕ) (count at loss limit : ℕ) (places : List ℕ) whe
     pub to : i ≤ count
     pub leastSize : length least ≡ 24
     pub freeSize : length free ≡ 24
-    pub leastIs : (h : ℕ) → 1 ≤ h → h ≤ 24 → ofHour least h ≡ ofHour places h + added (mustMove blocks loss limit) h i
-    pub freeIs : (h : ℕ) → 1 ≤ h → h ≤ 24 → ofHour free h ≡ added (mayMove blocks loss limit) h i
+    pub leastIs : (h : ℕ) → 1 ≤ h → h ≤ 24 → ofHour least h ≡ ofHour places h + added (mustFrom blocks at out loss limit) h i
+    pub freeIs : (h : ℕ) → 1 ≤ h → h ≤ 24 → ofHour free h ≡ added (mayFrom blocks at out loss limit) h i
     pub leastFits : Small ((at + (count - i)) * 50000) least
     pub freeFits : Small ((count - i) * 50000) free
 
@@ -399,7 +474,7 @@ module _ (blocks : List ℕ) (count at loss limit : ℕ) (places : List ℕ) whe
       rw (e, f)
 
   pub rest-next : (i : ℕ) (least free more freer : List ℕ) → RestTo i least free → at < i → ((h : ℕ) → rowAt blocks (i - 1) h ≤ 50000) →
-      AddedTo blocks (i - 1) (mustMove blocks loss limit (i - 1)) (mayMove blocks loss limit (i - 1)) least free more freer → RestTo (i - 1) more freer
+      AddedTo blocks (i - 1) (mustFrom blocks at out loss limit (i - 1)) (mayFrom blocks at out loss limit (i - 1)) least free more freer → RestTo (i - 1) more freer
   rest-next i least free more freer r pos few added =
       let sm = added .moreSize in
       let sf = added .freerSize in
@@ -413,15 +488,15 @@ module _ (blocks : List ℕ) (count at loss limit : ℕ) (places : List ℕ) whe
         leastSize = sm;
         freeSize = sf;
         leastIs = λ h x y.
-            omega (arith, m h x y, r .leastIs h x y, one-more (mustMove blocks loss limit) h i (omega arith) (r .to));
-        freeIs = λ h x y. omega (arith, f h x y, r .freeIs h x y, one-more (mayMove blocks loss limit) h i (omega arith) (r .to));
+            omega (arith, m h x y, r .leastIs h x y, one-more (mustFrom blocks at out loss limit) h i (omega arith) (r .to));
+        freeIs = λ h x y. omega (arith, f h x y, r .freeIs h x y, one-more (mayFrom blocks at out loss limit) h i (omega arith) (r .to));
         leastFits = rw n₁ (places-grow (at + (count - i)) least more sm (r .leastFits) (λ h x y.
-            omega (arith, m h x y, when-le (mustMove blocks loss limit (i - 1)) (rowAt blocks (i - 1) h), few h)));
+            omega (arith, m h x y, when-le (mustFrom blocks at out loss limit (i - 1)) (rowAt blocks (i - 1) h), few h)));
         freeFits = rw n₂ (places-grow (count - i) free freer sf (r .freeFits) (λ h x y.
-            omega (arith, f h x y, when-le (mayMove blocks loss limit (i - 1)) (rowAt blocks (i - 1) h), few h)));
+            omega (arith, f h x y, when-le (mayFrom blocks at out loss limit (i - 1)) (rowAt blocks (i - 1) h), few h)));
       }
 
-  pub rest-all : (i : ℕ) (least free : List ℕ) → RestTo i least free → i ≤ at → count ≤ 32 → RestOf blocks count at loss limit places least free
+  pub rest-all : (i : ℕ) (least free : List ℕ) → RestTo i least free → i ≤ at → count ≤ 32 → RestOf blocks count at out loss limit places least free
   rest-all i least free r k few =
       let e : i ≡ at = omega (arith, r .from) in
       record {
@@ -430,6 +505,78 @@ module _ (blocks : List ℕ) (count at loss limit : ℕ) (places : List ℕ) whe
         leastFits = λ j. omega (arith, r .leastFits j, r .from, r .to);
         freeFits = λ j. omega (arith, r .freeFits j, r .from, r .to);
       }
+
+-- the undecided blocks that are out
+module _ (blocks : List ℕ) (i : ℕ) (was : Bool) (high low : List ℕ) where
+  pub ruled-before : was ≡ true → true ≡ isRuledOut blocks i was high low
+  unfolding isRuledOut
+  ruled-before e = rw e
+
+  pub ruled-now : was ≡ false → (keeps : Bool) → keeps ≡ keepsAt (sideAt blocks i) (hoursAt blocks i) (limitAt blocks i) high low →
+      not keeps ≡ isRuledOut blocks i was high low
+  unfolding isRuledOut
+  ruled-now e keeps k = rw (e, k)
+
+-- the lowest bit, and those above it
+lowest-bit : (t : Bool) (r b : ℕ) → b ≡ cond t 1 0 → isOut (2 * r + b) 0 ≡ t
+lowest-bit true r b e = rw (div-one (2 * r + b)) (eq-eqb ((2 * r + b) % 2) 1 (omega arith))
+lowest-bit false r b e = rw (div-one (2 * r + b)) (ne-eqb ((2 * r + b) % 2) 1 (omega arith))
+
+pub bit-small : (t : Bool) (b : ℕ) → b ≡ cond t 1 0 → b ≤ 1
+bit-small true b e = omega arith
+bit-small false b e = omega arith
+
+upper-bit : (r b k : ℕ) → b ≤ 1 → isOut (2 * r + b) (suc k) ≡ isOut r k
+upper-bit r b k small =
+    let half : (2 * r + b) / 2 ≡ r = omega arith in
+    let e : 1 + k ≡ suc k = omega arith in
+    rw (← (rw e at (shr-shr (2 * r + b) 1 k)), half)
+
+module _ (blocks : List ℕ) (count at out : ℕ) (high low : List ℕ) where
+  abbrev ruledAt : ℕ → Bool
+  ruledAt k = isRuledOut blocks (at + k) (isOut out k) high low
+
+  pub record RuledTo (i r : ℕ) : Type 0 where
+    pub from : at ≤ i
+    pub to : i ≤ count
+    pub fits : r < 2 ^ (count - i)
+    pub is : (k : ℕ) → k < count - i → isOut r k ≡ ruledAt (i - at + k)
+
+  pub ruled-start : at ≤ count → RuledTo count 0
+  ruled-start le =
+      let none : count - count ≡ 0 = omega arith in
+      record { from = le; to = omega arith; fits = rw none (omega arith); is = λ k a. absurd (omega arith) }
+
+  pub ruled-next : (i r b : ℕ) (was test : Bool) → RuledTo i r → at < i → was ≡ isOut out (i - 1 - at) →
+      test ≡ isRuledOut blocks (i - 1) was high low → b ≡ cond test 1 0 → RuledTo (i - 1) (2 * r + b)
+  ruled-next i r b was test v pos ew et e =
+      let small = bit-small test b e in
+      let n : count - (i - 1) ≡ suc (count - i) = omega (arith, v .to) in
+      record {
+        from = omega arith;
+        to = omega (arith, v .to);
+        fits = rw n (omega (arith, v .fits));
+        is = λ k a. go k (omega (arith, v .to));
+      }
+    where
+      go : (k : ℕ) → k < suc (count - i) → isOut (2 * r + b) k ≡ ruledAt (i - 1 - at + k)
+      go zero a =
+          let z : i - 1 - at + 0 ≡ i - 1 - at = omega arith in
+          let y : at + (i - 1 - at) ≡ i - 1 = omega arith in
+          rw (z, y) (lowest-bit test r b e ∙ rw (et, ew))
+      go (suc k) a =
+          let z : i - 1 - at + suc k ≡ i - at + k = omega arith in
+          rw z (upper-bit r b k (bit-small test b e) ∙ v .is k (omega arith))
+
+  -- no bit is lost
+  pub ruled-room : (i r : ℕ) → RuledTo i r → at < i → count ≤ 32 → 2 * r + 1 < 2 ^ 32
+  ruled-room i r v pos few = omega (arith, v .fits, pow-mono {i = suc (count - i)} {j = 32} (omega (arith, v .to)))
+
+  pub ruled-all : (i r : ℕ) → RuledTo i r → i ≤ at → (k : ℕ) → k < count - at → isOut r k ≡ ruledAt k
+  ruled-all i r v le k a =
+      let e : i ≡ at = omega (arith, v .from) in
+      let z : at - at + k ≡ k = omega arith in
+      rw (e, z) at (v .is k (omega arith))
 
 -- the hours one after the other
 module _ (gap turn from to : List ℕ) where

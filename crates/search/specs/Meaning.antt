@@ -1,7 +1,7 @@
 -- WHAT THE SEARCH MEANS: the day behind its tables, the branch behind its state, and what it promises of the best it gives back. These are the
 -- contracts of private functions; the promise of the clearing itself is in Promise. Definitions only. Assumes nothing.
 use Prim.Native.Nat.{ℕ, suc, _+_, _-_, _*_, _^_, _≤_, _<_}
-use mathlib.Core.Bool.{Bool, true, not}
+use mathlib.Core.Bool.{Bool, true, false, not}
 use lib.Dec.{eqb}
 use mathlib.Core.List.{List, _∷_, _++_}
 use mathlib.Core.Path.{_≡_}
@@ -20,7 +20,7 @@ use Rattle.rules.proofs.LossLaws.{against, losses, lossOf}
 use Rattle.rules.proofs.LossSearchLaws as by-loss
 use Rattle.rules.proofs.PlaceLaws.{place, hourAt}
 use Rattle.rules.proofs.TwinLaws.{Ahead, InTurn}
-use Rattle.search.specs.Search.{Small, cell, ofHour, sideAt, hoursAt, limitAt, againstAt, gainAt, aheadAt, behindAt, rowAt}
+use Rattle.search.specs.Search.{Small, cell, ofHour, sideAt, hoursAt, limitAt, againstAt, gainAt, aheadAt, behindAt, rowAt, isOut}
 use Rattle.search.specs.declared.Day as code-day
 use Rattle.search.specs.declared.Best.{Best}
 use Rattle.search.specs.declared.Node.{Node}
@@ -114,18 +114,37 @@ Decided low gap first last blocks count set loss places best r =
     (day : _) (p rest : ℕ → ℕ) (d : List Bool) → Known day p rest low gap first last blocks count → Branch day p d set loss places →
     length d ≡ count → set < 2 ^ count → Outcome day p rest count 0 d best r
 
-abbrev pub ExploredFrom : (low gap first last turn blocks : List ℕ) (count left : ℕ) (node : Node) (best r : Best) → Type 0
-ExploredFrom low gap first last turn blocks count left node best r =
-    (day : _) (p rest : ℕ → ℕ) (d : List Bool) → Known day p rest low gap first last blocks count →
-    Turning gap first last turn → Branch day p d (node .set) (node .loss) (node .places) → length d + left ≡ count →
+-- THE BLOCKS THAT ARE OUT of a branch: no lawful completion that loses less than the limit takes one of them.
+abbrev pub OutOf : (day : Day) (p rest : ℕ → ℕ) (d : List Bool) (left limit out : ℕ) → Type 0
+OutOf day p rest d left limit out =
+    (t : List Bool) (k : ℕ) → length t ≡ left → lawful day (d ++ t) ≡ true → lossAbove day p rest (d ++ t) < limit → k < left →
+    isOut out k ≡ true → getD t k false ≡ false
+
+-- THE BRANCH AT ITS TABLES, with its blocks that are out
+pub record At (low gap first last turn blocks : List ℕ) (count left : ℕ) (node : Node) (limit out : ℕ) (day : Day) (p rest : ℕ → ℕ) (d : List Bool) :
+    Type 0 where
+  pub known : Known day p rest low gap first last blocks count
+  pub turning : Turning gap first last turn
+  pub branch : Branch day p d (node .set) (node .loss) (node .places)
+  pub size : length d + left ≡ count
+  pub outOf : OutOf day p rest d left limit out
+
+abbrev pub ExploredFrom : (low gap first last turn blocks : List ℕ) (count left out : ℕ) (node : Node) (best r : Best) → Type 0
+ExploredFrom low gap first last turn blocks count left out node best r =
+    (day : _) (p rest : ℕ → ℕ) (d : List Bool) → At low gap first last turn blocks count left node (best .limit) out day p rest d →
     Outcome day p rest count left d best r
 
 -- A BRANCH TO DROP: no lawful completion loses less than the limit.
-abbrev pub DroppedFrom : (low gap first last turn blocks : List ℕ) (count left : ℕ) (node : Node) (limit : ℕ) → Type 0
-DroppedFrom low gap first last turn blocks count left node limit =
-    (day : _) (p rest : ℕ → ℕ) (d t : List Bool) → Known day p rest low gap first last blocks count →
-    Turning gap first last turn → Branch day p d (node .set) (node .loss) (node .places) → length d + left ≡ count →
+abbrev pub DroppedFrom : (low gap first last turn blocks : List ℕ) (count left out : ℕ) (node : Node) (limit : ℕ) → Type 0
+DroppedFrom low gap first last turn blocks count left out node limit =
+    (day : _) (p rest : ℕ → ℕ) (d t : List Bool) → At low gap first last turn blocks count left node limit out day p rest d →
     length t ≡ left → lawful day (d ++ t) ≡ true → limit ≤ lossAbove day p rest (d ++ t)
+
+-- A BRANCH JUDGED: it is dropped, or these blocks are out of it.
+pub record JudgedFrom (low gap first last turn blocks : List ℕ) (count left out : ℕ) (node : Node) (limit : ℕ) (isDropped : Bool) (r : ℕ) : Type 0 where
+  pub dropped : isDropped ≡ true → DroppedFrom low gap first last turn blocks count left out node limit
+  pub outOf : isDropped ≡ false → (day : _) (p rest : ℕ → ℕ) (d : List Bool) → At low gap first last turn blocks count left node limit out day p rest d →
+      OutOf day p rest d left limit r
 
 -- ONE MORE BLOCK decided: the set, the loss, and the places moved on by what a sell sells if taken, a buy buys if left out
 pub record TakenTo (blocks : List ℕ) (at : ℕ) (node r : Node) : Type 0 where

@@ -103,20 +103,37 @@ allKeep blocks set high low (suc i) =
     || keepsAt (sideAt blocks i) (hoursAt blocks i) (limitAt blocks i) high low)
     && allKeep blocks set high low i
 
--- THE REACH: the places that a branch can still come to, hour by hour. With so much lost, a decision that loses up to the limit is not made.
-abbrev pub isLeft : (blocks : List ℕ) (loss limit i : ℕ) → Bool
-isLeft blocks loss limit i = leb limit (loss + againstAt blocks i)
+-- THE BLOCKS THAT ARE OUT of a branch, as bits: bit k is for the block k places after the decided ones.
+abbrev pub isOut : ℕ → ℕ → Bool
+isOut out k = eqb (out / 2 ^ k % 2) 1
+
+-- Undecided block i is out: it was before, or it misses its limit at these prices.
+unfoldable pub isRuledOut : (blocks : List ℕ) (i : ℕ) (was : Bool) (high low : List ℕ) → Bool
+isRuledOut blocks i was high low = was || not (keepsAt (sideAt blocks i) (hoursAt blocks i) (limitAt blocks i) high low)
+
+-- THE REACH: the places that a branch can still come to, hour by hour. With so much lost, a decision that loses up to the limit is not made; nor is a
+-- block taken that is out.
+abbrev pub isLeft : (blocks : List ℕ) (out : Bool) (loss limit i : ℕ) → Bool
+isLeft blocks out loss limit i = out || leb limit (loss + againstAt blocks i)
 
 abbrev pub isTaken : (blocks : List ℕ) (loss limit i : ℕ) → Bool
 isTaken blocks loss limit i = leb limit (loss + gainAt blocks i)
 
 -- Block i moves the places of its hours on for certain: as a buy that is left out, as a sell that is taken.
-unfoldable pub mustMove : (blocks : List ℕ) (loss limit i : ℕ) → Bool
-mustMove blocks loss limit i = (isLeft blocks loss limit i && eqb (sideAt blocks i) 0) || (isTaken blocks loss limit i && not (eqb (sideAt blocks i) 0))
+unfoldable pub mustMove : (blocks : List ℕ) (out : Bool) (loss limit i : ℕ) → Bool
+mustMove blocks out loss limit i =
+    (isLeft blocks out loss limit i && eqb (sideAt blocks i) 0) || (isTaken blocks loss limit i && not (eqb (sideAt blocks i) 0))
 
 -- It may move them: neither decision is certain.
-unfoldable pub mayMove : (blocks : List ℕ) (loss limit i : ℕ) → Bool
-mayMove blocks loss limit i = not (isLeft blocks loss limit i) && not (isTaken blocks loss limit i)
+unfoldable pub mayMove : (blocks : List ℕ) (out : Bool) (loss limit i : ℕ) → Bool
+mayMove blocks out loss limit i = not (isLeft blocks out loss limit i) && not (isTaken blocks loss limit i)
+
+-- The same of each block from number j on, the first of those that `out` is for.
+abbrev pub mustFrom : (blocks : List ℕ) (j out loss limit : ℕ) → ℕ → Bool
+mustFrom blocks j out loss limit i = mustMove blocks (isOut out (i - j)) loss limit i
+
+abbrev pub mayFrom : (blocks : List ℕ) (j out loss limit : ℕ) → ℕ → Bool
+mayFrom blocks j out loss limit i = mayMove blocks (isOut out (i - j)) loss limit i
 
 -- The sum over the next n blocks from number i on, of those that move, of what each trades in hour h.
 unfoldable pub addedIn : (blocks : List ℕ) → (ℕ → Bool) → ℕ → ℕ → ℕ → ℕ
@@ -131,9 +148,9 @@ pub record AddedTo (blocks : List ℕ) (i : ℕ) (must may : Bool) (least free m
   pub freerIs : (h : ℕ) → 1 ≤ h → h ≤ 24 → ofHour freer h ≡ ofHour free h + when may (rowAt blocks i h)
 
 -- The least places of the hours, and what the blocks from number j on are free to add.
-pub record RestOf (blocks : List ℕ) (count j loss limit : ℕ) (places least free : List ℕ) : Type 0 where
-  pub leastIs : (h : ℕ) → 1 ≤ h → h ≤ 24 → ofHour least h ≡ ofHour places h + addedIn blocks (mustMove blocks loss limit) h (count - j) j
-  pub freeIs : (h : ℕ) → 1 ≤ h → h ≤ 24 → ofHour free h ≡ addedIn blocks (mayMove blocks loss limit) h (count - j) j
+pub record RestOf (blocks : List ℕ) (count j out loss limit : ℕ) (places least free : List ℕ) : Type 0 where
+  pub leastIs : (h : ℕ) → 1 ≤ h → h ≤ 24 → ofHour least h ≡ ofHour places h + addedIn blocks (mustFrom blocks j out loss limit) h (count - j) j
+  pub freeIs : (h : ℕ) → 1 ≤ h → h ≤ 24 → ofHour free h ≡ addedIn blocks (mayFrom blocks j out loss limit) h (count - j) j
   pub leastFits : Small 1600000 least
   pub freeFits : Small 1600000 free
 

@@ -5,10 +5,10 @@ ghost use Prim.Native.Nat.{ℕ, _+_, _-_, _*_, _^_, _≤_, _<_};
 ghost use lib.ListN.{length, getD};
 ghost use Rattle.rules.specs.Hour.{when};
 ghost use Rattle.book.specs.Records.{holdsHour};
-ghost use mathlib.Core.Bool.{false, cond};
-ghost use Rattle.search.specs.Search.{Small, sumOfHours, ofHour, GapsOf, PricesOf, keepsAt, allKeep, mustMove, mayMove, AddedTo, isBarred, isDue, rowAt, RestOf, ReachOf, leastGaps, firstOf, lastOf, turnOf};
+ghost use mathlib.Core.Bool.{cond};
+ghost use Rattle.search.specs.Search.{Small, sumOfHours, ofHour, GapsOf, PricesOf, keepsAt, allKeep, isOut, isRuledOut, mustMove, mayMove, AddedTo, isBarred, isDue, rowAt, RestOf, ReachOf, leastGaps, firstOf, lastOf, turnOf};
 ghost use Rattle.search.specs.Search as numbers;
-ghost use Rattle.search.specs.Meaning.{BlocksSized, Sized, Fits, Decided, TakenTo, LeftTo, DroppedFrom, ExploredFrom, FoundIn};
+ghost use Rattle.search.specs.Meaning.{BlocksSized, Sized, Fits, Decided, TakenTo, LeftTo, JudgedFrom, ExploredFrom, FoundIn};
 
 // The price of each hour, and the quantity at which its blocks stand (its place).
 pub struct Day {
@@ -249,18 +249,59 @@ fn smaller(a: u32, b: u32) -> u32
     if a <= b { a } else { b }
 }
 
+// Whether the block k places after the decided ones is out of the branch: no lawful completion that loses less than the limit takes it.
+fn is_out(out: u32, k: usize) -> bool
+    requires { ⌜ k < 32 ⌝ }
+    ensures { λ r. ⌜ r ≡ isOut out k ⌝ }
+{
+    (out >> (k as u32)) % 2 == 1
+}
+
+// Whether undecided block i is out: it was before, or it misses its limit at the best prices within reach.
+fn is_ruled_out(blocks: &[u32], i: usize, was: bool, high: [u32; 24], low: [u32; 24]) -> bool
+    requires { ⌜ (length (now blocks) ≡ 1024) × (i < 32) × Small 300000 high × Small 300000 low ⌝ }
+    ensures { λ r. ⌜ r ≡ isRuledOut (now (blocks .entry)) i was high low ⌝ }
+{
+    if was {
+        return true;
+    }
+    !keeps_limit(blocks[i], blocks[32 + i], blocks[96 + i], high, low)
+}
+
+// The undecided blocks that are out, from the last one on to the one at number at, whose bit is the lowest.
+fn ruled_out(
+    blocks: &[u32],
+    count: usize,
+    at: usize,
+    out: u32,
+    high: [u32; 24],
+    low: [u32; 24],
+) -> u32
+    requires { ⌜ (length (now blocks) ≡ 1024) × (count ≤ 32) × (at ≤ count) × Small 300000 high × Small 300000 low ⌝ }
+    ensures { λ r. ⌜ ((k : ℕ) → k < count - at → isOut r k ≡ isRuledOut (now (blocks .entry)) (at + k) (isOut out k) high low) ⌝ }
+{
+    let mut r: u32 = 0;
+    let mut i = count;
+    while at < i {
+        i -= 1;
+        let test = is_ruled_out(blocks, i, is_out(out, i - at), high, low);
+        r = 2 * r + number_of(test);
+    }
+    r
+}
+
 // Whether an undecided block moves the places of its hours on for certain, and whether it may.
 pub struct Moves {
     pub must: bool,
     pub may: bool,
 }
 
-fn moves_of(blocks: &[u32], i: usize, loss: u64, limit: u64) -> Moves
+fn moves_of(blocks: &[u32], i: usize, out: bool, loss: u64, limit: u64) -> Moves
     requires { ⌜ BlocksSized (now blocks) × (i < 32) × (loss ≤ 32 * 2 ^ 32) ⌝ }
-    ensures { λ r. ⌜ (r .must ≡ mustMove (now (blocks .entry)) loss limit i) × (r .may ≡ mayMove (now (blocks .entry)) loss limit i) ⌝ }
+    ensures { λ r. ⌜ (r .must ≡ mustMove (now (blocks .entry)) out loss limit i) × (r .may ≡ mayMove (now (blocks .entry)) out loss limit i) ⌝ }
 {
     let buys = blocks[i] == 0;
-    let left_out = limit <= loss + (blocks[128 + i] as u64);
+    let left_out = out | (limit <= loss + (blocks[128 + i] as u64));
     let taken = limit <= loss + (blocks[160 + i] as u64);
     Moves {
         must: (left_out & buys) | (taken & !buys),
@@ -302,19 +343,20 @@ fn rest_of(
     blocks: &[u32],
     count: usize,
     at: usize,
+    out: u32,
     loss: u64,
     limit: u64,
     places: [u32; 24],
 ) -> Rest
     requires { ⌜ BlocksSized (now blocks) × (count ≤ 32) × (at ≤ count) × (loss ≤ 32 * 2 ^ 32) × Small (at * 50000) places ⌝ }
-    ensures { λ r. ⌜ RestOf (now (blocks .entry)) count at loss limit places (r .least) (r .free) ⌝ }
+    ensures { λ r. ⌜ RestOf (now (blocks .entry)) count at out loss limit places (r .least) (r .free) ⌝ }
 {
     let mut least = places;
     let mut free = [0; 24];
     let mut i = count;
     while at < i {
         i -= 1;
-        let moves = moves_of(blocks, i, loss, limit);
+        let moves = moves_of(blocks, i, is_out(out, i - at), loss, limit);
         let more = with_block(least, free, moves, blocks, i);
         least = more.least;
         free = more.free;
@@ -380,45 +422,66 @@ fn is_forced(blocks: &[u32], at: usize, set: u32, loss: u64, limit: u64) -> bool
     limit <= loss + (other as u64)
 }
 
-// Whether a completion of the node may be lawful and lose less than the limit. None does where the decided blocks lose as much already, where an hour can
-// no longer balance, where the least gaps within reach come to as much, or where a taken block misses its limit at the best prices within reach.
-fn is_open(
+// Whether a branch is dropped, and its blocks that are out.
+pub struct Judged {
+    pub dropped: bool,
+    pub out: u32,
+}
+
+// A branch is dropped where no completion can be lawful and lose less than the limit: where the decided blocks lose as much already, where an hour can no
+// longer balance, where the least gaps within reach come to as much, or where a taken block misses its limit at the best prices within reach. An undecided
+// block that misses its limit there is out.
+fn judge(
     low: &[u32],
     gap: &[u32],
     hours: &[u32],
     blocks: &[u32],
     count: u32,
     left: u32,
+    out: u32,
     node: Node,
     limit: u64,
-) -> bool
+) -> Judged
     requires { ⌜ Sized (now low) (now gap) (firstOf (now hours)) (lastOf (now hours)) (now blocks) × (length (now hours) ≡ 72) × (count ≤ 32) × (left ≤ count) × Fits (count - left) (node .set) (node .loss) (node .places) ⌝ }
-    ensures { λ r. ⌜ (r ≡ false → DroppedFrom (now (low .entry)) (now (gap .entry)) (firstOf (now (hours .entry))) (lastOf (now (hours .entry))) (turnOf (now (hours .entry)))
-        (now (blocks .entry)) count left node limit) ⌝ }
+    ensures { λ r. ⌜ JudgedFrom (now (low .entry)) (now (gap .entry)) (firstOf (now (hours .entry))) (lastOf (now (hours .entry))) (turnOf (now (hours .entry)))
+        (now (blocks .entry)) count left out node limit (r .dropped) (r .out) ⌝ }
 {
+    let drop = Judged {
+        dropped: true,
+        out: out,
+    };
     if limit <= node.loss {
-        return false;
+        return drop;
     }
     let at = (count - left) as usize;
     if is_forced(blocks, at, node.set, node.loss, limit) {
-        return true;
+        return Judged {
+            dropped: false,
+            out: out,
+        };
     }
     let places = node.places;
-    let rest = rest_of(blocks, count as usize, at, node.loss, limit, places);
+    let rest = rest_of(blocks, count as usize, at, out, node.loss, limit, places);
     let least = rest.least;
     let free = rest.free;
     let reach = reach_of(&hours[0..24], &hours[24..48], least, free);
     if !reach.balances {
-        return false;
+        return drop;
     }
     let from = reach.from;
     let to = reach.to;
     if limit <= node.loss + least_gaps(gap, &hours[48..72], from, to) {
-        return false;
+        return drop;
     }
     let high = prices_at(low, from);
     let lowest = prices_at(low, to);
-    keeps_limits(blocks, at, node.set, high, lowest)
+    if !keeps_limits(blocks, at, node.set, high, lowest) {
+        return drop;
+    }
+    Judged {
+        dropped: false,
+        out: ruled_out(blocks, count as usize, at, out, high, lowest),
+    }
 }
 
 // Whether a twin that is taken before block i is left out.
@@ -445,8 +508,8 @@ fn is_due(blocks: &[u32], i: usize, set: u32) -> bool
     (set >> (behind - 1)) % 2 == 1
 }
 
-// Every way to decide the blocks that are left, each first taken and then left out; of twins, the one that is taken before the other first. Each branch
-// has its own node by value, so nothing is released.
+// Every way to decide the blocks that are left, each first taken and then left out; of twins, the one that is taken before the other first. A block that
+// is out is only left out. Each branch has its own node by value, so nothing is released.
 fn explore(
     low: &[u32],
     gap: &[u32],
@@ -454,14 +517,16 @@ fn explore(
     blocks: &[u32],
     count: u32,
     left: u32,
+    out: u32,
     node: Node,
     best: Best,
 ) -> Best
     requires { ⌜ Sized (now low) (now gap) (firstOf (now hours)) (lastOf (now hours)) (now blocks) × (length (now hours) ≡ 72) × (count ≤ 32) × (left ≤ count) × Fits (count - left) (node .set) (node .loss) (node .places) ⌝ }
-    ensures { λ r. ⌜ ExploredFrom (now (low .entry)) (now (gap .entry)) (firstOf (now (hours .entry))) (lastOf (now (hours .entry))) (turnOf (now (hours .entry))) (now (blocks .entry)) count left node best r ⌝ }
+    ensures { λ r. ⌜ ExploredFrom (now (low .entry)) (now (gap .entry)) (firstOf (now (hours .entry))) (lastOf (now (hours .entry))) (turnOf (now (hours .entry))) (now (blocks .entry)) count left out node best r ⌝ }
 {
     let limit = best.limit;
-    if !is_open(low, gap, hours, blocks, count, left, node, limit) {
+    let judged = judge(low, gap, hours, blocks, count, left, out, node, limit);
+    if judged.dropped {
         return best;
     }
     if left == 0 {
@@ -469,16 +534,17 @@ fn explore(
     }
     let at = count - left;
     let after = left - 1;
+    let still = judged.out / 2;
     let without = leave(blocks, at, node);
-    if is_barred(blocks, at as usize, node.set) {
-        return explore(low, gap, hours, blocks, count, after, without, best);
+    if is_out(judged.out, 0) | is_barred(blocks, at as usize, node.set) {
+        return explore(low, gap, hours, blocks, count, after, still, without, best);
     }
     let with = take(blocks, at, node);
-    let taken = explore(low, gap, hours, blocks, count, after, with, best);
+    let taken = explore(low, gap, hours, blocks, count, after, still, with, best);
     if is_due(blocks, at as usize, node.set) {
         return taken;
     }
-    explore(low, gap, hours, blocks, count, after, without, taken)
+    explore(low, gap, hours, blocks, count, after, still, without, taken)
 }
 
 // The published set: a pass with a small threshold first, doubled until a pass finds a set. A pass that finds one has found the published one.
@@ -502,7 +568,7 @@ pub fn find(low: &[u32], gap: &[u32], hours: &[u32], blocks: &[u32], count: u32)
             set: 0,
             day: day,
         };
-        let found = explore(low, gap, hours, blocks, count, count, root, start);
+        let found = explore(low, gap, hours, blocks, count, count, 0, root, start);
         if found.limit < limit {
             return found;
         }
@@ -513,5 +579,5 @@ pub fn find(low: &[u32], gap: &[u32], hours: &[u32], blocks: &[u32], count: u32)
         set: 0,
         day: day,
     };
-    explore(low, gap, hours, blocks, count, count, root, start)
+    explore(low, gap, hours, blocks, count, count, 0, root, start)
 }

@@ -1,9 +1,8 @@
--- `search::explore` meets its contract: a branch is dropped, decided, or explored with its next block taken and then left out, of twins only one
--- way where the other is decided. The number of undecided blocks falls. Assumes nothing.
+-- `search::explore` meets its contract: a branch is dropped, decided, or explored with its next block taken and then left out; only left out where it
+-- is out, and of twins only one way where the other is decided. The number of undecided blocks falls. Assumes nothing.
 use mathlib.Core.Path.{_≡_, sym, _∙_}
 use native.Mathlib.Omega.{arith}
-use borrow.Author.Tests.{not-true}
-use Rattle.search.proofs.BranchLaws.{explored-dropped, explored-decided, explored-both, explored-left, explored-taken}
+use Rattle.search.proofs.BranchLaws.{explored-dropped, explored-judged, explored-decided, explored-both, explored-left, explored-taken}
 use borrow.Author.Needs.{needs}
 use Prim.Native.Nat.{ℕ, _+_, _-_, _<_}
 use borrow.Fn.Kinds.{In}
@@ -14,7 +13,8 @@ use Rattle.search.proofs.+explore.Lts-explore as explore-lts
 use Rattle.search.proofs.decide.Reads as decide-reads
 use Rattle.search.proofs.is_barred.Reads as is-barred-reads
 use Rattle.search.proofs.is_due.Reads as is-due-reads
-use Rattle.search.proofs.is_open.Reads as is-open-reads
+use Rattle.search.proofs.is_out.Reads as is-out-reads
+use Rattle.search.proofs.judge.Reads as judge-reads
 use Rattle.search.proofs.leave.Reads as leave-reads
 use Rattle.search.proofs.take.Reads as take-reads
 use Rattle.search.proofs.+explore.{statement}
@@ -30,13 +30,13 @@ abbrev explore-below : ℕ → In 4 explore-kinds.ps
 explore-below t = and 4 explore-kinds.ps (falls 4 explore-kinds.ps _<_ μ-explore t) explore.Pre
 
 abbrev claims-explore : ℕ → explore-lts.Claims
-claims-explore t = (is-open-reads.Asked, is-open-reads.Learnt, decide-reads.Asked, decide-reads.Learnt, leave-reads.Asked, leave-reads.Learnt, is-barred-reads.Asked, is-barred-reads.Learnt, explore-below t, explore.Post, take-reads.Asked, take-reads.Learnt, is-due-reads.Asked, is-due-reads.Learnt)
+claims-explore t = (judge-reads.Asked, judge-reads.Learnt, decide-reads.Asked, decide-reads.Learnt, leave-reads.Asked, leave-reads.Learnt, is-out-reads.Asked, is-out-reads.Learnt, is-barred-reads.Asked, is-barred-reads.Learnt, explore-below t, explore.Post, take-reads.Asked, take-reads.Learnt, is-due-reads.Asked, is-due-reads.Learnt)
 
-explore-is-open-requires : (t : ℕ) → explore-lts.Need-is-open-requires (claims-explore t) (explore-at t) explore.Post
-explore-is-open-requires t c κs = search needs
+explore-judge-requires : (t : ℕ) → explore-lts.Need-judge-requires (claims-explore t) (explore-at t) explore.Post
+explore-judge-requires t c κs = search needs
 
 explore-returns : (t : ℕ) → explore-lts.Need-returns (claims-explore t) (explore-at t) explore.Post
-explore-returns t c = explored-dropped _ _ _ _ _ _ _ _ _ _ (c .before .is-open .ensures (not-true _ (c .if1 .taken)))
+explore-returns t c = explored-dropped _ _ _ _ _ _ _ _ _ _ _ (c .before .judge .ensures .dropped (c .if1 .taken))
 
 explore-decide-requires : (t : ℕ) → explore-lts.Need-decide-requires (claims-explore t) (explore-at t) explore.Post
 explore-decide-requires t c κs = search needs
@@ -45,7 +45,7 @@ explore-returns-2 : (t : ℕ) → explore-lts.Need-returns-2 (claims-explore t) 
 explore-returns-2 t c =
     let a = c .before .before .before .before .before .before .before .before in
     let e : a .args .count - a .args .left ≡ a .args .count = omega (arith, c .before .if2 .taken) in
-    explored-decided _ _ _ _ _ _ _ _ _ _ _ (c .before .if2 .taken) (rw e at (a .pre .1 .4 .setFits)) (c .decide .ensures)
+    explored-decided _ _ _ _ _ _ _ _ _ _ _ _ (c .before .if2 .taken) (rw e at (a .pre .1 .4 .setFits)) (c .decide .ensures)
 
 explore-sub-at : (t : ℕ) → explore-lts.Need-sub-at (claims-explore t) (explore-at t) explore.Post
 explore-sub-at t c = search needs
@@ -56,6 +56,9 @@ explore-sub-after t c = search needs
 explore-leave-requires : (t : ℕ) → explore-lts.Need-leave-requires (claims-explore t) (explore-at t) explore.Post
 explore-leave-requires t c κs = search needs
 
+explore-is-out-requires : (t : ℕ) → explore-lts.Need-is-out-requires (claims-explore t) (explore-at t) explore.Post
+explore-is-out-requires t c κs = search needs
+
 explore-cast-is-barred : (t : ℕ) → explore-lts.Need-cast-is-barred (claims-explore t) (explore-at t) explore.Post
 explore-cast-is-barred t c = search needs
 
@@ -64,69 +67,73 @@ explore-is-barred-requires t c κs = search needs
 
 explore-explore-requires : (t : ℕ) → explore-lts.Need-explore-requires (claims-explore t) (explore-at t) explore.Post
 explore-explore-requires t c κs =
-    let a = c .before .before .before .before .before .before .before .before .before .before in
-    let k = c .before .before .before .if2 .left in
+    let a = c .before .before .before .before .before .before .before .before .before .before .before .before in
+    let k = c .before .before .before .before .before .if2 .left in
     let e : a .args .count - a .args .left + 1 ≡ a .args .count - (a .args .left - 1) = omega (arith, a .pre .1 .3) in
-    (omega (arith, a .pre .0), (a .pre .1 .0, a .pre .1 .1, a .pre .1 .2, omega (arith, a .pre .1 .3), rw e at (c .before .before .leave .ensures .0)))
+    (omega (arith, a .pre .0), (a .pre .1 .0, a .pre .1 .1, a .pre .1 .2, omega (arith, a .pre .1 .3), rw e at (c .before .before .before .leave .ensures .0)))
 
 explore-returns-3 : (t : ℕ) → explore-lts.Need-returns-3 (claims-explore t) (explore-at t) explore.Post
 explore-returns-3 t c =
-    let a = c .before .before .before .before .before .before .before .before .before .before .before in
-    let k = c .before .before .before .before .if2 .left in
-    explored-left _ _ _ _ _ _ _ _ _ _ _ _ (omega arith) (a .pre .1 .3) (a .pre .1 .4 .setFits)
-    (sym (c .before .before .is-barred .ensures) ∙ c .before .if3 .taken) (c .before .before .before .leave .ensures .1) (c .explore .ensures)
+    let a = c .before .before .before .before .before .before .before .before .before .before .before .before .before in
+    let k = c .before .before .before .before .before .before .if2 .left in
+    explored-judged _ _ _ _ _ _ _ _ _ _ _ _ _ _ (c .before .before .before .before .before .before .before .if1 .left) (c .before .before .before .before .before .before .before .before .judge .ensures)
+    (explored-left _ _ _ _ _ _ _ _ _ _ _ _ _ (omega arith) (a .pre .1 .3) (a .pre .1 .4 .setFits)
+    (rw (c .before .before .before .is-out .ensures, c .before .before .is-barred .ensures) at (c .before .if3 .taken)) (c .before .before .before .before .leave .ensures .1) (c .explore .ensures))
 
 explore-take-requires : (t : ℕ) → explore-lts.Need-take-requires (claims-explore t) (explore-at t) explore.Post
 explore-take-requires t c κs = search needs
 
 explore-explore-requires-2 : (t : ℕ) → explore-lts.Need-explore-requires-2 (claims-explore t) (explore-at t) explore.Post
 explore-explore-requires-2 t c κs =
-    let a = c .before .before .before .before .before .before .before .before .before .before .before in
-    let k = c .before .before .before .before .if2 .left in
+    let a = c .before .before .before .before .before .before .before .before .before .before .before .before .before in
+    let k = c .before .before .before .before .before .before .if2 .left in
     let e : a .args .count - a .args .left + 1 ≡ a .args .count - (a .args .left - 1) = omega (arith, a .pre .1 .3) in
     (omega (arith, a .pre .0), (a .pre .1 .0, a .pre .1 .1, a .pre .1 .2, omega (arith, a .pre .1 .3), rw e at (c .take .ensures .0)))
 
 explore-cast-is-due : (t : ℕ) → explore-lts.Need-cast-is-due (claims-explore t) (explore-at t) explore.Post
-explore-cast-is-due t c = omega (arith, c .before .before .before .before .before .before .before .before .before .before .before .before .pre .1 .2)
+explore-cast-is-due t c = omega (arith, c .before .before .before .before .before .before .before .before .before .before .before .before .before .before .pre .1 .2)
 
 explore-is-due-requires : (t : ℕ) → explore-lts.Need-is-due-requires (claims-explore t) (explore-at t) explore.Post
 explore-is-due-requires t c κs =
-    let a = c .before .before .before .before .before .before .before .before .before .before .before .before in
-    let k = c .before .before .before .before .before .if2 .left in
+    let a = c .before .before .before .before .before .before .before .before .before .before .before .before .before .before in
+    let k = c .before .before .before .before .before .before .before .if2 .left in
     (a .pre .1 .0 .blocksFit, omega (arith, a .pre .1 .2, a .pre .1 .3))
 
 explore-returns-4 : (t : ℕ) → explore-lts.Need-returns-4 (claims-explore t) (explore-at t) explore.Post
 explore-returns-4 t c =
-    let a = c .before .before .before .before .before .before .before .before .before .before .before .before .before .before in
-    let k = c .before .before .before .before .before .before .before .if2 .left in
-    explored-taken _ _ _ _ _ _ _ _ _ _ _ _ (omega arith) (a .pre .1 .3) (a .pre .1 .4 .setFits)
-    (sym (c .before .is-due .ensures) ∙ c .if4 .taken) (c .before .before .before .take .ensures .1) (c .before .before .explore2 .ensures)
+    let a = c .before .before .before .before .before .before .before .before .before .before .before .before .before .before .before .before in
+    let k = c .before .before .before .before .before .before .before .before .before .if2 .left in
+    explored-judged _ _ _ _ _ _ _ _ _ _ _ _ _ _ (c .before .before .before .before .before .before .before .before .before .before .if1 .left) (c .before .before .before .before .before .before .before .before .before .before .before .judge .ensures)
+    (explored-taken _ _ _ _ _ _ _ _ _ _ _ _ _ (omega arith) (a .pre .1 .3) (a .pre .1 .4 .setFits)
+    (sym (c .before .is-due .ensures) ∙ c .if4 .taken) (c .before .before .before .take .ensures .1) (c .before .before .explore2 .ensures))
 
 explore-explore-requires-3 : (t : ℕ) → explore-lts.Need-explore-requires-3 (claims-explore t) (explore-at t) explore.Post
 explore-explore-requires-3 t c κs =
-    let a = c .before .before .before .before .before .before .before .before .before .before .before .before .before .before in
-    let k = c .before .before .before .before .before .before .before .if2 .left in
+    let a = c .before .before .before .before .before .before .before .before .before .before .before .before .before .before .before .before in
+    let k = c .before .before .before .before .before .before .before .before .before .if2 .left in
     let e : a .args .count - a .args .left + 1 ≡ a .args .count - (a .args .left - 1) = omega (arith, a .pre .1 .3) in
-    (omega (arith, a .pre .0), (a .pre .1 .0, a .pre .1 .1, a .pre .1 .2, omega (arith, a .pre .1 .3), rw e at (c .before .before .before .before .before .before .leave .ensures .0)))
+    (omega (arith, a .pre .0), (a .pre .1 .0, a .pre .1 .1, a .pre .1 .2, omega (arith, a .pre .1 .3), rw e at (c .before .before .before .before .before .before .before .leave .ensures .0)))
 
 explore-returns-5 : (t : ℕ) → explore-lts.Need-returns-5 (claims-explore t) (explore-at t) explore.Post
 explore-returns-5 t c =
-    let a = c .before .before .before .before .before .before .before .before .before .before .before .before .before .before .before in
-    let k = c .before .before .before .before .before .before .before .before .if2 .left in
-    explored-both _ _ _ _ _ _ _ _ _ _ _ _ _ _ (omega arith) (a .pre .1 .3) (a .pre .1 .4 .setFits)
-    (c .before .before .before .before .take .ensures .1) (c .before .before .before .before .before .before .before .leave .ensures .1) (c .before .before .before .explore2 .ensures) (c .explore3 .ensures)
+    let a = c .before .before .before .before .before .before .before .before .before .before .before .before .before .before .before .before .before in
+    let k = c .before .before .before .before .before .before .before .before .before .before .if2 .left in
+    explored-judged _ _ _ _ _ _ _ _ _ _ _ _ _ _ (c .before .before .before .before .before .before .before .before .before .before .before .if1 .left) (c .before .before .before .before .before .before .before .before .before .before .before .before .judge .ensures)
+    (explored-both _ _ _ _ _ _ _ _ _ _ _ _ _ _ _ (omega arith) (a .pre .1 .3) (a .pre .1 .4 .setFits)
+    (c .before .before .before .before .take .ensures .1) (c .before .before .before .before .before .before .before .before .leave .ensures .1) (c .before .before .before .explore2 .ensures) (c .explore3 .ensures))
 
 pub +explore-spec : {M : Type 1} → statement M
 +explore-spec = close μ-explore λ t. explore-lts.spec (claims-explore t)
     (explore-at t)
     explore.Post
-    (explore-is-open-requires t)
+    (explore-judge-requires t)
     (explore-returns t)
     (explore-decide-requires t)
     (explore-returns-2 t)
     (explore-sub-at t)
     (explore-sub-after t)
     (explore-leave-requires t)
+    (explore-is-out-requires t)
     (explore-cast-is-barred t)
     (explore-is-barred-requires t)
     (explore-explore-requires t)

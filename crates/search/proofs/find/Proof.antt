@@ -1,6 +1,5 @@
 -- `search::find` meets its contract: a pass that finds a set has found the published one, and the last pass finds. Assumes nothing.
 use Prim.Native.Nat.{_-_, _≤_}
-use mathlib.Core.Path.{_≡_}
 use native.Mathlib.Omega.{arith}
 use Rattle.search.proofs.PassLaws.{root-fits, pass-is, pass-found}
 use borrow.Author.Needs.{needs}
@@ -19,8 +18,7 @@ loop-holds c = (omega arith, omega arith)
 explore-requires : tie.Need-explore-requires Inv-loop μ-loop
 explore-requires c κs =
     let a = c .before .before .before .before .before .before in
-    let z : a .args .count - a .args .count ≡ 0 = omega arith in
-    (a .pre .0, a .pre .1, a .pre .2, omega arith, rw z root-fits)
+    (a .pre .0, a .pre .1, omega (arith, a .pre .2), omega arith, root-fits _)
 
 returns : tie.Need-returns Inv-loop μ-loop
 returns c =
@@ -41,8 +39,7 @@ loop-again c = (omega (arith, c .before .before .before .before .loop .inv), ome
 explore-requires-2 : tie.Need-explore-requires-2 Inv-loop μ-loop
 explore-requires-2 c κs =
     let a = c .before .before .before .before .before .before in
-    let z : a .args .count - a .args .count ≡ 0 = omega arith in
-    (a .pre .0, a .pre .1, a .pre .2, omega arith, rw z root-fits)
+    (a .pre .0, a .pre .1, omega (arith, a .pre .2), omega arith, root-fits _)
 
 returns-2 : tie.Need-returns-2 Inv-loop μ-loop
 returns-2 c =

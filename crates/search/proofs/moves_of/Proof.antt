@@ -43,7 +43,7 @@ add-taken-2 : tie.Need-add-taken-2
 add-taken-2 c = omega (arith, c .shared-slice-known3 .given (160 + c .before .before .before .args .i), c .before .before .before .pre .2)
 
 returns : tie.Need-returns
-returns c = moves-are _ _ _ _
+returns c = moves-are _ _ _ _ _
 
 pub moves-of-spec : {M : Type 1} → statement M
 moves-of-spec =

@@ -7,26 +7,32 @@ use Rattle.search.proofs.rest_of.Statement.{statement}
 use Rattle.search.proofs.rest_of.Tie as tie
 
 abbrev Inv-loop : tie.InvT-loop
-Inv-loop blocks count at loss limit least₀ free₀ i₀ least free i = RestTo blocks count at loss limit least₀ i least free
+Inv-loop blocks count at out loss limit least₀ free₀ i₀ least free i = RestTo blocks count at out loss limit least₀ i least free
 
 abbrev μ-loop : tie.MeasureT-loop
-μ-loop blocks count at loss limit least₀ free₀ i₀ least free i = i
+μ-loop blocks count at out loss limit least₀ free₀ i₀ least free i = i
 
 loop-holds : tie.Need-loop-holds Inv-loop μ-loop
-loop-holds c = rest-start _ _ _ _ _ _ (c .before .pre .2) (search needs) (c .before .pre .4)
+loop-holds c = rest-start _ _ _ _ _ _ _ (c .before .pre .2) (search needs) (c .before .pre .4)
 
 sub-i : tie.Need-sub-i Inv-loop μ-loop
 sub-i c = search needs
 
+sub-is-out : tie.Need-sub-is-out Inv-loop μ-loop
+sub-is-out c = search needs
+
+is-out-requires : tie.Need-is-out-requires Inv-loop μ-loop
+is-out-requires c κs = omega (arith, c .before .loop .inv .to, c .before .before .before .pre .1)
+
 moves-of-requires : tie.Need-moves-of-requires Inv-loop μ-loop
 moves-of-requires c κs =
-    let s = c .before .before .before in
-    (s .pre .0, omega (arith, s .pre .1, c .before .loop .inv .to), s .pre .3)
+    let s = c .before .before .before .before in
+    (s .pre .0, omega (arith, s .pre .1, c .before .before .loop .inv .to), s .pre .3)
 
 with-block-requires : tie.Need-with-block-requires Inv-loop μ-loop
 with-block-requires c κs =
-    let v = c .before .before .loop in
-    let s = c .before .before .before .before in (
+    let v = c .before .before .before .loop in
+    let s = c .before .before .before .before .before in (
       s .pre .0,
       omega (arith, s .pre .1, v .inv .to),
       λ j. omega (arith, v .inv .leastFits j, v .inv .from, v .inv .to, s .pre .1),
@@ -38,14 +44,14 @@ loop-less c = search needs
 
 loop-again : tie.Need-loop-again Inv-loop μ-loop
 loop-again c =
-    let v = c .before .before .before .before .before .loop in
-    let s = c .before .before .before .before .before .before .before in
-    let moves = c .before .before .before .moves-of .ensures in
-    rest-next _ _ _ _ _ _ _ _ _ _ _ (v .inv) (c .before .before .before .before .loop-test .taken) (s .pre .0 .rowsFit (v .i - 1))
+    let v = c .before .before .before .before .before .before .loop in
+    let s = c .before .before .before .before .before .before .before .before in
+    let moves = rw (c .before .before .before .before .is-out .ensures) at (c .before .before .before .moves-of .ensures) in
+    rest-next _ _ _ _ _ _ _ _ _ _ _ _ (v .inv) (c .before .before .before .before .before .loop-test .taken) (s .pre .0 .rowsFit (v .i - 1))
     (rw (moves .0, moves .1) at (c .before .before .with-block .ensures))
 
 returns : tie.Need-returns Inv-loop μ-loop
-returns c = rest-all _ _ _ _ _ _ _ _ _ (c .before .loop .inv) (c .loop-test .left) (c .before .before .before .pre .1)
+returns c = rest-all _ _ _ _ _ _ _ _ _ _ (c .before .loop .inv) (c .loop-test .left) (c .before .before .before .pre .1)
 
 pub rest-of-spec : {M : Type 1} → statement M
 rest-of-spec =
@@ -55,6 +61,8 @@ rest-of-spec =
     μ-loop
     loop-holds
     sub-i
+    sub-is-out
+    is-out-requires
     moves-of-requires
     with-block-requires
     loop-less

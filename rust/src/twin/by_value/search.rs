@@ -220,6 +220,41 @@ fn smaller(a: u32, b: u32) -> u32
     if a <= b { a } else { b }
 }
 
+// Whether the block k places after the decided ones is out of the branch: no lawful completion that loses less than the limit takes it.
+fn is_out(out: u32, k: usize) -> bool
+{
+    (out >> (k as u32)) % 2 == 1
+}
+
+// Whether undecided block i is out: it was before, or it misses its limit at the best prices within reach.
+fn is_ruled_out(blocks: &[u32], i: usize, was: bool, high: [u32; 24], low: [u32; 24]) -> bool
+{
+    if was {
+        return true;
+    }
+    !keeps_limit(blocks[i], blocks[32 + i], blocks[96 + i], high, low)
+}
+
+// The undecided blocks that are out, from the last one on to the one at number at, whose bit is the lowest.
+fn ruled_out(
+    blocks: &[u32],
+    count: usize,
+    at: usize,
+    out: u32,
+    high: [u32; 24],
+    low: [u32; 24],
+) -> u32
+{
+    let mut r: u32 = 0;
+    let mut i = count;
+    while at < i {
+        i -= 1;
+        let test = is_ruled_out(blocks, i, is_out(out, i - at), high, low);
+        r = 2 * r + number_of(test);
+    }
+    r
+}
+
 // Whether an undecided block moves the places of its hours on for certain, and whether it may.
 #[derive(Clone, Copy)]
 pub struct Moves {
@@ -227,10 +262,10 @@ pub struct Moves {
     pub may: bool,
 }
 
-fn moves_of(blocks: &[u32], i: usize, loss: u64, limit: u64) -> Moves
+fn moves_of(blocks: &[u32], i: usize, out: bool, loss: u64, limit: u64) -> Moves
 {
     let buys = blocks[i] == 0;
-    let left_out = limit <= loss + (blocks[128 + i] as u64);
+    let left_out = out | (limit <= loss + (blocks[128 + i] as u64));
     let taken = limit <= loss + (blocks[160 + i] as u64);
     Moves {
         must: (left_out & buys) | (taken & !buys),
@@ -271,6 +306,7 @@ fn rest_of(
     blocks: &[u32],
     count: usize,
     at: usize,
+    out: u32,
     loss: u64,
     limit: u64,
     places: [u32; 24],
@@ -281,7 +317,7 @@ fn rest_of(
     let mut i = count;
     while at < i {
         i -= 1;
-        let moves = moves_of(blocks, i, loss, limit);
+        let moves = moves_of(blocks, i, is_out(out, i - at), loss, limit);
         let more = with_block(least, free, moves, blocks, i);
         least = more.least;
         free = more.free;
@@ -343,42 +379,64 @@ fn is_forced(blocks: &[u32], at: usize, set: u32, loss: u64, limit: u64) -> bool
     limit <= loss + (other as u64)
 }
 
-// Whether a completion of the node may be lawful and lose less than the limit. None does where the decided blocks lose as much already, where an hour can
-// no longer balance, where the least gaps within reach come to as much, or where a taken block misses its limit at the best prices within reach.
-fn is_open(
+// Whether a branch is dropped, and its blocks that are out.
+#[derive(Clone, Copy)]
+pub struct Judged {
+    pub dropped: bool,
+    pub out: u32,
+}
+
+// A branch is dropped where no completion can be lawful and lose less than the limit: where the decided blocks lose as much already, where an hour can no
+// longer balance, where the least gaps within reach come to as much, or where a taken block misses its limit at the best prices within reach. An undecided
+// block that misses its limit there is out.
+fn judge(
     low: &[u32],
     gap: &[u32],
     hours: &[u32],
     blocks: &[u32],
     count: u32,
     left: u32,
+    out: u32,
     node: Node,
     limit: u64,
-) -> bool
+) -> Judged
 {
+    let drop = Judged {
+        dropped: true,
+        out: out,
+    };
     if limit <= node.loss {
-        return false;
+        return drop;
     }
     let at = (count - left) as usize;
     if is_forced(blocks, at, node.set, node.loss, limit) {
-        return true;
+        return Judged {
+            dropped: false,
+            out: out,
+        };
     }
     let places = node.places;
-    let rest = rest_of(blocks, count as usize, at, node.loss, limit, places);
+    let rest = rest_of(blocks, count as usize, at, out, node.loss, limit, places);
     let least = rest.least;
     let free = rest.free;
     let reach = reach_of(&hours[0..24], &hours[24..48], least, free);
     if !reach.balances {
-        return false;
+        return drop;
     }
     let from = reach.from;
     let to = reach.to;
     if limit <= node.loss + least_gaps(gap, &hours[48..72], from, to) {
-        return false;
+        return drop;
     }
     let high = prices_at(low, from);
     let lowest = prices_at(low, to);
-    keeps_limits(blocks, at, node.set, high, lowest)
+    if !keeps_limits(blocks, at, node.set, high, lowest) {
+        return drop;
+    }
+    Judged {
+        dropped: false,
+        out: ruled_out(blocks, count as usize, at, out, high, lowest),
+    }
 }
 
 // Whether a twin that is taken before block i is left out.
@@ -401,8 +459,8 @@ fn is_due(blocks: &[u32], i: usize, set: u32) -> bool
     (set >> (behind - 1)) % 2 == 1
 }
 
-// Every way to decide the blocks that are left, each first taken and then left out; of twins, the one that is taken before the other first. Each branch
-// has its own node by value, so nothing is released.
+// Every way to decide the blocks that are left, each first taken and then left out; of twins, the one that is taken before the other first. A block that
+// is out is only left out. Each branch has its own node by value, so nothing is released.
 fn explore(
     low: &[u32],
     gap: &[u32],
@@ -410,13 +468,15 @@ fn explore(
     blocks: &[u32],
     count: u32,
     left: u32,
+    out: u32,
     node: Node,
     best: Best,
 ) -> Best
 {
     crate::twin::count::node();
     let limit = best.limit;
-    if !is_open(low, gap, hours, blocks, count, left, node, limit) {
+    let judged = judge(low, gap, hours, blocks, count, left, out, node, limit);
+    if judged.dropped {
         crate::twin::count::cut();
         return best;
     }
@@ -425,16 +485,17 @@ fn explore(
     }
     let at = count - left;
     let after = left - 1;
+    let still = judged.out / 2;
     let without = leave(blocks, at, node);
-    if is_barred(blocks, at as usize, node.set) {
-        return explore(low, gap, hours, blocks, count, after, without, best);
+    if is_out(judged.out, 0) | is_barred(blocks, at as usize, node.set) {
+        return explore(low, gap, hours, blocks, count, after, still, without, best);
     }
     let with = take(blocks, at, node);
-    let taken = explore(low, gap, hours, blocks, count, after, with, best);
+    let taken = explore(low, gap, hours, blocks, count, after, still, with, best);
     if is_due(blocks, at as usize, node.set) {
         return taken;
     }
-    explore(low, gap, hours, blocks, count, after, without, taken)
+    explore(low, gap, hours, blocks, count, after, still, without, taken)
 }
 
 // The published set: a pass with a small threshold first, doubled until a pass finds a set. A pass that finds one has found the published one.
@@ -456,7 +517,7 @@ pub fn find(low: &[u32], gap: &[u32], hours: &[u32], blocks: &[u32], count: u32)
             set: 0,
             day: day,
         };
-        let found = explore(low, gap, hours, blocks, count, count, root, start);
+        let found = explore(low, gap, hours, blocks, count, count, 0, root, start);
         if found.limit < limit {
             return found;
         }
@@ -467,5 +528,5 @@ pub fn find(low: &[u32], gap: &[u32], hours: &[u32], blocks: &[u32], count: u32)
         set: 0,
         day: day,
     };
-    explore(low, gap, hours, blocks, count, count, root, start)
+    explore(low, gap, hours, blocks, count, count, 0, root, start)
 }

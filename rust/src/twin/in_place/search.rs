@@ -41,6 +41,8 @@ struct State {
     most: ByHour<u16>,
     /// How many blocks of `Search::order` are fixed by their losses or decided.
     fixed: usize,
+    /// The undecided blocks that no completion takes, found by their limits.
+    out: u32,
     /// The blocks whose best prices may have changed since the last test.
     risk: u32,
     /// Whether places have changed since the last test.
@@ -55,6 +57,7 @@ struct Search<'a> {
     /// The blocks in falling order of loss.
     order: Vec<usize>,
     sells: u32,
+    all: u32,
     limit: u64,
     found: bool,
     best: Best,
@@ -86,10 +89,18 @@ impl<'a> Search<'a> {
             choices[i].rank = rank;
         }
         let sells = bits_where(&orders.blocks, |block| block.sells);
-        let state =
-            State { least: [0; 24], most: hours.most, fixed: 0, risk: 0, changed: true, gaps: 0 };
+        let state = State {
+            least: [0; 24],
+            most: hours.most,
+            fixed: 0,
+            out: 0,
+            risk: u32::MAX,
+            changed: true,
+            gaps: 0,
+        };
+        let all = bits_where(&orders.blocks, |_| true);
         let best = Best::default();
-        Search { hours, choices, order, sells, limit: 0, found: false, best, state }
+        Search { hours, choices, order, sells, all, limit: 0, found: false, best, state }
     }
 
     /// Every way to decide the blocks from `at` on, each first taken and then left out.
@@ -103,14 +114,14 @@ impl<'a> Search<'a> {
             return self.decide(set, loss);
         }
         let Choice { taken, left, ahead, behind, .. } = self.choices[at];
-        let is_barred = ahead & !set != 0;
+        let is_only_left = ahead & !set != 0 || self.state.is_out(at);
         let is_due = behind & set != 0;
         let here = self.state;
-        if !is_barred {
+        if !is_only_left {
             self.child(at, true, set | 1 << at, loss + taken);
             self.state = here;
         }
-        if is_barred || !is_due {
+        if is_only_left || !is_due {
             self.child(at, false, set, loss + left);
         }
     }
@@ -127,8 +138,8 @@ impl<'a> Search<'a> {
         if take {
             self.state.risk |= 1 << at;
         }
-        // A fixed block that is decided as it is fixed changes nothing.
-        if choice.rank >= self.state.fixed {
+        // A block that is fixed, or out, is decided as it was before.
+        if choice.rank >= self.state.fixed && !self.state.is_out(at) {
             self.state.decide(choice, take, self.sells);
         }
         self.explore(at + 1, set, loss);
@@ -143,7 +154,10 @@ impl<'a> Search<'a> {
             return true;
         }
         self.fix(at, loss);
-        self.passes(set, loss)
+        self.passes(set, loss) && {
+            self.rule_out(at);
+            true
+        }
     }
 
     /// Whether the other decision of the last block would have lost the limit: then what
@@ -173,7 +187,7 @@ impl<'a> Search<'a> {
                 return;
             }
             if at <= i {
-                self.state.decide(choice, choice.taken == 0, self.sells);
+                self.state.settle(choice, i, choice.taken == 0, self.sells);
             }
             self.state.fixed += 1;
         }
@@ -183,30 +197,56 @@ impl<'a> Search<'a> {
     /// prices of the lowest places in reach, a buy at those of the highest.
     fn could_keep(&mut self, set: u32) -> bool {
         let risk = set & self.state.risk;
-        let (state, hours) = (&self.state, self.hours);
-        let from = || std::array::from_fn(|h| state.least[h].max(hours.first[h]));
-        let to = || std::array::from_fn(|h| state.most[h].min(hours.last[h]));
-        let keeps = self.all_keep(risk & self.sells, from) && self.all_keep(risk & !self.sells, to);
-        self.state.risk = 0;
+        let keeps = self.first_missing(risk & self.sells, true).is_none()
+            && self.first_missing(risk & !self.sells, false).is_none();
+        self.state.risk &= !set;
         keeps
     }
 
-    /// Whether blocks of one side keep their limits at the prices of places.
-    fn all_keep(&self, blocks: u32, places: impl Fn() -> ByHour<u16>) -> bool {
+    /// The first of the blocks of one side that misses its limit at the best prices in
+    /// reach.
+    fn first_missing(&self, blocks: u32, sells: bool) -> Option<usize> {
         if blocks == 0 {
-            return true;
+            return None;
         }
-        let prices = prices_at(self.hours, &places());
-        let mut rest = blocks;
-        while rest != 0 {
-            let choice = &self.choices[rest.trailing_zeros() as usize];
-            let sum = masked_sum(&prices, &choice.mask);
-            if if choice.sells { sum < choice.limit } else { choice.limit < sum } {
-                return false;
+        let prices = self.best_prices(sells);
+        bits_of(blocks).find(|&i| self.choices[i].misses(&prices))
+    }
+
+    /// The prices that are best for a side: a sell's at the lowest places in reach, a
+    /// buy's at the highest.
+    fn best_prices(&self, sells: bool) -> ByHour<u32> {
+        let (state, hours) = (&self.state, self.hours);
+        let from = |h: usize| state.least[h].max(hours.first[h]);
+        let to = |h: usize| state.most[h].min(hours.last[h]);
+        prices_at(hours, &std::array::from_fn(|h| if sells { from(h) } else { to(h) }))
+    }
+
+    /// Leaves out the undecided blocks that miss their limits at the best prices in reach.
+    fn rule_out(&mut self, at: usize) {
+        let undecided = (u32::MAX.checked_shl(at as u32).unwrap_or(0)) & self.all;
+        let tested = self.state.risk & undecided & !self.state.out;
+        let mut missing = 0;
+        for sells in [true, false] {
+            let of_side = tested & if sells { self.sells } else { !self.sells };
+            if of_side != 0 {
+                let prices = self.best_prices(sells);
+                missing |= bits_of(of_side)
+                    .filter(|&i| self.choices[i].misses(&prices))
+                    .map(|i| 1 << i)
+                    .sum::<u32>();
             }
-            rest &= rest - 1;
         }
-        true
+        self.state.risk = 0;
+        for i in bits_of(missing) {
+            let choice = &self.choices[i];
+            if choice.rank >= self.state.fixed {
+                self.state.decide(choice, false, self.sells);
+            } else if choice.taken == 0 && !choice.sells {
+                self.state.raise(choice, self.sells);
+            }
+        }
+        self.state.out |= missing;
     }
 
     /// All blocks are decided: the set is the best so far where it passes as well.
@@ -219,7 +259,53 @@ impl<'a> Search<'a> {
     }
 }
 
+impl Choice {
+    /// Whether the block misses its limit at prices.
+    fn misses(&self, prices: &ByHour<u32>) -> bool {
+        let sum = masked_sum(prices, &self.mask);
+        if self.sells {
+            sum < self.limit
+        } else {
+            self.limit < sum
+        }
+    }
+}
+
+/// The numbers of the bits that are set.
+fn bits_of(bits: u32) -> impl Iterator<Item = usize> {
+    let mut rest = bits;
+    std::iter::from_fn(move || {
+        let bit = (rest != 0).then(|| rest.trailing_zeros() as usize);
+        rest &= rest.wrapping_sub(1);
+        bit
+    })
+}
+
 impl State {
+    fn is_out(&self, i: usize) -> bool {
+        (self.out >> i) & 1 == 1
+    }
+
+    /// Decides a block that its losses fix. One that is out and must be taken has no
+    /// completion left; as in the proved code it moves its places on.
+    fn settle(&mut self, choice: &Choice, i: usize, take: bool, sells: u32) {
+        if !self.is_out(i) {
+            self.decide(choice, take, sells);
+        } else if take && choice.sells {
+            self.raise(choice, sells);
+        }
+    }
+
+    /// Moves the places on for a block that was decided the other way.
+    fn raise(&mut self, choice: &Choice, sells: u32) {
+        for (h, row) in choice.row.into_iter().enumerate() {
+            self.least[h] += row;
+            self.most[h] += row;
+        }
+        self.risk |= choice.near & sells;
+        self.changed = true;
+    }
+
     /// Takes a block or leaves it out. A sell that is taken and a buy that is left out
     /// raise the least places, the others lower the most.
     fn decide(&mut self, choice: &Choice, take: bool, sells: u32) {

@@ -1,14 +1,24 @@
--- `search::is_open` meets its contract: one law for each reason to drop a branch. Assumes nothing.
+-- `search::judge` meets its contract: one law for each reason to drop a branch, and one for what is out of it. Assumes nothing.
 use mathlib.Core.Path.{_≡_, refl, sym, _∙_}
 use lib.ListN.{length, length-take, length-drop}
 use native.Mathlib.Omega.{arith}
 use borrow.Author.Tests.{not-true, not-false}
-use Rattle.rules.proofs.Tests.{clash}
 use Rattle.search.specs.Search.{turnOf}
-use Rattle.search.proofs.ReachLaws.{dropped-by-loss, dropped-unbalanced, dropped-by-gaps, dropped-by-limit, to-fits, to-small, from-small}
+use Rattle.search.proofs.ReachLaws.{
+  dropped-by-loss,
+  dropped-unbalanced,
+  dropped-by-gaps,
+  dropped-by-limit,
+  judged-dropped,
+  judged-as-it-was,
+  judged-open,
+  to-fits,
+  to-small,
+  from-small,
+}
 use borrow.Author.Needs.{needs}
-use Rattle.search.proofs.is_open.Statement.{statement}
-use Rattle.search.proofs.is_open.Tie as tie
+use Rattle.search.proofs.judge.Statement.{statement}
+use Rattle.search.proofs.judge.Tie as tie
 
 -- arrays of 24
 from-size : (f : tie.After-reach-of) → length (f .reach-of .result .from) ≡ 24
@@ -21,7 +31,7 @@ turn-size : (s : tie.Start) → length (turnOf (s .args .hours .now)) ≡ 24
 turn-size s = simp (length-take, length-drop) (omega (arith, s .pre .1))
 
 returns : tie.Need-returns
-returns c = λ _. dropped-by-loss _ _ _ _ _ _ _ _ _ _ (c .if1 .taken)
+returns c = judged-dropped _ _ _ _ _ _ _ _ _ _ _ _ (dropped-by-loss _ _ _ _ _ _ _ _ _ _ _ (c .if1 .taken))
 
 sub-at : tie.Need-sub-at
 sub-at c = search needs
@@ -35,7 +45,7 @@ is-forced-requires c κs =
     (s .pre .0 .blocksFit, omega (arith, s .pre .2), omega (arith, s .pre .4 .lossFits, s .pre .2))
 
 returns-2 : tie.Need-returns-2
-returns-2 c = λ e. clash refl e
+returns-2 c = judged-as-it-was _ _ _ _ _ _ _ _ _ _ _
 
 rest-of-requires : tie.Need-rest-of-requires
 rest-of-requires c κs =
@@ -67,7 +77,9 @@ reach-of-requires c κs =
     (s .firstHours, s .lastHours, r .leastFits, r .freeFits)
 
 returns-3 : tie.Need-returns-3
-returns-3 c = λ _. dropped-unbalanced _ _ _ _ _ _ _ _ _ _ _ _ (c .before .before .before .before .before .before .before .rest-of .ensures) _ _ _ (c .before .before .reach-of .ensures) (not-true _ (c .if3 .taken))
+returns-3 c =
+    judged-dropped _ _ _ _ _ _ _ _ _ _ _ _
+    (dropped-unbalanced _ _ _ _ _ _ _ _ _ _ _ _ _ (c .before .before .before .before .before .before .before .rest-of .ensures) _ _ _ (c .before .before .reach-of .ensures) (not-true _ (c .if3 .taken)))
 
 sub-least-gaps : tie.Need-sub-least-gaps
 sub-least-gaps c = search needs
@@ -91,7 +103,8 @@ add-if4 c =
 returns-4 : tie.Need-returns-4
 returns-4 c =
     let g = c .before .before .least-gaps .ensures .0 in
-    λ _. dropped-by-gaps _ _ _ _ _ _ _ _ _ _ _ _ (c .before .before .before .before .before .before .before .before .before .before .before .before .before .rest-of .ensures) _ _ _ (c .before .before .before .before .before .before .before .before .reach-of .ensures) (omega (arith, c .if4 .taken, g))
+    judged-dropped _ _ _ _ _ _ _ _ _ _ _ _
+    (dropped-by-gaps _ _ _ _ _ _ _ _ _ _ _ _ _ (c .before .before .before .before .before .before .before .before .before .before .before .before .before .rest-of .ensures) _ _ _ (c .before .before .before .before .before .before .before .before .reach-of .ensures) (omega (arith, c .if4 .taken, g)))
 
 prices-at-requires : tie.Need-prices-at-requires
 prices-at-requires c κs =
@@ -111,16 +124,28 @@ prices-at-requires-2 c κs =
 keeps-limits-requires : tie.Need-keeps-limits-requires
 keeps-limits-requires c κs =
     let s = c .before .before .before .before .before .before .before .before .before .before .before .before .before .before .before .before .before .before .before .before .before .before .before .before .before in
-    (s .pre .0 .blocksFit .columns, omega (arith, s .pre .2), c .before .prices-at .ensures .small, c .prices-at2 .ensures .small)
+    (s .pre .0 .blocksFit .columns, omega (arith, s .pre .2), search needs, search needs)
 
 returns-5 : tie.Need-returns-5
 returns-5 c =
-    let s = c .before .before .before .before .before .before .before .before .before .before .before .before .before .before .before .before .before .before .before .before .before .before .before .before .before .before in
-    λ e. dropped-by-limit _ _ _ _ _ _ _ _ _ _ _ _ (c .before .before .before .before .before .before .before .before .before .before .before .before .before .before .before .before .rest-of .ensures) _ _ _ (c .before .before .before .before .before .before .before .before .before .before .before .reach-of .ensures) _ _ (c .before .before .prices-at .ensures) (c .before .prices-at2 .ensures)
-    (not-false _ (c .before .before .before .before .before .before .before .before .before .if3 .left)) (s .pre .0 .lastFits) (sym (c .keeps-limits .ensures) ∙ e)
+    let s = c .before .before .before .before .before .before .before .before .before .before .before .before .before .before .before .before .before .before .before .before .before .before .before .before .before .before .before in
+    judged-dropped _ _ _ _ _ _ _ _ _ _ _ _
+    (dropped-by-limit _ _ _ _ _ _ _ _ _ _ _ _ _ (c .before .before .before .before .before .before .before .before .before .before .before .before .before .before .before .before .before .rest-of .ensures) _ _ _ (c .before .before .before .before .before .before .before .before .before .before .before .before .reach-of .ensures) _ _ (c .before .before .before .prices-at .ensures) (c .before .before .prices-at2 .ensures)
+    (not-false _ (c .before .before .before .before .before .before .before .before .before .before .if3 .left)) (s .pre .0 .lastFits) (sym (c .before .keeps-limits .ensures) ∙ not-true _ (c .if5 .taken)))
 
-pub is-open-spec : {M : Type 1} → statement M
-is-open-spec =
+ruled-out-requires : tie.Need-ruled-out-requires
+ruled-out-requires c κs =
+    let s = c .before .before .before .before .before .before .before .before .before .before .before .before .before .before .before .before .before .before .before .before .before .before .before .before .before .before .before in
+    (s .pre .0 .blocksFit .columns, s .pre .2, omega (arith, s .pre .3), search needs, search needs)
+
+returns-6 : tie.Need-returns-6
+returns-6 c =
+    let s = c .before .before .before .before .before .before .before .before .before .before .before .before .before .before .before .before .before .before .before .before .before .before .before .before .before .before .before .before in
+    judged-open _ _ _ _ _ _ _ _ _ _ _ _ _ (c .before .before .before .before .before .before .before .before .before .before .before .before .before .before .before .before .before .before .rest-of .ensures) _ _ _ (c .before .before .before .before .before .before .before .before .before .before .before .before .before .reach-of .ensures) _ _ (c .before .before .before .before .prices-at .ensures) (c .before .before .before .prices-at2 .ensures)
+    (not-false _ (c .before .before .before .before .before .before .before .before .before .before .before .if3 .left)) (s .pre .0 .lastFits) (s .pre .3) _ (c .ruled-out .ensures)
+
+pub judge-spec : {M : Type 1} → statement M
+judge-spec =
     tie.close
     (tie.spec
     returns
@@ -146,4 +171,6 @@ is-open-spec =
     prices-at-requires
     prices-at-requires-2
     keeps-limits-requires
-    returns-5)
+    returns-5
+    ruled-out-requires
+    returns-6)
