@@ -7,7 +7,7 @@ use mathlib.Core.List.{List, [], _∷_, _++_}
 use native.Mathlib.Omega.{arith}
 use lib.Dec.{eqb}
 use lib.ListN.{length, take, getD, length-map}
-use lib.Seq.{ext-getD, take-all, take-take, getD-take, length-take-le}
+use lib.Seq.{ext-getD, take-all, getD-take, length-take-le}
 use Rattle.book.specs.Records.{recordCount, blockAt}
 use Rattle.book.specs.Chains.{blockChain}
 use Rattle.book.specs.Refusals.{Accepted}
@@ -22,6 +22,7 @@ use Rattle.rules.proofs.DayLaws.{executed-in, value-by-hour, cost-by-hour}
 use Rattle.orders.specs.Bridge.{dayFrom}
 use Rattle.orders.specs.Columns.{blockRecords, byHour, StepColumns, BlockColumns, blocksFrom}
 use Rattle.orders.proofs.RecordLaws.{blocks-all}
+use Rattle.orders.proofs.FrontLaws.{step-records-front, block-records-front, blocks-in-front}
 use Rattle.orders.proofs.HourLaws.{hour-from-columns}
 use Rattle.orders.proofs.PlaceLaws.{block-place}
 use Rattle.orders.proofs.BridgeLaws.{blocks-from-columns, block-count, day-blocks, prices-in-range, hours-in-range}
@@ -97,7 +98,7 @@ rows-twice records values brecords bquantities bvals start rows₀ rows set none
 -- AN ACCEPTED BOOK with its columns, the published set and its prices
 module _ (b ends records sides prices quantities brecords bsides bhours bprices bquantities middles : List ℕ) (set : ℕ) (a : Accepted b)
     (columns : StepColumns b ends records sides prices quantities)
-    (blocks : BlockColumns b (length bsides) brecords bsides bhours bprices bquantities)
+    (blocks : BlockColumns (length bsides) b (length bsides) brecords bsides bhours bprices bquantities)
     (chosen : decisions (length bsides) set ≡ outcome (dayFrom b))
     (priced : (h : ℕ) → 1 ≤ h → h ≤ 24 → ofHour middles h ≡ setPrices (dayFrom b) (publishedBlocks b) h)
     (sizeR : length bsides ≡ length brecords) (sizeH : length bsides ≡ length bhours) (sizeP : length bsides ≡ length bprices)
@@ -198,7 +199,7 @@ module _ (b ends records sides prices quantities brecords bsides bhours bprices 
         ∙ sym (block-count b (length bsides) brecords bsides bhours bprices bquantities blocks a) ∙ rw (day-blocks b, length-map)
 
     brecords-here : brecords ≡ blockRecords b
-    brecords-here = sym (take-all (length bsides) brecords (omega arith)) ∙ blocks .recordsAre
+    brecords-here = sym (take-all (length bsides) brecords (omega arith)) ∙ block-records-front blocks
 
     brecords-are : brecords ≡ blockChain b
     brecords-are = brecords-here ∙ blocks-all b a
@@ -218,7 +219,7 @@ module _ (b ends records sides prices quantities brecords bsides bhours bprices 
       row-is : (k : ℕ) → k < 2048 → rowAt rows k ≡ rowOf b k
       row-is k small =
           let n = columns .endsAt 24 (omega arith) in
-          let r : take (getD ends 24 0) records ≡ byHour b 24 = rw n (columns .recordsAre) in
+          let r : take (getD ends 24 0) records ≡ byHour b 24 = rw n (step-records-front columns) in
           rowed bvalues (rw brecords-are (blockRows-length b (blockChain b) (outcome (dayFrom b)) outcome-count)) bvalues-at k small
           ∙ rw (r, values-are, brecords-here) (rows-by-hour b a bvalues (rw (chosen-is b)) k)
 
@@ -255,22 +256,10 @@ module _ (count : ℕ) (records sides hours prices quantities : List ℕ) (few :
   pub fronts-prices : length (take count sides) ≡ length (take count prices)
   fronts-prices = length-take-le count sides ls ∙ sym (length-take-le count prices lp)
 
-  twice : (l : List ℕ) → take count (take count l) ≡ take count l
-  twice l = take-take count count l (omega arith)
-
-  pub fronts-columns : (b : List ℕ) → BlockColumns b count records sides hours prices quantities →
-      BlockColumns b (length (take count sides)) (take count records) (take count sides) (take count hours) (take count prices) (take count quantities)
-  fronts-columns b c =
-      rw (length-take-le count sides ls)
-      record {
-        counted = c .counted;
-        few = c .few;
-        recordsAre = twice records ∙ c .recordsAre;
-        sidesAre = twice sides ∙ c .sidesAre;
-        hoursAre = twice hours ∙ c .hoursAre;
-        pricesAre = twice prices ∙ c .pricesAre;
-        quantitiesAre = twice quantities ∙ c .quantitiesAre;
-      }
+  pub fronts-columns : (b : List ℕ) → BlockColumns 32 b count records sides hours prices quantities →
+      BlockColumns (length (take count sides)) b (length (take count sides)) (take count records) (take count sides) (take count hours)
+      (take count prices) (take count quantities)
+  fronts-columns b c = rw (length-take-le count sides ls) (blocks-in-front c)
 
   pub fronts-chosen : (set : ℕ) (d : List Bool) → decisions count set ≡ d → decisions (length (take count sides)) set ≡ d
   fronts-chosen set d e = rw (length-take-le count sides ls) e

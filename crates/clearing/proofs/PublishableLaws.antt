@@ -59,7 +59,7 @@ module _ (b : List ℕ) (a : Accepted b) where
         }
 
     pub publishable : (blocks : Blocks) (day : code-day.Day) (count : ℕ) (result : List ℕ) →
-        BlockColumns b (blocks .count) (blocks .records) (blocks .sides) (blocks .hours) (blocks .prices) (blocks .quantities) →
+        BlockColumns 32 b (blocks .count) (blocks .records) (blocks .sides) (blocks .hours) (blocks .prices) (blocks .quantities) →
         DayOf (dayFrom b) (outcome (dayFrom b)) day → count ≡ recordCount b → length result ≡ 196 + 4 * count →
         getD ends 24 0 ≤ length records → getD ends 24 0 ≤ length sides → getD ends 24 0 ≤ length prices → getD ends 24 0 ≤ length quantities →
         Publishable count ends records sides prices quantities blocks day result

@@ -149,14 +149,14 @@ abbrev pub PublishedFrom : (count : ℕ) (ends records sides prices quantities b
     (middles result : List ℕ) → Type 0
 PublishedFrom count ends records sides prices quantities brecords bsides bhours bprices bquantities set middles result =
     (b : List ℕ) → Accepted b → StepColumns b ends records sides prices quantities →
-    BlockColumns b (length bsides) brecords bsides bhours bprices bquantities → decisions (length bsides) set ≡ outcome (dayFrom b) →
+    BlockColumns (length bsides) b (length bsides) brecords bsides bhours bprices bquantities → decisions (length bsides) set ≡ outcome (dayFrom b) →
     ((h : ℕ) → 1 ≤ h → h ≤ 24 → ofHour middles h ≡ setPrices (dayFrom b) (taken (dayFrom b .blocks) (outcome (dayFrom b))) h) →
     count ≡ recordCount b → result ≡ resultBytes b
 
 abbrev pub PublishedIn : (count : ℕ) (ends records sides prices quantities : List ℕ) (blocks : Blocks) (set : ℕ) (day : code-day.Day) (result : List ℕ) → Type 0
 PublishedIn count ends records sides prices quantities blocks set day result =
     (b : List ℕ) → Accepted b → StepColumns b ends records sides prices quantities →
-    BlockColumns b (blocks .count) (blocks .records) (blocks .sides) (blocks .hours) (blocks .prices) (blocks .quantities) →
+    BlockColumns 32 b (blocks .count) (blocks .records) (blocks .sides) (blocks .hours) (blocks .prices) (blocks .quantities) →
     decisions (blocks .count) set ≡ outcome (dayFrom b) → DayOf (dayFrom b) (outcome (dayFrom b)) day → count ≡ recordCount b →
     result ≡ resultBytes b
 

@@ -18,6 +18,7 @@ use Rattle.rules.specs.Hour.{when}
 use Rattle.rules.specs.Contender.{PricesInRange, HoursInRange}
 use Rattle.orders.specs.Bridge.{stepFrom, orderFrom, blockFrom, ordersOf, dayFrom}
 use Rattle.orders.specs.Columns.{blockRecords, blockHoursAt, blockPriceAt, blockQuantityAt, BlockColumns, blockOf, blocksFrom}
+use Rattle.orders.proofs.FrontLaws.{block-records-front, block-sides-front, block-hours-front, block-prices-front, block-quantities-front}
 use Rattle.orders.proofs.RecordLaws.{blocks-all}
 use Rattle.orders.proofs.HourLaws.{side-same}
 
@@ -97,17 +98,24 @@ blocks-from b [] = refl
 blocks-from b (k ∷ l) = rw (side-same (sideByte b k), blocks-from b l)
 
 -- The day's blocks are those of the first `count` places of the columns
-pub blocks-from-columns : (b : List ℕ) (count : ℕ) (records sides hours prices quantities : List ℕ)
-    → BlockColumns b count records sides hours prices quantities → Accepted b
+pub blocks-from-columns : {n : ℕ} (b : List ℕ) (count : ℕ) (records sides hours prices quantities : List ℕ)
+    → BlockColumns n b count records sides hours prices quantities → Accepted b
     → dayFrom b .blocks
     ≡ blocksFrom b (take count records) (take count sides) (take count hours) (take count prices) (take count quantities)
 blocks-from-columns b count records sides hours prices quantities c a =
     day-blocks b
-    ∙ rw (← blocks-all b a, c .recordsAre, c .sidesAre, c .hoursAre, c .pricesAre, c .quantitiesAre) (blocks-from b (blockRecords b))
+    ∙ rw (
+      ← blocks-all b a,
+      block-records-front c,
+      block-sides-front c,
+      block-hours-front c,
+      block-prices-front c,
+      block-quantities-front c,
+    ) (blocks-from b (blockRecords b))
 
 -- .. and there are `count` of them
-pub block-count : (b : List ℕ) (count : ℕ) (records sides hours prices quantities : List ℕ)
-    → BlockColumns b count records sides hours prices quantities → Accepted b → length (dayFrom b .blocks) ≡ count
+pub block-count : {n : ℕ} (b : List ℕ) (count : ℕ) (records sides hours prices quantities : List ℕ)
+    → BlockColumns n b count records sides hours prices quantities → Accepted b → length (dayFrom b .blocks) ≡ count
 block-count b count records sides hours prices quantities c a =
     rw (day-blocks b, length-map, ← blocks-all b a) (sym (c .counted))
 

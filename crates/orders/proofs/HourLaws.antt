@@ -17,6 +17,7 @@ use Rattle.rules.proofs.Tests.{by-eq}
 use Rattle.orders.specs.Bridge.{sideFrom, stepFrom, orderFrom, ordersOf, dayFrom}
 use Rattle.orders.specs.Columns.{stepRecords, inHour, byHour, priceAt, quantityAt, StepColumns, sideFor, stepsFrom}
 use Rattle.orders.proofs.ColumnLaws.{same, map-same}
+use Rattle.orders.proofs.FrontLaws.{step-records-front, step-sides-front, step-prices-front, step-quantities-front}
 use Rattle.orders.proofs.RecordLaws.{steps-all, step-records-few, byHour-more, byHour-rise, byHour-front, byHour-fit, byHour-length}
 
 -- THE ENDS
@@ -78,19 +79,19 @@ hour-column f b ends column at e (suc h) first last =
 pub hour-records : (b ends records sides prices quantities : List ℕ) → StepColumns b ends records sides prices quantities
     → (h : ℕ) → 1 ≤ h → h ≤ 24 → slice (getD ends (h - 1) 0) (getD ends h 0) records ≡ inHour b h (stepRecords b)
 hour-records b ends records sides prices quantities c h first last =
-    hour-column same b ends records (c .endsAt) (c .recordsAre ∙ sym (map-same (byHour b 24))) h first last ∙ map-same (inHour b h (stepRecords b))
+    hour-column same b ends records (c .endsAt) (step-records-front c ∙ sym (map-same (byHour b 24))) h first last ∙ map-same (inHour b h (stepRecords b))
 
 pub hour-sides : (b ends records sides prices quantities : List ℕ) → StepColumns b ends records sides prices quantities
     → (h : ℕ) → 1 ≤ h → h ≤ 24 → slice (getD ends (h - 1) 0) (getD ends h 0) sides ≡ map (sideByte b) (inHour b h (stepRecords b))
-hour-sides b ends records sides prices quantities c = hour-column (sideByte b) b ends sides (c .endsAt) (c .sidesAre)
+hour-sides b ends records sides prices quantities c = hour-column (sideByte b) b ends sides (c .endsAt) (step-sides-front c)
 
 pub hour-prices : (b ends records sides prices quantities : List ℕ) → StepColumns b ends records sides prices quantities
     → (h : ℕ) → 1 ≤ h → h ≤ 24 → slice (getD ends (h - 1) 0) (getD ends h 0) prices ≡ map (priceAt b) (inHour b h (stepRecords b))
-hour-prices b ends records sides prices quantities c = hour-column (priceAt b) b ends prices (c .endsAt) (c .pricesAre)
+hour-prices b ends records sides prices quantities c = hour-column (priceAt b) b ends prices (c .endsAt) (step-prices-front c)
 
 pub hour-quantities : (b ends records sides prices quantities : List ℕ) → StepColumns b ends records sides prices quantities
     → (h : ℕ) → 1 ≤ h → h ≤ 24 → slice (getD ends (h - 1) 0) (getD ends h 0) quantities ≡ map (quantityAt b) (inHour b h (stepRecords b))
-hour-quantities b ends records sides prices quantities c = hour-column (quantityAt b) b ends quantities (c .endsAt) (c .quantitiesAre)
+hour-quantities b ends records sides prices quantities c = hour-column (quantityAt b) b ends quantities (c .endsAt) (step-quantities-front c)
 
 -- THE RULES' STEPS OF AN HOUR
 -- the side's byte names the rules' side

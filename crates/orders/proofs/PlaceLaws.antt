@@ -13,6 +13,8 @@ use Rattle.book.proofs.Accepted.{StepRecord, BlockRecord}
 use Rattle.orders.specs.Columns.{blockRecords, byHour, priceAt, quantityAt, blockHoursAt, blockPriceAt, blockQuantityAt}
 use Rattle.orders.specs.Columns.{StepColumns, BlockColumns}
 use Rattle.orders.proofs.ColumnLaws.{same, map-same}
+use Rattle.orders.proofs.FrontLaws.{step-records-front, step-sides-front, step-prices-front, step-quantities-front}
+use Rattle.orders.proofs.FrontLaws.{block-records-front, block-sides-front, block-hours-front, block-prices-front, block-quantities-front}
 use Rattle.orders.proofs.RecordLaws.{byHour-each, step-each, block-each}
 
 map-at : (f : ℕ → ℕ) (l : List ℕ) (i : ℕ) → i < length l → getD (map f l) i 0 ≡ f (getD l i 0)
@@ -52,13 +54,13 @@ step-place b ends records sides prices quantities c a i h =
     let l = byHour b 24 in
     let n = length l in
     let g : i < n = (let e = c .endsAt 24 (omega arith) in omega arith) in
-    let k : getD records i 0 ≡ getD l i 0 = place-of same n l records refl (c .recordsAre ∙ sym (map-same l)) i g in
+    let k : getD records i 0 ≡ getD l i 0 = place-of same n l records refl (step-records-front c ∙ sym (map-same l)) i g in
     rw k
     (step-placed b (getD l i 0) _ _ _
     (each-place (StepRecord b) l i 0 (byHour-each (StepRecord b) b 24 (step-each b a)) g)
-    (place-of (sideByte b) n l sides refl (c .sidesAre) i g)
-    (place-of (priceAt b) n l prices refl (c .pricesAre) i g)
-    (place-of (quantityAt b) n l quantities refl (c .quantitiesAre) i g))
+    (place-of (sideByte b) n l sides refl (step-sides-front c) i g)
+    (place-of (priceAt b) n l prices refl (step-prices-front c) i g)
+    (place-of (quantityAt b) n l quantities refl (step-quantities-front c) i g))
 
 -- A block's numbers at one place of the columns: those of record k, which is a block of the book, each in its range
 pub record BlockPlace (b : List ℕ) (k side hours price quantity : ℕ) : Type 0 where
@@ -88,17 +90,17 @@ block-placed b k side hours price quantity r s x p q =
       quantityRange = rw q (r .fields .quantity);
     }
 
-pub block-place : (b : List ℕ) (count : ℕ) (records sides hours prices quantities : List ℕ)
-    → BlockColumns b count records sides hours prices quantities → Accepted b → (i : ℕ) → i < count
+pub block-place : {n : ℕ} (b : List ℕ) (count : ℕ) (records sides hours prices quantities : List ℕ)
+    → BlockColumns n b count records sides hours prices quantities → Accepted b → (i : ℕ) → i < count
     → BlockPlace b (getD records i 0) (getD sides i 0) (getD hours i 0) (getD prices i 0) (getD quantities i 0)
 block-place b count records sides hours prices quantities c a i h =
     let l = blockRecords b in
     let e = c .counted in
-    let k : getD records i 0 ≡ getD l i 0 = place-of same count l records e (c .recordsAre ∙ sym (map-same l)) i h in
+    let k : getD records i 0 ≡ getD l i 0 = place-of same count l records e (block-records-front c ∙ sym (map-same l)) i h in
     rw k
     (block-placed b (getD l i 0) _ _ _ _
     (each-place (BlockRecord b) l i 0 (block-each b a) (omega arith))
-    (place-of (sideByte b) count l sides e (c .sidesAre) i h)
-    (place-of (blockHoursAt b) count l hours e (c .hoursAre) i h)
-    (place-of (blockPriceAt b) count l prices e (c .pricesAre) i h)
-    (place-of (blockQuantityAt b) count l quantities e (c .quantitiesAre) i h))
+    (place-of (sideByte b) count l sides e (block-sides-front c) i h)
+    (place-of (blockHoursAt b) count l hours e (block-hours-front c) i h)
+    (place-of (blockPriceAt b) count l prices e (block-prices-front c) i h)
+    (place-of (blockQuantityAt b) count l quantities e (block-quantities-front c) i h))

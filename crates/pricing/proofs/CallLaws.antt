@@ -75,7 +75,7 @@ side-le t buy q = (when-le t q, omega (arith, when-zero t))
 side-le t sell q = (omega (arith, when-zero t), when-le t q)
 
 module _ (b : List ℕ) (a : Accepted b) (count : ℕ) (records sides hours prices quantities : List ℕ)
-    (columns : BlockColumns b count records sides hours prices quantities)
+    (columns : BlockColumns 32 b count records sides hours prices quantities)
     (er : length records ≡ 32) (es : length sides ≡ 32) (eh : length hours ≡ 32) (ep : length prices ≡ 32) (eq : length quantities ≡ 32)
     (set h sales bought : ℕ) (trades : TradesOf (take count sides) (take count hours) (take count quantities) set h sales bought) where
   size : (l : List ℕ) → length l ≡ 32 → length (take count l) ≡ count

@@ -15,6 +15,7 @@ use Rattle.orders.specs.Bridge.{dayFrom}
 use Rattle.orders.specs.Columns.{StepColumns, BlockColumns, sideFor, stepsFrom, blockOf, blocksFrom}
 use Rattle.orders.specs.Columns.{blockRecords, blockHoursAt, blockPriceAt, blockQuantityAt}
 use Rattle.orders.proofs.BridgeLaws.{BlockInRange, blocks-in-range, prices-in-range, hours-in-range, blocks-from-columns, block-count, hour-count}
+use Rattle.orders.proofs.FrontLaws.{block-records-front, block-sides-front, block-hours-front, block-prices-front, block-quantities-front}
 use Rattle.orders.proofs.HourLaws.{hour-from-columns, ends-rise, ends-fit}
 use Rattle.orders.proofs.PlaceLaws.{block-place}
 use Rattle.rules.specs.Orders.{Side, buy, sell, Step, Block}
@@ -116,7 +117,7 @@ slice-between a e l k = let z : a + (e - a) ≡ e = omega arith in rw (take-drop
 -- THE DAY OF AN ACCEPTED BOOK
 module _ (b ends stepRecords sides prices quantities : List ℕ) (count : ℕ) (records blockSides hours blockPrices blockQuantities : List ℕ)
     (a : Accepted b) (sc : StepColumns b ends stepRecords sides prices quantities)
-    (bc : BlockColumns b count records blockSides hours blockPrices blockQuantities) where
+    (bc : BlockColumns 32 b count records blockSides hours blockPrices blockQuantities) where
   abbrev blockHere : ℕ → Block
   blockHere j = blockOf (number b (getD records j 0)) (getD blockSides j 0) (getD hours j 0) (getD blockPrices j 0) (getD blockQuantities j 0)
 
@@ -124,11 +125,11 @@ module _ (b ends stepRecords sides prices quantities : List ℕ) (count : ℕ) (
   block-next j k =
       let n = sym (bc .counted) in
       let l = blockRecords b in
-      let lr : length (take count records) ≡ count = ap length (bc .recordsAre) ∙ n in
-      let ls : length (take count blockSides) ≡ count = ap length (bc .sidesAre) ∙ length-map l (sideByte b) ∙ n in
-      let lh : length (take count hours) ≡ count = ap length (bc .hoursAre) ∙ length-map l (blockHoursAt b) ∙ n in
-      let lp : length (take count blockPrices) ≡ count = ap length (bc .pricesAre) ∙ length-map l (blockPriceAt b) ∙ n in
-      let lq : length (take count blockQuantities) ≡ count = ap length (bc .quantitiesAre) ∙ length-map l (blockQuantityAt b) ∙ n in
+      let lr : length (take count records) ≡ count = ap length (block-records-front bc) ∙ n in
+      let ls : length (take count blockSides) ≡ count = ap length (block-sides-front bc) ∙ length-map l (sideByte b) ∙ n in
+      let lh : length (take count hours) ≡ count = ap length (block-hours-front bc) ∙ length-map l (blockHoursAt b) ∙ n in
+      let lp : length (take count blockPrices) ≡ count = ap length (block-prices-front bc) ∙ length-map l (blockPriceAt b) ∙ n in
+      let lq : length (take count blockQuantities) ≡ count = ap length (block-quantities-front bc) ∙ length-map l (blockQuantityAt b) ∙ n in
       let t = blocks-at b (take count records) (take count blockSides) (take count hours) (take count blockPrices) (take count blockQuantities) j
       (omega arith) (omega arith) (omega arith) (omega arith) (omega arith) in
       rw (blocks-from-columns b count records blockSides hours blockPrices blockQuantities bc a)
@@ -400,7 +401,7 @@ steps-held b ends stepRecords sides prices quantities c s p q = record {
 }
 
 pub blocks-held : (b : List ℕ) (count : ℕ) (records sides hours prices quantities : List ℕ) →
-    BlockColumns b count records sides hours prices quantities → Accepted b → BlocksHeld count prices quantities
+    BlockColumns 32 b count records sides hours prices quantities → Accepted b → BlocksHeld count prices quantities
 blocks-held b count records sides hours prices quantities c a = record {
   few = c .few;
   pricesFit = λ i k. block-place b count records sides hours prices quantities c a i k .priceRange .1;

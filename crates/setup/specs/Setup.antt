@@ -174,4 +174,4 @@ abbrev pub ReadyFor : (sides prices quantities ends : List ℕ) (count : ℕ) (r
     (low gap first last turn columns : List ℕ) → Type 0
 ReadyFor sides prices quantities ends count records blockSides hours blockPrices blockQuantities low gap first last turn columns =
     (b stepRecords : List ℕ) → Accepted b → StepColumns b ends stepRecords sides prices quantities →
-    BlockColumns b count records blockSides hours blockPrices blockQuantities → Ready b low gap first last turn columns count
+    BlockColumns 32 b count records blockSides hours blockPrices blockQuantities → Ready b low gap first last turn columns count

@@ -5,6 +5,7 @@ use native.Mathlib.Omega.{arith}
 use lib.ListN.{length, take}
 use lib.Seq.{take-length}
 use Rattle.orders.specs.Columns.{blockRecords}
+use Rattle.orders.proofs.FrontLaws.{block-records-front}
 use Rattle.sheet.specs.Lines.{blockLinesIn}
 use Rattle.sheet.specs.Text.{Put}
 use Rattle.sheet.proofs.LineLaws.{put-none, no-blocks, block-room, block-put}
@@ -43,7 +44,7 @@ put-block-requires c κs =
     let blocks = c .before .before .before .before .before .before .blocks-of in
     let loop = c .before .before .before .before .loop in
     rw (c .number-of .ensures, c .before .before .is-taken .ensures)
-    (block-room _ _ _ _ _ (loop .i) (blocks .ensures .recordsAre) (blocks .ensures .counted) (search needs) _ _ (start .pre) _ _ (loop .inv .2))
+    (block-room _ _ _ _ _ (loop .i) (block-records-front (blocks .ensures)) (blocks .ensures .counted) (search needs) _ _ (start .pre) _ _ (loop .inv .2))
 
 add-i : tie.Need-add-i Inv-loop μ-loop
 add-i c = search needs
@@ -59,7 +60,7 @@ loop-again c =
     let line = c .before .before .put-block in (
       search needs,
       line .kept .0 ∙ loop .inv .1,
-      block-put _ _ _ _ _ (loop .i) (blocks .ensures .recordsAre) (blocks .ensures .counted) (search needs) _ _ (start .pre) _ _ (loop .inv .2) _ _
+      block-put _ _ _ _ _ (loop .i) (block-records-front (blocks .ensures)) (blocks .ensures .counted) (search needs) _ _ (start .pre) _ _ (loop .inv .2) _ _
           (rw (c .before .before .before .number-of .ensures, c .before .before .before .before .before .is-taken .ensures) at (line .ensures)),
     )
 
