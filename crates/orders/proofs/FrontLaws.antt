@@ -31,7 +31,8 @@ module _ {b ends records sides prices quantities : List ℕ} (c : StepColumns b 
   step-quantities-front = front-of 2048 _ (quantityAt b) (byHour b 24) quantities refl (c .quantitiesAre)
 
 -- .. and its blocks, in arrays of any size
-module _ {n : ℕ} {b : List ℕ} {count : ℕ} {records sides hours prices quantities : List ℕ} (c : BlockColumns n b count records sides hours prices quantities) where
+module _ {n : ℕ} {b : List ℕ} {count : ℕ} {records sides hours prices quantities : List ℕ}
+    (c : BlockColumns n b count records sides hours prices quantities) where
   pub block-records-front : take count records ≡ blockRecords b
   block-records-front = padded-front n count (blockRecords b) records (sym (c .counted)) (c .recordsAre)
 
