@@ -1,14 +1,12 @@
 -- THE ROWS OF THE RECORDS, written hour by hour, are the rows of the definition: each step's executed quantity, taken from the list of its hour,
 -- stands beside its record, and so does each block's row. Every row has room in 4 bytes. Assumes nothing.
-use Prim.Native.Nat.{ℕ, zero, suc, _+_, _^_, _≤_, _<_}
+use Prim.Native.Nat.{ℕ, zero, suc, _^_, _≤_, _<_}
 use mathlib.Core.Bool.{Bool, true, false, cond, and-false}
 use mathlib.Core.Path.{_≡_, refl, sym, ap, _∙_}
 use mathlib.Core.List.{List, [], _∷_, _++_, map}
 use native.Mathlib.Omega.{arith}
-use native.Mathlib.Numerals.{add-one}
 use lib.Dec.{eqb}
 use lib.ListN.{length, drop, getD, length-append, length-map}
-use lib.Seq.{ext-getD}
 use borrow.Author.Tests.{eq-eqb, ne-eqb, eqb-true, eqb-false, lt-leb}
 use Rattle.book.specs.Tests.{within, someIn, member}
 use Rattle.rules.specs.Orders.{limits}
@@ -115,10 +113,6 @@ unfoldable pub hourAfterHour : (ℕ → List ℕ) → ℕ → List ℕ
 hourAfterHour q zero = []
 hourAfterHour q (suc n) = hourAfterHour q n ++ q (suc n)
 
-pub hourAfterHour-more : (q : ℕ → List ℕ) (n : ℕ) → hourAfterHour q (n + 1) ≡ hourAfterHour q n ++ q (n + 1)
-unfolding hourAfterHour
-hourAfterHour-more q n = rw add-one
-
 module _ (b : List ℕ) (q : ℕ → List ℕ) (sizes : (h : ℕ) → length (q h) ≡ length (inHour b h (stepRecords b))) where
   pub hourAfterHour-length : (n : ℕ) → length (byHour b n) ≡ length (hourAfterHour q n)
   unfolding byHour hourAfterHour
@@ -171,10 +165,6 @@ executedIn b h = execution (hourOf (dayFrom b) (publishedBlocks b) h) (setPrices
 unfoldable pub executedByHour : List ℕ → ℕ → List ℕ
 executedByHour b n = hourAfterHour (executedIn b) n
 
-pub executedByHour-more : (b : List ℕ) (n : ℕ) → executedByHour b (n + 1) ≡ executedByHour b n ++ executedIn b (n + 1)
-unfolding executedByHour
-executedByHour-more b n = hourAfterHour-more (executedIn b) n
-
 -- what is published of a book
 pub chosen-is : (b : List ℕ) → published (ordersOf b) .chosen ≡ outcome (dayFrom b)
 unfolding published dayFrom
@@ -203,10 +193,6 @@ module _ (b : List ℕ) (a : Accepted b) where
   executed-in-order : executed (dayFrom b) (publishedBlocks b) ≡ inStepOrder (executedIn b) (map (stepFrom b) (stepChain b))
   unfolding executed executedIn
   executed-in-order = ap (inStepOrder (executedIn b)) (day-steps b)
-
-  pub executedByHour-length : (n : ℕ) → length (byHour b n) ≡ length (executedByHour b n)
-  unfolding executedByHour
-  executedByHour-length = hourAfterHour-length b (executedIn b) executedIn-length
 
   steps-by-hour : (k other : ℕ) →
       beside k (byHour b 24) (executedByHour b 24) other ≡ beside k (stepChain b) (published (ordersOf b) .executed) other
@@ -272,10 +258,3 @@ blockRows-at b [] chosen i e h = absurd (omega arith)
 blockRows-at b (k ∷ l) [] i e h = absurd (omega arith)
 blockRows-at b (k ∷ l) (t ∷ chosen) zero e h = refl
 blockRows-at b (k ∷ l) (t ∷ chosen) (suc i) e h = blockRows-at b l chosen i (omega arith) (omega arith)
-
--- so a list that holds each block's quantity where it is taken, and 0 where it is not, is that list
-pub blockRows-by-place : (b l : List ℕ) (chosen : List Bool) (values : List ℕ) → length chosen ≡ length l → length values ≡ length l →
-    ((i : ℕ) → i < length l → getD values i 0 ≡ cond (getD chosen i false) (blockAt b (getD l i 0) .quantity) 0) → values ≡ blockRows b l chosen
-blockRows-by-place b l chosen values e f same =
-    ext-getD 0 values (blockRows b l chosen) (f ∙ sym (blockRows-length b l chosen e))
-    (λ i h. let g : i < length l = omega arith in same i g ∙ sym (blockRows-at b l chosen i e g))

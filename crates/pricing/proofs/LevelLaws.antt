@@ -15,7 +15,6 @@ use Rattle.rules.specs.Contender.{PricesInRange}
 use Rattle.rules.proofs.PricingLaws.{DemandMet, Clearable, net}
 use Rattle.rules.proofs.TableLaws.{
   lowOf,
-  highOf,
   priceOf,
   unitPrice,
   unit-first,
@@ -23,7 +22,6 @@ use Rattle.rules.proofs.TableLaws.{
   unit-falls,
   unit-net,
   unit-low,
-  unit-high-before,
   tablePrice,
   price-is-table,
   meets-down,
@@ -196,9 +194,6 @@ module _ (l : List Step) (off : ℕ) (table : List ℕ) (t : UnitPrices l off ta
   pub table-in-range : InRange table
   table-in-range i k = rw (t i k) (unit-first (net l i (suc off)) .inRange)
 
-  pub table-positive : (i : ℕ) → i < length table → 1 ≤ getD table i 0
-  table-positive i k = rw (t i k) (unit-first (net l i (suc off)) .positive)
-
   pub unit-at : (i : ℕ) → i + 1 < length table → unitPrice (net l i off) ≡ getD table (i + 1) 0
   unit-at i k = unit-net l i off (i + 1) (suc off) (omega arith) ∙ sym (t (i + 1) k)
 
@@ -209,9 +204,6 @@ module _ (l : List Step) (off : ℕ) (table : List ℕ) (t : UnitPrices l off ta
   module _ (r : PricesInRange l) (i : ℕ) (c : Clearable (net l i off)) where
     pub low-at : i + 1 < length table → lowOf (net l i off) ≡ getD table (i + 1) 0
     low-at k = unit-low (net l i off) r c ∙ unit-at i k
-
-    pub high-at : i < length table → highOf (net l i off) ≡ getD table i 0
-    high-at k = unit-high-before l r i off c ∙ sym (t i k)
 
     pub price-at : i + 1 < length table → priceOf (net l i off) ≡ middle (getD table (i + 1) 0) (getD table i 0)
     price-at k = price-is-table l r i off c ∙ price-from-table i k

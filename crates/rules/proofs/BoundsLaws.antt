@@ -29,7 +29,6 @@ use Rattle.rules.specs.Day.{
   blocksValue,
   blocksCost,
   dayValue,
-  dayCost,
   executed,
   welfare,
   traded,
@@ -224,18 +223,6 @@ module _ (day : Day) (small : SmallDay day) (set : List Bool) where
         small .fewBlocks,
         stepsValue-small (day .hours) (small .atMostTwice) (day .steps) qs (small .smallSteps) w,
         blocksValue-small (day .hours) (small .atMostTwice) T (each-taken SmallBlock (day .blocks) set (small .smallBlocks)),
-        taken-few (day .blocks) set,
-      )
-
-  pub dayCost-small : (qs : List ℕ) → Each Within (day .steps) qs → dayCost day (taken (day .blocks) set) qs < 2 ^ 47
-  unfolding dayCost
-  dayCost-small qs w =
-      omega (
-        arith,
-        small .fewSteps,
-        small .fewBlocks,
-        stepsCost-small (day .hours) (small .atMostTwice) (day .steps) qs (small .smallSteps) w,
-        blocksCost-small (day .hours) (small .atMostTwice) T (each-taken SmallBlock (day .blocks) set (small .smallBlocks)),
         taken-few (day .blocks) set,
       )
 

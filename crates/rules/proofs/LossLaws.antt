@@ -191,10 +191,6 @@ module _ (hours : ℕ) (p : ℕ → ℕ) (l : List Block) (d : List Bool) (b : B
   losses-left = rw (losses-split hours p l d (false ∷ []), next, one-left)
 
 -- THE BOUND of a branch: the loss of its decided blocks, with any lower bounds of what the rest loses and of the gaps
-pub decided-bound : (day : Day) (p : ℕ → ℕ) (d s : List Bool) → losses (day .hours) p (day .blocks) d ≤ lossOf day p (d ++ s)
-unfolding lossOf
-decided-bound day p d s = omega (arith, losses-split (day .hours) p (day .blocks) d s)
-
 pub bound-with : (day : Day) (p : ℕ → ℕ) (d s : List Bool) (rest : ℕ) (g : ℕ → ℕ) →
     rest ≤ losses (day .hours) p (drop (length d) (day .blocks)) s →
     ((h : ℕ) → Counts (day .hours) h → g h ≤ slack (p h) (hourOf day (taken (day .blocks) (d ++ s)) h)) →

@@ -4,18 +4,16 @@
 -- to one number and the outcome is sought, a pass over all blocks whose limit fell has found the outcome, whatever limit it began with; where the
 -- limit stood, no lawful set that is sought loses less. Assumes nothing.
 use Prim.Native.Nat.{ℕ, suc, _+_, _-_, _≤_, _<_}
-use mathlib.Core.Bool.{Bool, true, false, cond, _&&_}
+use mathlib.Core.Bool.{Bool, true, false}
 use mathlib.Core.Path.{_≡_, refl, sym, ap, _∙_}
 use mathlib.Core.List.{List, [], _∷_, _++_, append-nil}
 use mathlib.Core.Logic.{_⊎_, inl, inr}
 use native.Mathlib.Omega.{arith}
 use native.Mathlib.Nat.{suc-inj, eq-or-lt-of-le}
-use lib.Dec.{ltb}
-use lib.ListN.{length, replicate, length-replicate}
+use lib.ListN.{length}
 use Rattle.rules.specs.Day.{Day, lawful, welfare}
 use Rattle.rules.specs.Outcome.{outcome}
 use Rattle.rules.specs.Contender.{HoldsLowest, PricesInRange, HoursInRange}
-use Rattle.rules.proofs.Tests.{by-test, by-lt, clash}
 use Rattle.rules.proofs.BestLaws.{holds-same, holds-both, FirstBest, outcome-first}
 use Rattle.rules.proofs.SearchLaws.{decided-next, holds-first}
 use Rattle.rules.proofs.DayLaws.{empty-lawful}
@@ -25,10 +23,6 @@ use Rattle.rules.proofs.LossLaws.{lossOf, wholeOf, welfare-and-loss}
 pub record Best : Type 0 where
   pub limit : ℕ
   pub set : List Bool
-
--- a lawful set that loses less becomes the answer, and its loss the limit
-abbrev pub lower : Day → (List Bool → ℕ) → List Bool → Best → Best
-lower day loss set best = cond (lawful day set && ltb (loss set) (best .limit)) (record { limit = loss set; set = set }) best
 
 -- the answer is a completion of the decided blocks d by n more, lawful, and first against those of its loss that are sought
 pub record Found (day : Day) (sought : List Bool → Type 0) (loss : List Bool → ℕ) (n : ℕ) (d : List Bool) (r : Best) : Type 0 where
@@ -53,12 +47,6 @@ module _ (day : Day) (sought : List Bool → Type 0) (loss : List Bool → ℕ) 
       ((t : List Bool) → length t ≡ n → lawful day (d ++ t) ≡ true → sought (d ++ t) → best .limit ≤ loss (d ++ t)) →
       Explored day sought loss n d best best
   branch-cut n d best h = record { noMore = omega arith; least = h; kept = λ _. refl; better = λ k. absurd (omega arith) }
-
-  -- by a lower bound of the branch
-  pub branch-bounded : (n : ℕ) (d : List Bool) (best : Best) (bound : ℕ) → best .limit ≤ bound →
-      ((t : List Bool) → length t ≡ n → lawful day (d ++ t) ≡ true → sought (d ++ t) → bound ≤ loss (d ++ t)) →
-      Explored day sought loss n d best best
-  branch-bounded n d best bound k h = branch-cut n d best (λ t l law is. omega (arith, h t l law is))
 
   -- where no completion is lawful and sought
   pub branch-unlawful : (n : ℕ) (d : List Bool) (best : Best) →
@@ -100,13 +88,6 @@ module _ (day : Day) (sought : List Bool → Type 0) (loss : List Bool → ℕ) 
         ties : (t : List Bool) → length t ≡ 0 → HoldsLowest (d ++ []) (d ++ t)
         ties [] l = holds-same (d ++ [])
         ties (x ∷ t) l = absurd (omega arith)
-
-    pub leaf : Explored day sought loss 0 d best (lower day loss d best)
-    leaf =
-        by-test (λ u. Explored day sought loss 0 d best (cond (u && ltb (loss d) (best .limit)) (record { limit = loss d; set = d }) best)) (lawful day d)
-        (λ law. by-lt (λ u. Explored day sought loss 0 d best (cond u (record { limit = loss d; set = d }) best)) (loss d) (best .limit)
-        (leaf-lowered law) (λ k. leaf-kept (λ _ _. k)))
-        (λ not. leaf-kept (λ law _. clash law not))
 
   -- A BLOCK DECIDED, first taken and then left out
   pub joined : (n : ℕ) (d : List Bool) (best m r : Best) →
@@ -199,11 +180,6 @@ module _ (day : Day) (sought : List Bool → Type 0) (loss : List Bool → ℕ) 
         r .limit < best .limit
     pass-finds set l law is less = omega (arith, pass .least set l law is)
 
-    -- where it stood, none does
-    pub pass-none : r .limit ≡ best .limit →
-        (set : List Bool) → length set ≡ length (day .blocks) → lawful day set ≡ true → sought set → best .limit ≤ loss set
-    pass-none e set l law is = omega (arith, pass .least set l law is)
-
 -- WELFARE AND LOSS add up to one number, of every lawful set
 abbrev pub Adds : Day → (List Bool → ℕ) → ℕ → Type 0
 Adds day loss whole = (set : List Bool) → length set ≡ length (day .blocks) → lawful day set ≡ true → welfare day set + loss set ≡ whole
@@ -250,15 +226,6 @@ module _ (day : Day) (sought : List Bool → Type 0) (prices : PricesInRange (da
     pub pass-finds-any : (set : List Bool) → length set ≡ length (day .blocks) → lawful day set ≡ true → loss set < best .limit → r .limit < best .limit
     pass-finds-any set l law less = pass-finds-outcome (omega (arith, first-loses-least day loss whole adds (outcome day) is-first set l law))
 
-    -- begun above the empty set's loss it always finds the outcome
-    pub pass-from-empty : loss (replicate (length (day .blocks)) false) < best .limit → r .set ≡ outcome day
-    pass-from-empty less =
-        pass-outcome (pass-finds-any (replicate (length (day .blocks)) false) (length-replicate _ _) (empty-lawful day prices hours) less)
-
 -- AT HOURLY PRICES p
 pub loss-adds : (day : Day) → PricesInRange (day .steps) → HoursInRange (day .steps) → (p : ℕ → ℕ) → Adds day (lossOf day p) (wholeOf day p)
 loss-adds day prices hours p set l law = welfare-and-loss day prices hours p set l law
-
-pub loss-pass-outcome : (day : Day) (sought : List Bool → Type 0) → PricesInRange (day .steps) → HoursInRange (day .steps) → (p : ℕ → ℕ)
-    (best r : Best) → Pass day sought (lossOf day p) best r → sought (outcome day) → r .limit < best .limit → r .set ≡ outcome day
-loss-pass-outcome day sought prices hours p = pass-outcome day sought prices hours (lossOf day p) (wholeOf day p) (loss-adds day prices hours p)

@@ -1,36 +1,19 @@
 -- An hour with one more unit of N: its welfare rises by L. The hour's gap at any price p (what its welfare falls short of the surplus at p and p for
--- each unit of N) is 0 or more, 0 where p clears, depends on N alone, changes by |L − p| from one N to the next, and so falls to the N that p clears
+-- each unit of N) is 0 or more, depends on N alone, changes by |L − p| from one N to the next, and so falls to the N that p clears
 -- and rises from there. Assumes nothing.
 use Prim.Native.Nat.{ℕ, zero, suc, _+_, _-_, _*_, _≤_, _<_}
-use mathlib.Core.Bool.{cond}
 use mathlib.Core.Path.{_≡_, ap}
 use mathlib.Core.List.{List}
 use native.Mathlib.Omega.{arith}
 use native.Mathlib.Nat.{add-suc, add-zero, le-dest, mul-le-mul-right}
-use lib.Dec.{ltb}
-use Rattle.rules.specs.Orders.{Step, maxPrice}
+use Rattle.rules.specs.Orders.{Step}
 use Rattle.rules.specs.Hour.{Hour}
 use Rattle.rules.specs.Execution.{execution}
 use Rattle.rules.specs.Contender.{PricesInRange}
-use Rattle.rules.proofs.Tests.{by-lt}
-use Rattle.rules.proofs.CurveLaws.{buysFrom-suc, buysFrom-all, sellsTo-all}
-use Rattle.rules.proofs.PricingLaws.{DemandMet, Clears, Clearable, clearable, net}
+use Rattle.rules.proofs.PricingLaws.{Clears, Clearable, clearable, net}
 use Rattle.rules.proofs.ExecutionLaws.{execution-within, execution-balances, same-execution, execution-net}
 use Rattle.rules.proofs.DualityLaws.{value, cost, surplus, weak-duality, execution-attains}
-use Rattle.rules.proofs.TableLaws.{
-  lowOf,
-  highOf,
-  priceOf,
-  answered,
-  own-clears,
-  price-net,
-  low-falls,
-  unitPrice,
-  unit-first,
-  unit-low,
-  low-clears-next,
-  unit-high-before,
-}
+use Rattle.rules.proofs.TableLaws.{lowOf, priceOf, answered, own-clears, price-net, low-falls, low-clears-next}
 
 -- THE GAP of an hour at price p: the surplus at p and p for each unit of N, less the welfare of the hour's own execution
 unfoldable pub slack : ℕ → Hour → ℕ
@@ -70,10 +53,6 @@ module _ (h : Hour) (r : PricesInRange (h .steps)) where
         slack-is (priceOf h) own p,
         weak-duality h q (execution h (priceOf h)) (execution-within h (priceOf h)) (execution-balances h (priceOf h) own),
       )
-
-  -- 0 where p clears
-  pub slack-none : (p : ℕ) → Clears h p → slack p h ≡ 0
-  slack-none p c = omega (arith, slack-apart p c p)
 
 -- it depends on N alone
 pub slack-net : (l : List Step) (s b s′ b′ : ℕ) → s + b′ ≡ s′ + b → (p : ℕ) → slack p (net l s b) ≡ slack p (net l s′ b′)
@@ -144,12 +123,6 @@ module _ (l : List Step) (r : PricesInRange l) (s b : ℕ) (c : Clearable (net l
         slack-apart (net l s b) r (lowOf (net l s b)) (answered (net l s b) r d .lowClears) p,
       )
 
-  pub slack-up : (p : ℕ) → lowOf (net l s b) ≤ p → slack p (net l (suc s) b) ≡ slack p (net l s b) + (p - lowOf (net l s b))
-  slack-up p k = omega (arith, slack-next p)
-
-  pub slack-down : (p : ℕ) → p ≤ lowOf (net l s b) → slack p (net l s b) ≡ slack p (net l (suc s) b) + (lowOf (net l s b) - p)
-  slack-down p k = omega (arith, slack-next p)
-
 -- OVER A RUN OF N
 -- f 0 + .. + f (k − 1)
 unfoldable pub run : ℕ → (ℕ → ℕ) → ℕ
@@ -190,44 +163,3 @@ module _ (l : List Step) (r : PricesInRange l) (b p s : ℕ) (c : Clearable (net
         last-step k d,
         h k (omega arith),
       )
-
--- OVER A RANGE OF N, s from lo to hi: the gap at p is no less than at lo where the unit price of lo is below p, and no less than at hi where the
--- unit price of the N before hi is above p
-module _ (l : List Step) (r : PricesInRange l) (b p i : ℕ) (c : Clearable (net l i b)) where
-  module _ (lo : ℕ) (from : lo ≤ i) (k : p ≤ maxPrice) (below : unitPrice (net l lo b) < p) where
-    -- then lo clears
-    pub clearable-low : Clearable (net l lo b)
-    clearable-low =
-        let met = unit-first (net l lo b) .meets (omega arith) in
-        record { buysSuffice = omega (arith, c .buysSuffice); sellsSuffice = omega (arith, sellsTo-all (unitPrice (net l lo b)) l) }
-
-    pub gap-at-low : slack p (net l lo b) ≤ slack p (net l i b)
-    gap-at-low =
-        gap-rises l r lo b i b (omega arith) clearable-low c p (lowOf (net l lo b)) (answered (net l lo b) r clearable-low .lowClears)
-        (omega (arith, unit-low (net l lo b) r clearable-low))
-
-  module _ (hi : ℕ) (to : i ≤ hi) (k : 1 ≤ p) (above : p < unitPrice (net l hi (suc b))) where
-    pub clearable-high : Clearable (net l hi b)
-    clearable-high =
-        let fails : ¬ DemandMet (net l hi (suc b)) p = unit-first (net l hi (suc b)) .first p k above in
-        record { buysSuffice = omega (arith, buysFrom-suc p l, buysFrom-all (suc p) l); sellsSuffice = omega (arith, c .sellsSuffice) }
-
-    pub gap-at-high : slack p (net l hi b) ≤ slack p (net l i b)
-    gap-at-high =
-        gap-falls l r i b hi b (omega arith) c clearable-high p (highOf (net l hi b)) (answered (net l hi b) r clearable-high .highClears)
-        (omega (arith, unit-high-before l r hi b clearable-high))
-
--- so this is no more than any gap over the range
-unfoldable pub leastGap : ℕ → List Step → ℕ → ℕ → ℕ → ℕ
-leastGap p l lo hi b =
-    cond (ltb (unitPrice (net l lo b)) p) (slack p (net l lo b)) (cond (ltb p (unitPrice (net l hi (suc b)))) (slack p (net l hi b)) 0)
-
-pub least-gap : (l : List Step) → PricesInRange l → (b p i lo hi : ℕ) → Clearable (net l i b) → 1 ≤ p → p ≤ maxPrice → lo ≤ i → i ≤ hi →
-    leastGap p l lo hi b ≤ slack p (net l i b)
-unfolding leastGap
-least-gap l r b p i lo hi c first last from to =
-    by-lt (λ t. cond t (slack p (net l lo b)) (cond (ltb p (unitPrice (net l hi (suc b)))) (slack p (net l hi b)) 0) ≤ slack p (net l i b))
-    (unitPrice (net l lo b)) p
-    (λ k. gap-at-low l r b p i c lo from last k)
-    (λ _. by-lt (λ t. cond t (slack p (net l hi b)) 0 ≤ slack p (net l i b)) p (unitPrice (net l hi (suc b)))
-    (λ k. gap-at-high l r b p i c hi to first k) (λ _. omega arith))

@@ -7,8 +7,7 @@ use mathlib.Core.Path.{_≡_, refl}
 use mathlib.Core.List.{List, [], _∷_, _++_}
 use native.Mathlib.Omega.{arith}
 use native.Mathlib.Nat.{suc-inj}
-use lib.ListN.{length, drop, replicate, length-append}
-use lib.Seq.{drop-drop}
+use lib.ListN.{length, drop, replicate}
 use Rattle.rules.specs.Orders.{Block}
 use Rattle.rules.specs.Hour.{Hour}
 use Rattle.rules.specs.Day.{
@@ -70,9 +69,6 @@ place-none (b ∷ l) h = refl
 
 -- one more decision
 module _ (l : List Block) (d : List Bool) (b : Block) (after : List Block) (next : drop (length d) l ≡ b ∷ after) where
-  pub drop-next : (x : Bool) → drop (length (d ++ (x ∷ []))) l ≡ after
-  drop-next x = rw (length-append d (x ∷ []), ← (drop-drop 1 (length d) l), next)
-
   module _ (h : ℕ) where
     one-sells : place (b ∷ after) (true ∷ []) h ≡ sells h b
     unfolding place

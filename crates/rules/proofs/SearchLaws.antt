@@ -1,8 +1,8 @@
 -- M9, the search's side: decide the blocks one after another, each first taken and then left out; carry `need`, the welfare that a set must still
 -- reach, and the answer in hand; drop a branch that cannot reach it. Whatever sound test drops branches, and from whatever lawful set's welfare
 -- `need` starts, the answer is the best of all sets. Assumes nothing.
-use Prim.Native.Nat.{ℕ, zero, suc, _+_, _≤_, _<_}
-use mathlib.Core.Bool.{Bool, true, false, cond, _&&_, _||_}
+use Prim.Native.Nat.{ℕ, zero, suc, _≤_, _<_}
+use mathlib.Core.Bool.{Bool, true, false, cond, _&&_}
 use mathlib.Core.Path.{_≡_, refl, sym, ap, _∙_}
 use mathlib.Core.List.{List, [], _∷_, _++_, append-nil, append-assoc}
 use mathlib.Core.Logic.{_⊎_, inl, inr}
@@ -43,12 +43,6 @@ Sound day drops = (n : ℕ) (d : List Bool) (need : ℕ) → drops n d need ≡ 
 pub bound-sound : (day : Day) (bound : List Bool → ℕ) → ((d s : List Bool) → lawful day (d ++ s) ≡ true → welfare day (d ++ s) ≤ bound d) →
     Sound day (λ n d need. ltb (bound d) need)
 bound-sound day bound above n d need e s l law = omega (arith, ltb-true (bound d) need e, above d s law)
-
--- either of two sound tests is one
-pub either-sound : (day : Day) (t u : ℕ → List Bool → ℕ → Bool) → Sound day t → Sound day u → Sound day (λ n d need. t n d need || u n d need)
-either-sound day t u a b n d need e s l law =
-    by-test (λ r. (r || u n d need) ≡ true → welfare day (d ++ s) < need) (t n d need)
-    (λ k _. a n d need k s l law) (λ k f. b n d need f s l law) e
 
 pub decided-next : (d : List Bool) (x : Bool) (s : List Bool) → (d ++ (x ∷ [])) ++ s ≡ d ++ (x ∷ s)
 decided-next d x s = append-assoc d (x ∷ []) s

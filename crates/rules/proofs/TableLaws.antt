@@ -50,8 +50,6 @@ use Rattle.rules.proofs.PricingLaws.{
   answer,
   NoMoreExcess,
   low-not-higher,
-  high-not-higher,
-  price-not-higher,
   net,
   pricing-net,
 }
@@ -83,10 +81,6 @@ own-clears h r c = middle-clears h (lowOf h) (highOf h) (priceOf h) (answered h 
 
 -- N ALONE decides
 module _ (l : List Step) (s b s′ b′ : ℕ) (same : s + b′ ≡ s′ + b) where
-  pub low-net : lowOf (net l s b) ≡ lowOf (net l s′ b′)
-  unfolding lowOf
-  low-net = rw (pricing-net l s b s′ b′ same)
-
   pub high-net : highOf (net l s b) ≡ highOf (net l s′ b′)
   unfolding highOf
   high-net = rw (pricing-net l s b s′ b′ same)
@@ -113,12 +107,6 @@ module _ (l : List Step) (r : PricesInRange l) (s b s′ b′ : ℕ) (less : s +
     -- M11 of one hour: L, H and the price do not rise
     pub low-falls : lowOf (net l s′ b′) ≤ lowOf (net l s b)
     low-falls = low-not-higher less-N more-N no-more-excess _ _ _ _ _ _ (answered less-N r c) (answered more-N r c′)
-
-    pub high-falls : highOf (net l s′ b′) ≤ highOf (net l s b)
-    high-falls = high-not-higher less-N more-N no-more-excess _ _ _ _ _ _ (answered less-N r c) (answered more-N r c′)
-
-    pub price-falls : priceOf (net l s′ b′) ≤ priceOf (net l s b)
-    price-falls = price-not-higher less-N more-N no-more-excess _ _ _ _ _ _ (answered less-N r c) (answered more-N r c′)
 
 -- THE UNIT PRICE of an hour: the least price of 1 to 300000 that meets the demand; the greatest where none does. A table of it over N holds all of
 -- L and H: L is the unit price of N, and H that of N − 1
@@ -263,9 +251,6 @@ module _ (l : List Step) (r : PricesInRange l) (s b : ℕ) (c : Clearable (net l
     pub low-clears-next : Clears (net l (suc s) b) (lowOf (net l s b))
     low-clears-next = rw (unit-low (net l s b) r d) unit-clears-next
 
-    pub next-high : highOf (net l (suc s) b) ≡ lowOf (net l s b)
-    next-high = rw (unit-low (net l s b) r d) unit-high
-
 -- H BY THE UNIT PRICE OF N − 1, written with one more unit bought
 module _ (l : List Step) (r : PricesInRange l) (s b : ℕ) where
   pub unit-high-before : Clearable (net l s b) → highOf (net l s b) ≡ unitPrice (net l s (suc b))
@@ -302,12 +287,6 @@ standing-is p (s ∷ l) = omega (arith, of-side (s .side) (eqb (s .price) p) (s 
 pub excess-step : (p : ℕ) (l : List Step) → buysAbove p l + sellsTo (suc p) l ≡ buysAbove (suc p) l + sellsTo p l + standing (suc p) l
 excess-step p l =
     omega (arith, standing-is (suc p) l, buysFrom-suc p l, sellsBelow-suc p l, buysFrom-split (suc p) l, sellsTo-split (suc p) l)
-
--- so the N from D(p) up to D(p) and what stands at p have unit price p
-pub unit-filled : (h : Hour) (p : ℕ) → suc p ≤ maxPrice → (suc p < maxPrice → DemandMet h (suc p)) →
-    sellsTo (suc p) (h .steps) + h .blockSales < buysAbove (suc p) (h .steps) + h .blockBuys + standing (suc p) (h .steps) →
-    unitPrice h ≡ suc p
-unit-filled h p k d more = unit-is h p k d (λ _ m. omega (arith, excess-step p (h .steps)))
 
 -- no step of any quantity lies strictly between two prices
 abbrev pub NoneBetween : ℕ → ℕ → List Step → Type 0

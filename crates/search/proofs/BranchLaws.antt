@@ -1,21 +1,20 @@
 -- The search's branches: a decided set at its tables is lawful or not and loses what they say; one more block taken or left out. Assumes nothing.
 use Prim.Native.Nat.{ℕ, zero, suc, _+_, _-_, _*_, _/_, _%_, _^_, _≤_, _<_}
-use mathlib.Core.Path.{_≡_, refl, sym, ap, ap₂, _∙_}
+use mathlib.Core.Path.{_≡_, refl, sym, ap₂, _∙_}
 use mathlib.Core.List.{List, [], _∷_, _++_}
-use mathlib.Core.Bool.{Bool, true, false, cond, not, _&&_, _||_}
+use mathlib.Core.Bool.{Bool, true, false, not, _&&_, _||_}
 use native.Mathlib.Omega.{arith}
 use mathlib.Core.Logic.{_⊎_, inl, inr}
 use native.Mathlib.Nat.{eq-or-lt-of-le}
 use native.Mathlib.Numerals.{add-one, sub-one}
 use lib.Dec.{eqb, leb}
 use lib.ListN.{length, drop, getD, length-append}
-use lib.Seq.{drop-drop, getD-drop}
 use lib.Pow.{pow-mono, shr-shr}
 use borrow.Author.Tests.{eqb-true, eqb-false, eq-eqb, ne-eqb, not-true}
 use Rattle.book.specs.Records.{holdsHour}
 use Rattle.orders.specs.Columns.{sideFor}
-use Rattle.rules.specs.Orders.{Side, buy, sell, Block}
-use Rattle.rules.specs.Hour.{bySide, when, middle}
+use Rattle.rules.specs.Orders.{Side, buy, Block}
+use Rattle.rules.specs.Hour.{bySide, when}
 use Rattle.rules.specs.Execution.{testSide}
 use Rattle.rules.specs.Day.{
   Day,
@@ -29,8 +28,6 @@ use Rattle.rules.specs.Day.{
   buys,
   hourOf,
   stepsIn,
-  setPrices,
-  hourCount,
   priceSum,
   keepsLimit,
   everyBlock,
@@ -40,14 +37,14 @@ use Rattle.rules.specs.Day.{
 use Rattle.rules.specs.Contender.{Counts}
 use Rattle.rules.proofs.Tests.{by-test, by-eq, both, clash}
 use Rattle.rules.proofs.CurveLaws.{when-zero, when-le}
-use Rattle.rules.proofs.PricingLaws.{Clearable, net}
-use Rattle.rules.proofs.TableLaws.{unitPrice, unit-net, tablePrice}
+use Rattle.rules.proofs.PricingLaws.{Clearable}
+use Rattle.rules.proofs.TableLaws.{unit-net, tablePrice}
 use Rattle.rules.proofs.NeighbourLaws.{slack}
-use Rattle.rules.proofs.LossLaws.{losses, lossOf, gaps, losses-taken, losses-left, bound-with}
+use Rattle.rules.proofs.LossLaws.{lossOf, losses-taken, losses-left}
 use Rattle.rules.proofs.LossSearchLaws as by-loss
 use Rattle.rules.proofs.SearchLaws.{decided-next}
-use Rattle.rules.proofs.TwinLaws.{Ahead, InTurn, turn-left, turn-taken}
-use Rattle.rules.proofs.SetBits.{bits-length, bits-at, bits-taken, bits-left, bits-room}
+use Rattle.rules.proofs.TwinLaws.{InTurn, turn-left, turn-taken}
+use Rattle.rules.proofs.SetBits.{bits-at, bits-taken, bits-left, bits-room}
 use Rattle.rules.proofs.PlaceLaws.{
   place,
   hourAt,
@@ -75,7 +72,6 @@ use Rattle.search.specs.Search.{
   PricesOf,
   sideAt,
   hoursAt,
-  limitAt,
   againstAt,
   gainAt,
   aheadAt,

@@ -1,13 +1,13 @@
 -- A decided set at the tables: its gaps, its prices, its blocks' limits, hour by hour and block by block. Assumes nothing.
 use Prim.Native.Nat.{ℕ, zero, suc, _+_, _-_, _*_, _/_, _%_, _^_, _≤_, _<_}
-use mathlib.Core.Path.{_≡_, refl, sym, ap, _∙_}
+use mathlib.Core.Path.{_≡_, refl, _∙_}
 use mathlib.Core.List.{List}
 use mathlib.Core.Bool.{Bool, true, false, cond, not, _&&_, _||_}
 use mathlib.Core.Logic.{_⊎_, inl, inr}
 use native.Mathlib.Omega.{arith}
 use native.Mathlib.Nat.{le-suc-iff}
 use native.Mathlib.Numerals.{add-one, sub-one}
-use lib.Dec.{eqb, ltb, leb}
+use lib.Dec.{eqb, ltb}
 use lib.ListN.{length, getD, set, length-set, replicate}
 use lib.Seq.{getD-set-same, getD-set-other}
 use borrow.Author.Tests.{ltb-false, le-ltb, eq-eqb, ne-eqb}
@@ -15,7 +15,7 @@ use Rattle.rules.specs.Orders.{sell}
 use Rattle.rules.specs.Hour.{when}
 use Rattle.rules.specs.Day.{sumTo}
 use Rattle.orders.specs.Columns.{sideFor}
-use Rattle.rules.proofs.Tests.{by-test, clash}
+use Rattle.rules.proofs.Tests.{clash}
 use Rattle.book.proofs.Laws.{or-left, or-right}
 use Rattle.search.specs.Search.{Small, cell, ofHour, InRange, GapsOf, PricesOf, sideAt, hoursAt, limitAt, rowAt, aheadAt, behindAt, isBarred, isDue, keepsAt, allKeep}
 

@@ -1,27 +1,24 @@
 -- A pass over all blocks: one that finds a set has found the published one, and one with a large threshold finds. Assumes nothing.
 use Prim.Native.Nat.{ℕ, zero, suc, _+_, _-_, _*_, _/_, _^_, _≤_, _<_}
 use mathlib.Core.Path.{_≡_, refl, sym, subst, _∙_}
-use mathlib.Core.List.{List, [], _∷_, _++_}
-use mathlib.Core.Bool.{Bool, true, false}
-use mathlib.Core.Logic.{_⊎_, inl, inr}
+use mathlib.Core.List.{List, []}
+use mathlib.Core.Bool.{false}
 use native.Mathlib.Omega.{arith}
-use native.Mathlib.Nat.{eq-or-lt-of-le}
 use lib.ListN.{length, drop, getD, replicate, length-replicate}
 use lib.Pow.{shr-le, pow-pos}
 use Rattle.rules.specs.Orders.{Block}
-use Rattle.rules.specs.Day.{Day, daySum, sumTo, taken, decisions, overBlocks, sells, buys, hourOf, lawful}
+use Rattle.rules.specs.Day.{Day, daySum, sumTo, taken, decisions, overBlocks, hourOf}
 use Rattle.rules.specs.Outcome.{outcome}
-use Rattle.rules.specs.Contender.{Counts}
 use Rattle.rules.proofs.Tests.{clash}
 use Rattle.rules.proofs.DayLaws.{empty-lawful}
 use Rattle.rules.proofs.BoundLaws.{gain}
 use Rattle.rules.proofs.NeighbourLaws.{slack}
-use Rattle.rules.proofs.LossLaws.{losses, gaps, wholeOf, lossOf, losses-none, losses-empty, bound-with}
+use Rattle.rules.proofs.LossLaws.{gaps, wholeOf, lossOf, losses-none, losses-empty, bound-with}
 use Rattle.rules.proofs.LossSearchLaws as by-loss
 use Rattle.rules.proofs.TwinLaws.{InTurn, outcome-in-turn}
 use Rattle.rules.proofs.PlaceLaws.{place, place-none}
-use Rattle.search.specs.Search.{Small, cell, ofHour, InRange, gainAt, isOut}
-use Rattle.search.specs.Meaning.{Sized, Fits, Shown, Known, Turning, Branch, lossAbove, bestAs, DayOf, Outcome, ExploredFrom, FoundIn}
+use Rattle.search.specs.Search.{cell, isOut}
+use Rattle.search.specs.Meaning.{Fits, Known, Turning, Branch, lossAbove, bestAs, DayOf, Outcome, ExploredFrom}
 use Rattle.search.specs.declared.Best.{Best}
 use Rattle.search.specs.declared.Node.{Node}
 use Rattle.search.proofs.LeafLaws.{zeros}

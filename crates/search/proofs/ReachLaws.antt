@@ -13,15 +13,13 @@ use lib.Dec.{eqb, leb}
 use lib.ListN.{length, drop, getD, set, replicate, length-append, length-set, List·getD-append, List·getD-eq-default}
 use lib.Seq.{getD-set-same, getD-set-other}
 use borrow.Author.Tests.{leb-true, le-leb, lt-leb, eq-eqb, ne-eqb}
-use Rattle.book.specs.Records.{holdsHour}
-use Rattle.orders.specs.Columns.{sideFor}
-use Rattle.rules.specs.Orders.{Side, buy, sell, Block}
-use Rattle.rules.specs.Hour.{bySide, when}
+use Rattle.rules.specs.Orders.{Side, buy, Block}
+use Rattle.rules.specs.Hour.{when}
 use Rattle.rules.specs.Execution.{testSide}
-use Rattle.rules.specs.Day.{Day, daySum, sumTo, taken, sells, buys, hourOf, priceSum, lawful}
+use Rattle.rules.specs.Day.{Day, sumTo, taken, hourOf, priceSum, lawful}
 use Rattle.rules.specs.Contender.{Counts}
 use Rattle.rules.proofs.Tests.{by-test, by-le, both, clash}
-use Rattle.rules.proofs.CurveLaws.{when-zero, when-le}
+use Rattle.rules.proofs.CurveLaws.{when-le}
 use Rattle.rules.proofs.NeighbourLaws.{slack}
 use Rattle.rules.proofs.BoundLaws.{gain}
 use Rattle.rules.proofs.LossLaws.{against, losses, bound-with}
@@ -59,7 +57,7 @@ use Rattle.search.specs.Search.{
   leastGaps,
   allKeep,
 }
-use Rattle.search.specs.Meaning.{Shown, Known, Turning, Branch, lossAbove, OutOf, At, DroppedFrom, JudgedFrom}
+use Rattle.search.specs.Meaning.{Shown, Known, Branch, lossAbove, At, DroppedFrom, JudgedFrom}
 use Rattle.search.specs.declared.Node.{Node}
 use Rattle.search.proofs.LeafLaws.{zeros, below-next}
 use Rattle.search.proofs.BranchLaws.{

@@ -13,7 +13,7 @@ use Rattle.orders.specs.Columns.{stepsFrom}
 use Rattle.pricing.specs.Tables.{PriceTable, AllOf, ClearRange, NotRising, GapsFor, GapTable}
 use Rattle.pricing.proofs.LevelLaws.{table-not-rising, table-in-range}
 use Rattle.search.specs.Search.{Small}
-use Rattle.setup.specs.Setup.{StepsHeld, PartHeld, between, partOf, rowOf, RowIs, RowsAre, Ranged, RangedAt, RangesAre}
+use Rattle.setup.specs.Setup.{StepsHeld, PartHeld, partOf, rowOf, RowIs, RowsAre, Ranged, RangedAt, RangesAre}
 use Rattle.search.proofs.LeafLaws.{zeros}
 
 -- PARTS
@@ -26,9 +26,6 @@ take-drop (suc m) k (x ∷ l) = let e : suc m + k ≡ suc (m + k) = omega arith 
 part-front : (m k n : ℕ) (l r : List ℕ) → m + k ≤ n → take n l ≡ take n r → take k (drop m l) ≡ take k (drop m r)
 part-front m k n l r a e =
     take-drop m k l ∙ ap (drop m) (sym (take-take (m + k) n l a) ∙ ap (take (m + k)) e ∙ take-take (m + k) n r a) ∙ sym (take-drop m k r)
-
-pub between-length : (a e : ℕ) (column : List ℕ) → a ≤ e → e ≤ length column → length (between a e column) ≡ e - a
-between-length a e column o i = simp (length-take, length-drop) (omega arith)
 
 pub part-held : (sides prices quantities ends : List ℕ) → StepsHeld sides prices quantities ends → (h : ℕ) → h < 24 →
     PartHeld sides prices quantities (getD ends h 0) (getD ends (h + 1) 0)
