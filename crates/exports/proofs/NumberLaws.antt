@@ -6,7 +6,6 @@ use mathlib.Core.Bool.{Bool, true, false, cond}
 use lib.Dec.{eqb}
 use borrow.Author.Tests.{eqb-true}
 use Rattle.clearing.specs.Promise.{clearing, clearRefusal, numberOf}
-use Rattle.clearing.specs.declared.Clearing.{Clearing}
 use Rattle.clearing.specs.declared.Clearing.the-variants.{Published, Refused}
 
 pub number-clearing : (b result : List ℕ) → numberOf (clearing b result) ≡ clearRefusal b result

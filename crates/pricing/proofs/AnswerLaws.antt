@@ -1,11 +1,10 @@
 -- The answer for an hour's columns and N, one law for each way out of the code. Assumes nothing.
 use Prim.Native.Nat.{ℕ, _+_, _≤_, _<_}
-use mathlib.Core.Path.{_≡_, refl, sym, ap}
+use mathlib.Core.Path.{sym, ap}
 use mathlib.Core.List.{List}
 use native.Mathlib.Omega.{arith}
-use Rattle.rules.specs.Orders.{Step, maxPrice}
-use Rattle.rules.specs.Hour.{Hour, cleared, doesNotClear, middle, pricing}
-use Rattle.rules.specs.Contender.{PricesInRange}
+use Rattle.rules.specs.Orders.{maxPrice}
+use Rattle.rules.specs.Hour.{middle}
 use Rattle.rules.proofs.PricingLaws.{Clearable, not-clearing}
 use Rattle.orders.specs.Columns.{stepsFrom}
 use Rattle.pricing.specs.Curves.{bias, hourWith, TotalsAt, LeastCovered}

@@ -9,7 +9,7 @@ use lib.Pow.{pow-pos, pow-mono}
 use lib.Dec.{eqb, leb, ltb}
 use lib.ListN.{length, take, drop, getD, length-drop}
 use lib.Seq.{slice, length-take-le, getD-take}
-use borrow.Author.Tests.{eq-eqb, ne-eqb, le-leb, lt-leb, lt-ltb, le-ltb, ltb-true, ltb-false}
+use borrow.Author.Tests.{eq-eqb, ne-eqb, le-leb, lt-leb}
 use Rattle.book.specs.Tests.{within}
 use Rattle.book.specs.Chains.{blockChain}
 use Rattle.book.specs.Refusals.{Accepted, refusal, firstOf, ownCauses}
@@ -17,7 +17,7 @@ use Rattle.book.proofs.Accepted.{accepted-zero}
 use Rattle.book.proofs.Refused.{bounds, refusal-then}
 use Rattle.rules.specs.Orders.{Side, buy, sell, Block}
 use Rattle.rules.specs.Hour.{bySide, when, pricing}
-use Rattle.rules.specs.Day.{Day, stepsIn, taken, decisions, overBlocks, sells, buys, hourOf}
+use Rattle.rules.specs.Day.{stepsIn, taken, decisions, overBlocks, sells, buys}
 use Rattle.rules.specs.Contender.{PricesInRange}
 use Rattle.rules.proofs.Tests.{by-le, by-lt}
 use Rattle.rules.proofs.CurveLaws.{when-zero, when-le}
@@ -28,10 +28,10 @@ use Rattle.orders.specs.Columns.{StepColumns, BlockColumns, stepsFrom, blocksFr
 use Rattle.orders.proofs.HourLaws.{hour-from-columns}
 use Rattle.orders.proofs.BridgeLaws.{prices-in-range, blocks-from-columns, block-count}
 use Rattle.orders.proofs.PlaceLaws.{block-place}
-use Rattle.pricing.specs.Curves.{bias, hourWith, tradersFrom, TradesOf}
+use Rattle.pricing.specs.Curves.{bias, tradersFrom, TradesOf}
 use Rattle.pricing.specs.Answers.{answerFor, AnswerOf, blocksOf, NetOf, hourAnswered, wrongCall, priceCauses, hourAnswer}
 use Rattle.pricing.specs.declared.HourAnswer.{HourAnswer}
-use Rattle.pricing.specs.declared.HourAnswer.the-variants.{Cleared, NotClearing, Refused}
+use Rattle.pricing.specs.declared.HourAnswer.the-variants.{Refused}
 
 -- TRADES
 -- a block's number and price play no part in what it sells or buys in an hour

@@ -1,15 +1,15 @@
 -- The two ends of an hour's clearing prices by bisection, and the hour's answer from them. Assumes nothing.
-use Prim.Native.Nat.{ℕ, zero, suc, _+_, _/_, _≤_, _<_}
-use mathlib.Core.Path.{_≡_, refl, sym}
+use Prim.Native.Nat.{ℕ, zero, suc, _+_, _≤_, _<_}
+use mathlib.Core.Path.{_≡_, refl}
 use mathlib.Core.List.{List}
 use native.Mathlib.Omega.{arith}
 use native.Mathlib.Nat.{lt-of-not-le}
 use native.Mathlib.Decide.{decLe}
 use Rattle.rules.specs.Orders.{Step, maxPrice}
-use Rattle.rules.specs.Hour.{Hour, allBuys, allSells, buysAbove, sellsTo, Pricing, cleared, doesNotClear, middle, pricing}
+use Rattle.rules.specs.Hour.{Hour, allBuys, allSells, buysAbove, sellsTo, cleared, middle, pricing}
 use Rattle.rules.specs.Contender.{PricesInRange}
 use Rattle.rules.proofs.CurveLaws.{buysAbove-falls, sellsTo-rises, buysFrom-suc, buysFrom-one, buysFrom-all, sellsTo-all, sellsTo-max, buysAbove-max, sellsBelow-one}
-use Rattle.rules.proofs.PricingLaws.{DemandMet, SupplyMet, supply-before, supply-down, Clearable, pricing-ends, not-clearing}
+use Rattle.rules.proofs.PricingLaws.{DemandMet, SupplyMet, supply-before, supply-down, Clearable, pricing-ends}
 use Rattle.pricing.specs.Curves.{Covered, LeastCovered}
 
 -- THE BISECTION between low and high

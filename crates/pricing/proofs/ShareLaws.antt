@@ -1,19 +1,17 @@
 -- The executed quantities of an hour's columns: the amounts at the price, and each step's share in turn. Assumes nothing.
-use Prim.Native.Nat.{ℕ, zero, suc, _+_, _-_, _≤_, _<_, min}
-use mathlib.Core.Path.{_≡_, refl, ap, ap₂, sym, _∙_}
-use mathlib.Core.List.{List, [], _∷_, _++_, map, append-nil, append-assoc}
-use mathlib.Core.Bool.{Bool, true, false}
+use Prim.Native.Nat.{ℕ, suc, _+_, _-_, _≤_, _<_, min}
+use mathlib.Core.Path.{_≡_, refl, ap₂, sym, _∙_}
+use mathlib.Core.List.{List, [], _∷_, _++_, append-nil, append-assoc}
 use native.Mathlib.Omega.{arith}
-use native.Mathlib.Nat.{le-of-lt}
 use native.Mathlib.Numerals.{add-one}
-use lib.Dec.{ltb, leb, eqb}
-use lib.ListN.{length, take, drop, getD, set}
+use lib.Dec.{ltb, eqb}
+use lib.ListN.{length, take, getD, set}
 use lib.Seq.{take-suc-set}
 use borrow.Author.Tests.{lt-ltb, le-ltb, eq-eqb, ne-eqb}
-use Rattle.rules.specs.Orders.{Side, buy, sell, Step}
-use Rattle.rules.specs.Hour.{bySide, when, total, buysAbove, buysFrom, sellsTo, sellsBelow, Hour}
-use Rattle.rules.specs.Execution.{testSide, inFull, buyingAt, sellingAt, buyAmount, sellAmount, shares, plus, execution}
-use Rattle.rules.proofs.CurveLaws.{when-zero, buysAbove-falls, buysFrom-suc, sellsBelow-suc, buysFrom-split}
+use Rattle.rules.specs.Orders.{Side, Step}
+use Rattle.rules.specs.Hour.{bySide, when, total, buysFrom, sellsBelow}
+use Rattle.rules.specs.Execution.{testSide, inFull, buyingAt, sellingAt, buyAmount, sellAmount, shares, execution}
+use Rattle.rules.proofs.CurveLaws.{buysFrom-suc, sellsBelow-suc, buysFrom-split}
 use Rattle.orders.specs.Columns.{sideFor, stepsFrom}
 use Rattle.pricing.specs.Curves.{bias, hourWith, stepFor, Columns, TotalsAt, AmountsOf, sharedOut, SharedOut, ExecutedOf}
 use Rattle.pricing.proofs.TotalsLaws.{side-sell, restOf, rest-more, rest-end}

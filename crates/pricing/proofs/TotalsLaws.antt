@@ -2,7 +2,6 @@
 use Prim.Native.Nat.{ℕ, zero, suc, _+_, _*_, _^_, _≤_, _<_}
 use mathlib.Core.Path.{_≡_, refl, _∙_}
 use mathlib.Core.List.{List, [], _∷_}
-use mathlib.Core.Bool.{Bool, true, false}
 use native.Mathlib.Omega.{arith}
 use native.Mathlib.Numerals.{add-one}
 use lib.Dec.{ltb, leb}
@@ -10,7 +9,7 @@ use lib.ListN.{length, drop, getD, drop-of-length-le}
 use lib.Seq.{drop-cons}
 use borrow.Author.Tests.{lt-ltb, le-ltb, le-leb, lt-leb}
 use Rattle.rules.specs.Orders.{Side, buy, sell, Step}
-use Rattle.rules.specs.Hour.{bySide, when, total, buysAbove, sellsTo}
+use Rattle.rules.specs.Hour.{bySide, when, buysAbove, sellsTo}
 use Rattle.rules.proofs.CurveLaws.{when-zero, when-le}
 use Rattle.orders.specs.Columns.{sideFor, stepsFrom}
 use Rattle.pricing.specs.Curves.{Columns, TotalsAt}

@@ -3,13 +3,13 @@
 -- undecided blocks gain no less. Assumes nothing.
 use Prim.Native.Nat.{ℕ, _+_, _-_, _*_, _≤_}
 use mathlib.Core.Bool.{Bool, true, false}
-use mathlib.Core.Path.{_≡_, refl, ap}
+use mathlib.Core.Path.{_≡_, ap}
 use mathlib.Core.List.{List, [], _∷_, _++_}
 use native.Mathlib.Omega.{arith}
-use native.Mathlib.Nat.{le-refl, mul-le-mul-left}
+use native.Mathlib.Nat.{mul-le-mul-left}
 use lib.Dec.{ltb}
 use lib.ListN.{length, drop}
-use Rattle.rules.specs.Orders.{Side, buy, sell, Step, Block}
+use Rattle.rules.specs.Orders.{Side, buy, sell, Block}
 use Rattle.rules.specs.Hour.{bySide, when}
 use Rattle.rules.specs.Day.{
   Day,
@@ -32,7 +32,7 @@ use Rattle.rules.specs.Day.{
 use Rattle.rules.specs.Outcome.{outcome}
 use Rattle.rules.specs.Contender.{Counts, quantitiesIn, PricesInRange, HoursInRange}
 use Rattle.rules.proofs.ExecutionLaws.{execution-within, execution-balances}
-use Rattle.rules.proofs.DualityLaws.{value, cost, surplus, gain-at-most, weak-duality}
+use Rattle.rules.proofs.DualityLaws.{value, cost, surplus, weak-duality}
 use Rattle.rules.proofs.HourSums.{daySum-le, daySum-same, daySum-add, daySum-times}
 use Rattle.rules.proofs.DayLaws.{earned, paid, earned-is, paid-is, value-by-hour, cost-by-hour, executed-in, all-clear, welfare-is}
 use Rattle.rules.proofs.SearchLaws.{search, bound-sound, search-is-best}

@@ -1,8 +1,8 @@
 -- The steps of the day and those of its hours: quantities by hour put in step order are the hours' own again, and a sum over all steps is a sum
 -- over the hours. Assumes nothing.
-use Prim.Native.Nat.{ℕ, suc, _+_, _*_, _≤_}
+use Prim.Native.Nat.{ℕ, _+_, _*_}
 use mathlib.Core.Bool.{Bool, true, false}
-use mathlib.Core.Path.{_≡_, refl, ap}
+use mathlib.Core.Path.{_≡_, refl}
 use mathlib.Core.List.{List, [], _∷_}
 use native.Mathlib.Omega.{arith}
 use lib.Dec.{eqb}
@@ -12,7 +12,7 @@ use Rattle.rules.specs.Orders.{Step}
 use Rattle.rules.specs.Hour.{when}
 use Rattle.rules.specs.Execution.{total₂}
 use Rattle.rules.specs.Day.{weight, daySum, keep, stepsIn, inStepOrder}
-use Rattle.rules.specs.Contender.{Each, Within, quantitiesIn, PricesInRange, HoursInRange}
+use Rattle.rules.specs.Contender.{Each, quantitiesIn, PricesInRange, HoursInRange}
 use Rattle.rules.proofs.Tests.{by-test}
 use Rattle.rules.proofs.HourSums.{daySum-same, daySum-add, daySum-zero, daySum-once}
 

@@ -1,6 +1,6 @@
 -- M1 and M2: the four totals of an hour's steps. Buys fall and sells rise with the price; one cent apart, "at or above" is "above" and "below" is
 -- "at or below"; at the ends of the price range they are all or nothing. Assumes nothing.
-use Prim.Native.Nat.{ℕ, suc, _+_, _≤_, _<_}
+use Prim.Native.Nat.{ℕ, suc, _+_, _≤_}
 use mathlib.Core.Bool.{Bool, true, false}
 use mathlib.Core.Path.{_≡_, refl}
 use mathlib.Core.List.{List, [], _∷_}

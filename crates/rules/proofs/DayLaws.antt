@@ -1,17 +1,17 @@
 -- M7 and M10 for the day: a lawful set's welfare is not negative, no balanced quantities under the same set have more, a contender's set is lawful,
 -- the empty set is lawful; and DEMAND 3: the outcome with its executed quantities beats every contender. Assumes nothing.
-use Prim.Native.Nat.{ℕ, _+_, _-_, _*_, _≤_}
-use mathlib.Core.Bool.{Bool, true, false, _&&_, false≢true}
-use mathlib.Core.Path.{_≡_, refl, ap}
+use Prim.Native.Nat.{ℕ, _+_, _*_, _≤_}
+use mathlib.Core.Bool.{Bool, true, false, false≢true}
+use mathlib.Core.Path.{_≡_, refl}
 use mathlib.Core.List.{List, [], _∷_}
 use native.Mathlib.Omega.{arith}
-use native.Mathlib.Nat.{mul-le-mul-left, mul-zero}
+use native.Mathlib.Nat.{mul-le-mul-left}
 use lib.Dec.{leb}
 use lib.ListN.{length, replicate}
 use borrow.Author.Tests.{leb-true}
 use Rattle.rules.specs.Orders.{Side, buy, sell, Step, Block}
 use Rattle.rules.specs.Hour.{bySide, when, allBuys, allSells, Hour, Pricing, cleared, doesNotClear, pricing, isCleared, priceIn}
-use Rattle.rules.specs.Execution.{testSide, execution, total₂, bought, sold}
+use Rattle.rules.specs.Execution.{testSide, execution, bought, sold}
 use Rattle.rules.specs.Day.{
   Day,
   daySum,
@@ -50,7 +50,6 @@ use Rattle.rules.specs.Contender.{
   Contender,
   HasWelfare,
   WelfareAtMost,
-  HoldsLowest,
   BeatsAll,
   PricesInRange,
   HoursInRange,
@@ -58,7 +57,7 @@ use Rattle.rules.specs.Contender.{
 use Rattle.rules.proofs.Tests.{both}
 use Rattle.rules.proofs.PricingLaws.{Clears, Clearable, Priced, pricing-is, middle-clears}
 use Rattle.rules.proofs.ExecutionLaws.{execution-within, execution-balances}
-use Rattle.rules.proofs.DualityLaws.{value, cost, surplus, execution-attains, execution-greatest}
+use Rattle.rules.proofs.DualityLaws.{value, cost, execution-attains, execution-greatest}
 use Rattle.rules.proofs.HourSums.{daySum-le, daySum-same, daySum-add, daySum-times, daySum-zero, everyHour-at, everyHour-all}
 use Rattle.rules.proofs.ChainLaws.{each-in-order, quantities-in-order, each-in, prices-in, over-hours}
 use Rattle.rules.proofs.BestLaws.{outcome-first}

@@ -1,11 +1,11 @@
 -- The rules at their edges, computed from the definitions alone: where one more or one less would be another rule. Assumes nothing.
 use Prim.Native.Nat.{ℕ}
-use mathlib.Core.Bool.{Bool, true, false, _||_}
+use mathlib.Core.Bool.{true, false, _||_}
 use mathlib.Core.Path.{_≡_, refl}
-use mathlib.Core.List.{List, [], _∷_}
+use mathlib.Core.List.{[], _∷_}
 use lib.Dec.{eqb}
 use lib.ListN.{getD}
-use Rattle.rules.specs.Orders.{Side, buy, sell, Step, Block}
+use Rattle.rules.specs.Orders.{Side, buy, sell, Block}
 use Rattle.rules.specs.Hour.{Hour, buysAbove, buysFrom, sellsTo, sellsBelow, clears, middle}
 use Rattle.rules.specs.Execution.{shares}
 use Rattle.rules.specs.Day.{weight, sumTo, daySum, hourCount, priceSum, keepsLimit}

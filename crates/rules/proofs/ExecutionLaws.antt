@@ -1,7 +1,7 @@
 -- M5 and M6: at a clearing price the amounts for the steps at the price are within what those steps hold, the hour balances, and each step follows
 -- the price; every clearing price executes the same quantities. The sharing rule is used through its two laws only. Assumes nothing.
-use Prim.Native.Nat.{ℕ, zero, suc, _+_, _-_, _≤_, _<_, min}
-use mathlib.Core.Bool.{Bool, true, false}
+use Prim.Native.Nat.{ℕ, suc, _+_, _-_, _≤_, _<_}
+use mathlib.Core.Bool.{Bool}
 use mathlib.Core.Path.{_≡_, refl, sym, ap, ap₂}
 use mathlib.Core.List.{List, [], _∷_, map}
 use mathlib.Core.Logic.{_⊎_, inl, inr}
@@ -12,7 +12,7 @@ use lib.Dec.{ltb, leb, eqb}
 use borrow.Author.Tests.{lt-ltb, le-ltb, ne-eqb}
 use Rattle.rules.specs.Orders.{Side, buy, sell, Step}
 use Rattle.rules.specs.Hour.{bySide, when, total, buying, selling, buysAbove, buysFrom, sellsTo, sellsBelow, Hour}
-use Rattle.rules.specs.Execution.{testSide, better, inFull, buyingAt, sellingAt, buyAmount, sellAmount, shares, plus, execution, bought, sold}
+use Rattle.rules.specs.Execution.{testSide, inFull, buyingAt, sellingAt, buyAmount, sellAmount, shares, plus, execution, bought, sold}
 use Rattle.rules.specs.Contender.{Each, Within, Balanced}
 use Rattle.rules.proofs.Tests.{OneOf, below, above, equal, one-of}
 use Rattle.rules.proofs.CurveLaws.{

@@ -1,6 +1,6 @@
 -- THE WORKED DAYS HOLD, from the rules alone. The rules' pricing walks 300000 prices, which the checker never does: a guess by bisection is tested
 -- by M4's certificate, and the rule itself stands where the test fails. So the guess needs no proof, and the rest computes. Assumes nothing.
-use Prim.Native.Nat.{ℕ, zero, suc, _+_, _-_, _/_, _≤_}
+use Prim.Native.Nat.{ℕ, zero, suc, _+_, _-_, _/_}
 use mathlib.Core.Bool.{Bool, true, false, cond, _&&_, _||_, not, false≢true}
 use mathlib.Core.Path.{_≡_, refl, ap, _∙_, fun-ext}
 use mathlib.Core.List.{List, [], _∷_}

@@ -1,7 +1,7 @@
 -- `clearing::clear_accepted` meets its contract: the columns are the book's, the tables are those of its day, the set found is the published one. Assumes nothing.
-use Prim.Native.Nat.{ℕ, _≤_}
+use Prim.Native.Nat.{_≤_}
 use native.Mathlib.Omega.{arith}
-use mathlib.Core.Path.{_≡_, sym, _∙_}
+use mathlib.Core.Path.{_≡_, sym}
 use lib.ListN.{length, getD}
 use Rattle.orders.proofs.HourLaws.{ends-fit}
 use Rattle.setup.proofs.SetupLaws.{steps-held, blocks-held}

@@ -1,15 +1,13 @@
 -- `pricing::price` meets its contract. Assumes nothing.
 use native.Mathlib.Omega.{arith}
-use Prim.Native.Nat.{_≤_, _^_}
-use mathlib.Core.Path.{_≡_, refl, sym, ap, _∙_}
+use Prim.Native.Nat.{_^_}
+use mathlib.Core.Path.{_≡_, sym, ap, _∙_}
 use mathlib.Core.Bool.{_||_}
 use lib.Dec.{leb, ltb}
-use lib.ListN.{length}
 use borrow.Author.Needs.{needs}
-use Rattle.book.specs.Chains.{blockChain}
 use Rattle.book.specs.Refusals.{Accepted}
 use Rattle.book.proofs.Accepted.{accepted, blocks-few}
-use Rattle.book.proofs.Refused.{bounds, answer-accepted, answer-refused}
+use Rattle.book.proofs.Refused.{answer-accepted, answer-refused}
 use Rattle.pricing.specs.Answers.{wrongCall}
 use Rattle.pricing.proofs.CallLaws.{call-refused, call-wrong, call-answered, hour-answered, wrong-is, call-bounds}
 use Rattle.pricing.proofs.price.Statement.{statement}

@@ -1,3 +1,4 @@
+-- `search::gaps_at` meets its contract: the first h hours clear, and their gaps are added up. Assumes nothing.
 use Prim.Native.Nat.{_+_, _-_, _*_}
 use lib.ListN.{getD}
 use native.Mathlib.Omega.{arith}
@@ -5,8 +6,6 @@ use Rattle.search.proofs.LeafLaws.{GapsTo, gaps-start, gaps-next, place
 use borrow.Author.Needs.{needs}
 use Rattle.search.proofs.gaps_at.Statement.{statement}
 use Rattle.search.proofs.gaps_at.Tie as tie
-use Rattle.search.proofs.gaps_at.Reads as reads
-use Rattle.search.proofs.gaps_at.Lts as lts
 
 abbrev Inv-loop : tie.InvT-loop
 Inv-loop gap first last places sum₀ h₀ sum h = GapsTo gap first last places h sum

@@ -1,11 +1,10 @@
+-- `search::moved` meets its contract: the first h places are moved. Assumes nothing.
 use Prim.Native.Nat.{_-_}
 use native.Mathlib.Omega.{arith}
 use Rattle.search.proofs.HourColumnLaws.{bit-times-le, MovedTo, moved-start, moved-next, moved-all}
 use borrow.Author.Needs.{needs}
 use Rattle.search.proofs.moved.Statement.{statement}
 use Rattle.search.proofs.moved.Tie as tie
-use Rattle.search.proofs.moved.Reads as reads
-use Rattle.search.proofs.moved.Lts as lts
 
 abbrev Inv-loop : tie.InvT-loop
 Inv-loop hours quantity r₀ h₀ rest₀ r h rest = MovedTo r₀ hours quantity h rest r

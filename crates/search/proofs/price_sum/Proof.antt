@@ -1,3 +1,4 @@
+-- `search::price_sum` meets its contract: the sum over the first h hours. Assumes nothing.
 use Prim.Native.Nat.{_-_}
 use native.Mathlib.Omega.{arith}
 use lib.ListN.{getD}
@@ -5,8 +6,6 @@ use Rattle.search.proofs.HourColumnLaws.{bit-times-le, SummedTo, sum-st
 use borrow.Author.Needs.{needs}
 use Rattle.search.proofs.price_sum.Statement.{statement}
 use Rattle.search.proofs.price_sum.Tie as tie
-use Rattle.search.proofs.price_sum.Reads as reads
-use Rattle.search.proofs.price_sum.Lts as lts
 
 abbrev Inv-loop : tie.InvT-loop
 Inv-loop hours prices sum₀ h₀ rest₀ sum h rest = SummedTo prices hours h rest sum

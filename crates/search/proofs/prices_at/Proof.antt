@@ -1,3 +1,4 @@
+-- `search::prices_at` meets its contract: the prices of the first h hours. Assumes nothing.
 use Prim.Native.Nat.{_+_, _-_, _*_}
 use lib.ListN.{getD}
 use native.Mathlib.Omega.{arith}
@@ -5,8 +6,6 @@ use Rattle.search.proofs.LeafLaws.{PricesTo, prices-start, prices-next,
 use borrow.Author.Needs.{needs}
 use Rattle.search.proofs.prices_at.Statement.{statement}
 use Rattle.search.proofs.prices_at.Tie as tie
-use Rattle.search.proofs.prices_at.Reads as reads
-use Rattle.search.proofs.prices_at.Lts as lts
 
 abbrev Inv-loop : tie.InvT-loop
 Inv-loop low places prices₀ h₀ prices h = PricesTo low places h prices

@@ -1,3 +1,4 @@
+-- `pricing::blocks::trades_of` meets its contract: what the first i blocks of the set sell and buy in the hour. Assumes nothing.
 use Prim.Native.Nat.{_-_}
 use native.Mathlib.Omega.{arith}
 use lib.ListN.{length}
@@ -5,9 +6,6 @@ use Rattle.pricing.proofs.TradeLaws.{Summed, summed-none, summed-next, 
 use borrow.Author.Needs.{needs}
 use Rattle.pricing.proofs.blocks.trades_of.Statement.{statement}
 use Rattle.pricing.proofs.blocks.trades_of.Tie as tie
-use Rattle.pricing.proofs.blocks.trades_of.Reads as reads
-use Rattle.pricing.proofs.blocks.trades_of.Lts as lts
-use Rattle.pricing.proofs.blocks.Trades.add.Reads as add-reads
 
 abbrev Inv-loop : tie.InvT-loop
 Inv-loop sides hours quantities set hour trades₀ rest₀ i₀ trades rest i =

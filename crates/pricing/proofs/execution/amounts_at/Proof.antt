@@ -1,5 +1,4 @@
 -- `pricing::execution::amounts_at` meets its contract: the totals at the price and one cent below say what stands at it. Assumes nothing.
-use native.Mathlib.Omega.{arith}
 use Rattle.pricing.proofs.ShareLaws.{amounts-are}
 use borrow.Author.Needs.{needs}
 use Rattle.pricing.proofs.execution.amounts_at.Statement.{statement}

@@ -1,3 +1,4 @@
+-- `pricing::execution::share_out` meets its contract: the first i steps have their shares, and the rest is left to share. Assumes nothing.
 use Prim.Native.Nat.{_-_}
 use mathlib.Core.Path.{_≡_, refl}
 use native.Mathlib.Omega.{arith}
@@ -6,10 +7,6 @@ use Rattle.pricing.proofs.ShareLaws.{Shared, shared-start, shared-next,
 use borrow.Author.Needs.{needs}
 use Rattle.pricing.proofs.execution.share_out.Statement.{statement}
 use Rattle.pricing.proofs.execution.share_out.Tie as tie
-use Rattle.pricing.proofs.execution.share_out.Reads as reads
-use Rattle.pricing.proofs.execution.share_out.Lts as lts
-use Rattle.pricing.proofs.execution.Amounts.after.Reads as after-reads
-use Rattle.pricing.proofs.execution.Amounts.share.Reads as share-reads
 
 abbrev Inv-loop : tie.InvT-loop
 Inv-loop sides prices quantities price out₀ left₀ i₀ out left i =

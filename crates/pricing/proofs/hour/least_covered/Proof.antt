@@ -1,3 +1,4 @@
+-- `pricing::hour::least_covered` meets its contract: the least price that covers stays between low and high. Assumes nothing.
 use Prim.Native.Nat.{ℕ, _-_, _≤_}
 use native.Mathlib.Omega.{arith}
 use Rattle.rules.specs.Orders.{maxPrice}
@@ -6,9 +7,6 @@ use Rattle.pricing.proofs.EndLaws.{Between, between-start, between-cove
 use borrow.Author.Needs.{needs}
 use Rattle.pricing.proofs.hour.least_covered.Statement.{statement}
 use Rattle.pricing.proofs.hour.least_covered.Tie as tie
-use Rattle.pricing.proofs.hour.least_covered.Reads as reads
-use Rattle.pricing.proofs.hour.least_covered.Lts as lts
-use Rattle.pricing.proofs.hour.totals_at.Reads as totals-at-reads
 
 abbrev Inv-loop : tie.InvT-loop
 Inv-loop sides prices quantities net margin low₀ high₀ low high =

@@ -1,3 +1,4 @@
+-- `pricing::hour::totals_at` meets its contract: the totals of the first i steps. Assumes nothing.
 use Prim.Native.Nat.{_-_}
 use mathlib.Core.Path.{_≡_, refl, _∙_}
 use native.Mathlib.Omega.{arith}
@@ -6,9 +7,6 @@ use Rattle.pricing.proofs.TotalsLaws.{Counted, counted-none, counted-ne
 use borrow.Author.Needs.{needs}
 use Rattle.pricing.proofs.hour.totals_at.Statement.{statement}
 use Rattle.pricing.proofs.hour.totals_at.Tie as tie
-use Rattle.pricing.proofs.hour.totals_at.Reads as reads
-use Rattle.pricing.proofs.hour.totals_at.Lts as lts
-use Rattle.pricing.proofs.hour.Totals.add.Reads as add-reads
 
 abbrev Inv-loop : tie.InvT-loop
 Inv-loop sides prices quantities price totals₀ i₀ totals i =
