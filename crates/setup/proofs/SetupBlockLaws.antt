@@ -39,16 +39,16 @@ hours-most (suc n) x = at (holdsHour x (suc n)) (hours-most n x)
 pub limit-fits : (price x : ℕ) → price ≤ 300000 → price * hourCount 24 x ≤ 7200000
 limit-fits price x a = omega (arith, mul-le-mul a (hours-most 24 x))
 
--- places moved on by at most 50 in each hour
-pub moved-small : (i x q : ℕ) (places more : List ℕ) → Small (i * 50) places → q ≤ 50 → length more ≡ 24 →
-    ((h : ℕ) → 1 ≤ h → h ≤ 24 → getD more (h - 1) 0 ≡ getD places (h - 1) 0 + when (holdsHour x h) q) → Small ((i + 1) * 50) more
-moved-small i x q places more small few size moved j = elim (decLe 24 j) [
+-- places moved on by a quantity in some hours
+pub moved-most : (x q : ℕ) (places more : List ℕ) → length more ≡ 24 →
+    ((h : ℕ) → 1 ≤ h → h ≤ 24 → getD more (h - 1) 0 ≡ getD places (h - 1) 0 + when (holdsHour x h) q) → (j : ℕ) → getD more j 0 ≤ getD places j 0 + q
+moved-most x q places more size moved j = elim (decLe 24 j) [
   | yes k ↦ let z : length more ≤ j = omega arith in rw (lib.ListN.List·getD-eq-default more 0 z) (omega arith)
   | no k ↦
       let one : suc j - 1 ≡ j = omega arith in
       let m : getD more (suc j - 1) 0 ≡ getD more j 0 = rw one in
       let n : getD places (suc j - 1) 0 ≡ getD places j 0 = rw one in
-      omega (arith, moved (suc j) (omega arith) (omega (arith, lt-of-not-le k)), small j, when-le (holdsHour x (suc j)) q)
+      omega (arith, moved (suc j) (omega arith) (omega (arith, lt-of-not-le k)), when-le (holdsHour x (suc j)) q)
 ]
 
 -- WHAT THE BUY BLOCKS BUY in each hour
@@ -70,7 +70,7 @@ module _ (sides hours quantities : List ℕ) where
     size = size;
     small =
         let fits = side-le (sideFor (getD sides i 0)) (getD quantities i 0) 0 50 few (omega arith) in
-        moved-small i (getD hours i 0) q off more (o .small) (omega arith) size moved;
+        λ j. omega (arith, moved-most (getD hours i 0) q off more size moved j, o .small j, fits);
     is = λ h a b. moved h a b ∙ rw (add-one, o .is h a b, e);
   }
 

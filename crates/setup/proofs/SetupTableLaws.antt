@@ -86,30 +86,6 @@ set-small m l h v k a small j = elim (decLe j h) [
   | no b ↦ let d : h < j = lt-of-not-le b in rw (getD-set-other l h j v 0 (λ e. omega arith)) (small j)
 ]
 
--- PLACES ADDED UP, hour by hour
-pub record AddedTo (a b : List ℕ) (h : ℕ) (r : List ℕ) : Type 0 where
-  pub size : length r ≡ 24
-  pub most : (i : ℕ) → getD r i 0 ≤ getD a i 0 + getD b i 0
-  pub ahead : (i : ℕ) → h ≤ i → getD r i 0 ≡ getD a i 0
-
-pub added-start : (a b : List ℕ) → length a ≡ 24 → AddedTo a b 0 a
-added-start a b e = record { size = e; most = λ i. omega arith; ahead = λ i k. refl }
-
-pub added-next : (a b : List ℕ) (h : ℕ) (r : List ℕ) → AddedTo a b h r → h < 24 → AddedTo a b (h + 1) (set r h (getD r h 0 + getD b h 0))
-added-next a b h r d k =
-    let inside : h < length r = omega (arith, d .size) in
-    record {
-      size = rw length-set (d .size);
-      most = λ i. elim (decLe i h) [
-        | yes x ↦ elim (decLe h i) [
-          | yes y ↦ let e : i ≡ h = omega arith in rw (e, getD-set-same r h (getD r h 0 + getD b h 0) 0 inside) (omega (arith, d .ahead h (omega arith)))
-          | no y ↦ let z : i < h = lt-of-not-le y in rw (getD-set-other r h i (getD r h 0 + getD b h 0) 0 (λ e. omega arith)) (d .most i)
-        ]
-        | no x ↦ let z : h < i = lt-of-not-le x in rw (getD-set-other r h i (getD r h 0 + getD b h 0) 0 (λ e. omega arith)) (d .most i)
-      ];
-      ahead = λ i x. getD-set-other r h i (getD r h 0 + getD b h 0) 0 (λ e. omega arith) ∙ d .ahead i (omega arith);
-    }
-
 -- THE PRICE TABLES
 module _ (sides prices quantities ends off : List ℕ) where
   pub record RowsTo (low : List ℕ) (h : ℕ) : Type 0 where

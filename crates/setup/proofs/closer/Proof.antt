@@ -1,8 +1,8 @@
 -- `setup::closer` meets its contract: between two prices is a price. Assumes nothing.
-use Prim.Native.Nat.{_+_, _-_, _*_, _/_, _≤_, _<_}
+use Prim.Native.Nat.{_-_, _<_}
 use mathlib.Core.Path.{_≡_, refl}
 use native.Mathlib.Omega.{arith}
-use lib.ListN.{length, getD, length-set}
+use lib.ListN.{length, length-set}
 use Rattle.search.specs.Search.{Small}
 use Rattle.search.proofs.LeafLaws.{zeros}
 use Rattle.setup.proofs.SetupTableLaws.{set-small}
@@ -11,6 +11,7 @@ use Rattle.setup.proofs.closer.Statement.{statement}
 use Rattle.setup.proofs.closer.Tie as tie
 use Rattle.setup.proofs.closer.Reads as reads
 use Rattle.setup.proofs.closer.Lts as lts
+use Rattle.setup.proofs.nearer.Reads as nearer-reads
 
 abbrev Inv-loop : tie.InvT-loop
 Inv-loop a b r₀ h₀ r h = (length r ≡ 24) × Small 300000 r
@@ -21,26 +22,26 @@ abbrev μ-loop : tie.MeasureT-loop
 loop-holds : tie.Need-loop-holds Inv-loop μ-loop
 loop-holds c = (refl, λ i. omega (arith, zeros 24 i))
 
+mul-nearer : tie.Need-mul-nearer Inv-loop μ-loop
+mul-nearer c = search needs
+
+array-read-nearer : tie.Need-array-read-nearer Inv-loop μ-loop
+array-read-nearer c = search needs
+
+mul-nearer-2 : tie.Need-mul-nearer-2 Inv-loop μ-loop
+mul-nearer-2 c = search needs
+
+array-read-nearer-2 : tie.Need-array-read-nearer-2 Inv-loop μ-loop
+array-read-nearer-2 c = search needs
+
+nearer-requires : tie.Need-nearer-requires Inv-loop μ-loop
+nearer-requires c κs =
+    let v = c .before .loop in
+    let s = c .before .before in
+    (s .pre .0 (v .h), s .pre .1 (v .h))
+
 mul-r : tie.Need-mul-r Inv-loop μ-loop
 mul-r c = search needs
-
-array-read-r : tie.Need-array-read-r Inv-loop μ-loop
-array-read-r c = search needs
-
-mul-r-2 : tie.Need-mul-r-2 Inv-loop μ-loop
-mul-r-2 c = omega (arith, c .before .before .pre .0 (c .before .loop .h))
-
-mul-r-3 : tie.Need-mul-r-3 Inv-loop μ-loop
-mul-r-3 c = search needs
-
-array-read-r-2 : tie.Need-array-read-r-2 Inv-loop μ-loop
-array-read-r-2 c = search needs
-
-add-r : tie.Need-add-r Inv-loop μ-loop
-add-r c = omega (arith, c .before .before .pre .0 (c .before .loop .h), c .before .before .pre .1 (c .before .loop .h))
-
-mul-r-4 : tie.Need-mul-r-4 Inv-loop μ-loop
-mul-r-4 c = search needs
 
 array-write-r : tie.Need-array-write-r Inv-loop μ-loop
 array-write-r c = search needs
@@ -53,11 +54,9 @@ loop-less c = search needs
 
 loop-again : tie.Need-loop-again Inv-loop μ-loop
 loop-again c =
-    let v = c .before .loop in
-    let s = c .before .before in
-    let k : v .h < length (v .r) = omega (arith, v .inv .0, c .loop-test .taken) in
-    let e : (7 * getD (s .args .t1) (v .h) 0 + getD (s .args .t2) (v .h) 0) / 8 ≤ 300000 = omega (arith, s .pre .0 (v .h), s .pre .1 (v .h)) in
-    (rw length-set (v .inv .0), set-small 300000 (v .r) (v .h) _ k e (v .inv .1))
+    let v = c .before .before .loop in
+    let k : v .h < length (v .r) = omega (arith, v .inv .0, c .before .loop-test .taken) in
+    (rw length-set (v .inv .0), set-small 300000 (v .r) (v .h) _ k (c .nearer .ensures) (v .inv .1))
 
 returns : tie.Need-returns Inv-loop μ-loop
 returns c = c .before .loop .inv .1
@@ -69,13 +68,12 @@ closer-spec =
     Inv-loop
     μ-loop
     loop-holds
+    mul-nearer
+    array-read-nearer
+    mul-nearer-2
+    array-read-nearer-2
+    nearer-requires
     mul-r
-    array-read-r
-    mul-r-2
-    mul-r-3
-    array-read-r-2
-    add-r
-    mul-r-4
     array-write-r
     add-h
     loop-less

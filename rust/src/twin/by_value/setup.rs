@@ -6,7 +6,6 @@ use crate::twin::by_value::pricing::table::all_totals;
 use crate::twin::by_value::pricing::table::clear_range;
 use crate::twin::by_value::pricing::table::fill_gaps;
 use crate::twin::by_value::pricing::table::fill_prices;
-use crate::twin::by_value::search::keeps_limit;
 use crate::twin::by_value::search::moved;
 use crate::twin::by_value::search::price_sum;
 use crate::twin::by_value::search::prices_at;
@@ -338,45 +337,39 @@ fn with_twins(count: usize, blocks: [u32; 1024]) -> [u32; 1024]
     r
 }
 
-// The places where each block that gains at the prices is taken, and no other.
-fn places_at(
+// What each block asks for over its hours: its price times their number.
+fn limits_of(count: usize, hours: [u32; 32], prices: [u32; 32]) -> [u32; 32]
+{
+    let mut limits = [0; 32];
+    let mut i: usize = 0;
+    while i < count {
+        limits[i] = prices[i] * hour_count(hours[i]);
+        i += 1;
+    }
+    limits
+}
+
+// A list of places with those added at which each block that gains at the prices is taken, and no other: a sell that gains moves its hours on, a buy that
+// does not.
+fn added_places(
+    sum: [u32; 24],
     count: usize,
-    sides: [u8; 32],
     hours: [u32; 32],
-    prices: [u32; 32],
+    limits: [u32; 32],
     quantities: [u32; 32],
     root: [u32; 24],
 ) -> [u32; 24]
 {
-    let mut places = [0; 24];
+    let mut places = sum;
     let mut i: usize = 0;
     while i < count {
-        let gains = keeps_limit(
-            sides[i] as u32,
-            hours[i],
-            prices[i] * hour_count(hours[i]),
-            root,
-            root,
-        );
-        if gains == (sides[i] != 0) {
+        if limits[i] <= price_sum(root, hours[i]) {
             let more = moved(places, hours[i], quantities[i]);
             places = more;
         }
         i += 1;
     }
     places
-}
-
-// Two lists of places added up.
-fn added(a: [u32; 24], b: [u32; 24]) -> [u32; 24]
-{
-    let mut r = a;
-    let mut h: usize = 0;
-    while h < 24 {
-        r[h] += b[h];
-        h += 1;
-    }
-    r
 }
 
 // The places on the average, where n of them are added up.
@@ -391,43 +384,62 @@ fn averaged(sum: [u32; 24], n: u32) -> [u32; 24]
     r
 }
 
-// Prices moved an eighth of the way to others.
+// A price a third of the way to another, and at least 1 nearer.
+fn nearer(a: u32, b: u32) -> u32
+{
+    if a < b {
+        (2 * a + b + 2) / 3
+    } else {
+        (2 * a + b) / 3
+    }
+}
+
+// Prices moved a third of the way to others.
 fn closer(a: [u32; 24], b: [u32; 24]) -> [u32; 24]
 {
     let mut r = [0; 24];
     let mut h: usize = 0;
     while h < 24 {
-        r[h] = (7 * a[h] + b[h]) / 8;
+        r[h] = nearer(a[h], b[h]);
         h += 1;
     }
     r
 }
 
-// The empty set's prices, moved 200 times towards those at the average of the places so far at which the blocks that gain are taken.
-fn moved_prices(
+// Prices on their way, and the places that they were moved by, added up.
+#[derive(Clone, Copy)]
+struct Trail {
+    prices: [u32; 24],
+    sum: [u32; 24],
+}
+
+// Seven moves more, where n places are added up: each goes towards the prices at the average of the places so far at which the blocks that gain are taken.
+fn moved_on(
     low: &[u32],
-    off: [u32; 24],
     count: usize,
-    sides: [u8; 32],
     hours: [u32; 32],
-    prices: [u32; 32],
+    limits: [u32; 32],
     quantities: [u32; 32],
-) -> [u32; 24]
+    trail: Trail,
+    n: u32,
+) -> Trail
 {
-    let mut root = prices_at(low, off);
-    let mut sum = off;
-    let mut n: u32 = 1;
-    while n <= 200 {
-        let places = places_at(count, sides, hours, prices, quantities, root);
-        let more = added(sum, places);
-        let mean = averaged(more, n + 1);
+    let mut root = trail.prices;
+    let mut sum = trail.sum;
+    let mut k = n;
+    while k < n + 7 {
+        let more = added_places(sum, count, hours, limits, quantities, root);
+        let mean = averaged(more, k + 1);
         let there = prices_at(low, mean);
         let next = closer(root, there);
         sum = more;
         root = next;
-        n += 1;
+        k += 1;
     }
-    root
+    Trail {
+        prices: root,
+        sum: sum,
+    }
 }
 
 // What an hour at the place from loses at a price below its own: how far the prices of the places above stand over it.
@@ -489,7 +501,7 @@ fn gains_at(
     count: usize,
     sides: [u8; 32],
     hours: [u32; 32],
-    prices: [u32; 32],
+    limits: [u32; 32],
     quantities: [u32; 32],
     root: [u32; 24],
 ) -> u64
@@ -497,16 +509,33 @@ fn gains_at(
     let mut gains: u64 = 0;
     let mut i: usize = 0;
     while i < count {
-        let limit = prices[i] * hour_count(hours[i]);
         let sum = price_sum(root, hours[i]);
-        let gain = gain_of(sides[i], quantities[i], limit, sum);
+        let gain = gain_of(sides[i], quantities[i], limits[i], sum);
         gains += gain as u64;
         i += 1;
     }
     gains
 }
 
-// The prices that the search goes by: the empty set's own or the moved ones, where it loses less. At its own its hours lose nothing. Any prices are right.
+// What the empty set loses at the prices root: what the blocks would gain, and what the hours lose at its places.
+fn empty_loss(
+    low: &[u32],
+    off: [u32; 24],
+    count: usize,
+    sides: [u8; 32],
+    hours: [u32; 32],
+    limits: [u32; 32],
+    quantities: [u32; 32],
+    root: [u32; 24],
+) -> u64
+{
+    let gains = gains_at(count, sides, hours, limits, quantities, root);
+    let gaps = gaps_from(low, off, root);
+    gains + gaps
+}
+
+// The prices that the search goes by: the empty set's own, or those after 7, 14, .. 56 moves, where it loses least. Two sets' losses differ by the same at
+// all prices, so the published set loses least there too. Any prices are right.
 fn root_prices(
     low: &[u32],
     off: [u32; 24],
@@ -517,16 +546,26 @@ fn root_prices(
     quantities: [u32; 32],
 ) -> [u32; 24]
 {
-    let own = prices_at(low, off);
-    let other = moved_prices(low, off, count, sides, hours, prices, quantities);
-    let own_loss = gains_at(count, sides, hours, prices, quantities, own);
-    let other_gains = gains_at(count, sides, hours, prices, quantities, other);
-    let other_gaps = gaps_from(low, off, other);
-    if own_loss <= other_gains + other_gaps {
-        own
-    } else {
-        other
+    let limits = limits_of(count, hours, prices);
+    let mut best = prices_at(low, off);
+    let mut least = empty_loss(low, off, count, sides, hours, limits, quantities, best);
+    let mut trail = Trail {
+        prices: best,
+        sum: off,
+    };
+    let mut n: u32 = 1;
+    while n <= 50 {
+        let next = moved_on(low, count, hours, limits, quantities, trail, n);
+        let root = next.prices;
+        let loss = empty_loss(low, off, count, sides, hours, limits, quantities, root);
+        if loss < least {
+            best = root;
+            least = loss;
+        }
+        trail = next;
+        n += 7;
     }
+    best
 }
 
 // All that the search is given, from the columns of a book's steps and blocks; low and gap are its two tables, 24 rows of 1,602 places.

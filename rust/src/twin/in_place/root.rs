@@ -4,7 +4,9 @@ use super::hours::Hours;
 use super::orders::{Block, Orders};
 use super::ByHour;
 
-const MOVES: u32 = 200;
+/// Times that the prices are looked at, and moves before each.
+const LOOKS: u32 = 8;
+const MOVES: u32 = 7;
 
 /// All ones at the hours of a block.
 pub fn mask_of(hours: u32) -> ByHour<u32> {
@@ -21,62 +23,90 @@ pub fn prices_at(hours: &Hours, places: &ByHour<u16>) -> ByHour<u32> {
     std::array::from_fn(|h| hours.price(h, places[h]))
 }
 
-/// The prices that the search goes by: the empty set's own or the moved ones, where it
-/// loses less.
+/// The prices that the search goes by: of the empty set's own and those after some moves
+/// the first at which it loses least.
 pub fn prices(orders: &Orders, hours: &Hours) -> ByHour<u32> {
-    let empty = prices_at(hours, &hours.off);
-    let moved = moved_prices(orders, hours);
-    if empty_loss(orders, hours, &empty) <= empty_loss(orders, hours, &moved) {
-        empty
-    } else {
-        moved
-    }
-}
-
-/// What the empty set loses at prices: the gaps at its places, and what the blocks
-/// would gain.
-fn empty_loss(orders: &Orders, hours: &Hours, root: &ByHour<u32>) -> u64 {
-    let gaps: u64 = (0..24).map(|h| hours.gap_at_off(h, root[h])).sum();
-    let gain = |block: &Block| {
-        let sum = masked_sum(root, &mask_of(block.hours));
-        let (less, more) = if block.sells { (block.limit, sum) } else { (sum, block.limit) };
-        u64::from(block.quantity * more.saturating_sub(less))
-    };
-    gaps + orders.blocks.iter().map(gain).sum::<u64>()
-}
-
-/// The empty set's prices, moved towards those at the average of the places at
-/// which the blocks that gain are taken.
-fn moved_prices(orders: &Orders, hours: &Hours) -> ByHour<u32> {
     let masks: Vec<ByHour<u32>> = orders.blocks.iter().map(|b| mask_of(b.hours)).collect();
-    let mut root = prices_at(hours, &hours.off);
-    let mut sum = hours.off.map(u32::from);
-    let mut moved = vec![false; orders.blocks.len()];
-    let mut places = [0u32; 24];
-    for n in 1..=MOVES {
-        for (i, block) in orders.blocks.iter().enumerate() {
-            let sum = masked_sum(&root, &masks[i]);
-            let gains = if block.sells { block.limit <= sum } else { sum <= block.limit };
-            // A sell moves its hours on where it is taken, a buy where it is left out.
-            let moves = gains == block.sells;
-            if moves != moved[i] {
-                moved[i] = moves;
+    let mut trail = Trail::new(orders, hours, &masks);
+    let mut best = trail.root;
+    let mut least = trail.empty_loss();
+    for _ in 0..LOOKS {
+        (0..MOVES).for_each(|_| trail.go_on());
+        let loss = trail.empty_loss();
+        if loss < least {
+            (best, least) = (trail.root, loss);
+        }
+    }
+    best
+}
+
+/// Prices on their way from the empty set's own towards those at the average of the places
+/// so far at which the blocks that gain are taken.
+struct Trail<'a> {
+    orders: &'a Orders,
+    hours: &'a Hours,
+    masks: &'a [ByHour<u32>],
+    root: ByHour<u32>,
+    /// The sum of `count` places.
+    sum: ByHour<u32>,
+    count: u32,
+    /// The last places, and which blocks move them on: sells that gain, buys that do not.
+    places: ByHour<u32>,
+    moving: Vec<bool>,
+}
+
+impl<'a> Trail<'a> {
+    fn new(orders: &'a Orders, hours: &'a Hours, masks: &'a [ByHour<u32>]) -> Trail<'a> {
+        Trail {
+            orders,
+            hours,
+            masks,
+            root: prices_at(hours, &hours.off),
+            sum: hours.off.map(u32::from),
+            count: 1,
+            places: [0; 24],
+            moving: vec![false; masks.len()],
+        }
+    }
+
+    fn go_on(&mut self) {
+        for (i, block) in self.orders.blocks.iter().enumerate() {
+            let moves = block.limit <= masked_sum(&self.root, &self.masks[i]);
+            if moves != self.moving[i] {
+                self.moving[i] = moves;
                 let sign = if moves { block.quantity } else { block.quantity.wrapping_neg() };
                 for h in 0..24 {
-                    places[h] = places[h].wrapping_add(sign & masks[i][h]);
+                    self.places[h] = self.places[h].wrapping_add(sign & self.masks[i][h]);
                 }
             }
         }
         for h in 0..24 {
-            sum[h] += places[h];
+            self.sum[h] += self.places[h];
         }
-        let mean = sum.map(|sum| average(sum, n + 1));
-        let there = prices_at(hours, &mean);
+        self.count += 1;
+        let mean = self.sum.map(|sum| average(sum, self.count));
+        let there = prices_at(self.hours, &mean);
         for h in 0..24 {
-            root[h] = (7 * root[h] + there[h]) / 8;
+            self.root[h] = nearer(self.root[h], there[h]);
         }
     }
-    root
+
+    /// What the empty set loses at the prices: the gaps at its places, and what the blocks
+    /// would gain.
+    fn empty_loss(&self) -> u64 {
+        let gaps: u64 = (0..24).map(|h| self.hours.gap_at_off(h, self.root[h])).sum();
+        let gain = |(block, mask): (&Block, &ByHour<u32>)| {
+            let sum = masked_sum(&self.root, mask);
+            let (less, more) = if block.sells { (block.limit, sum) } else { (sum, block.limit) };
+            u64::from(block.quantity * more.saturating_sub(less))
+        };
+        gaps + self.orders.blocks.iter().zip(self.masks).map(gain).sum::<u64>()
+    }
+}
+
+/// A price a third of the way to another, and at least 1 nearer.
+fn nearer(a: u32, b: u32) -> u32 {
+    (2 * a + b + if a < b { 2 } else { 0 }) / 3
 }
 
 /// `sum / n`, exactly: both are so small that the rounding does not reach the next number.
