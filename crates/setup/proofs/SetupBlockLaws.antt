@@ -23,6 +23,11 @@ pub side-le : (side : Side) (a b m : ℕ) → a ≤ m → b ≤ m → bySide sid
 side-le buy a b m x y = x
 side-le sell a b m x y = y
 
+-- a number or 0 stays below what the number does
+pub chosen-le : (t : Bool) (a m : ℕ) → a ≤ m → cond t a 0 ≤ m
+chosen-le true a m x = x
+chosen-le false a m x = omega arith
+
 pub product-fits : (q x : ℕ) → q ≤ 50 → x ≤ 7200000 → q * x ≤ 360000000
 product-fits q x a b = omega (arith, mul-le-mul a b)
 

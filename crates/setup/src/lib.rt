@@ -412,10 +412,9 @@ fn added_places(
     let mut places = sum;
     let mut i: usize = 0;
     while i < count {
-        if limits[i] <= price_sum(root, hours[i]) {
-            let more = moved(places, hours[i], quantities[i]);
-            places = more;
-        }
+        let moves = limits[i] <= price_sum(root, hours[i]);
+        let more = moved(places, hours[i], choose(moves, quantities[i], 0));
+        places = more;
         i += 1;
     }
     places
