@@ -53,7 +53,7 @@ use Rattle.setup.specs.Setup.{
   ReadyFor,
 }
 use Rattle.search.proofs.BranchLaws.{daySum-plain}
-use Rattle.setup.proofs.SetupTwinLaws.{Completed, no-worse-true, no-worse-false}
+use Rattle.setup.proofs.SetupTwinLaws.{Completed, twins-back, no-worse-true, no-worse-false}
 use Rattle.setup.proofs.SetupTableLaws.{take-drop, row-length, range-holds}
 
 -- THE BLOCKS OF THE COLUMNS
@@ -248,7 +248,7 @@ module _ (b ends stepRecords sides prices quantities : List ℕ) (count : ℕ) (
         let f = all .behind j k c e in
         let below = f .0 in
         let less = no-worse-false (sideAt columns j) (limitAt columns c) (limitAt columns j) (f .2) in
-        (below, twins-ahead j c k (omega arith) (f .1) (omega (arith, less)) (λ n. (f .3, less)))
+        (below, twins-ahead j c k (omega arith) (twins-back columns c j (f .1)) (omega (arith, less)) (λ n. (f .3, less)))
 
   -- THE HOURS
   module _ (off root low gap first last turn columns : List ℕ) (lowSize : length low ≡ 38448) (offFits : Small 1600 off)

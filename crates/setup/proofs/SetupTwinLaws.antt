@@ -2,7 +2,7 @@
 use Prim.Native.Nat.{ℕ, zero, suc, _+_, _-_, _*_, _/_, _%_, _^_, _≤_, _<_}
 use mathlib.Core.Path.{_≡_, refl, sym, _∙_}
 use mathlib.Core.List.{List}
-use mathlib.Core.Bool.{Bool, true, false, cond, not, _&&_}
+use mathlib.Core.Bool.{Bool, true, false, cond, _&&_, Bool·beq}
 use native.Mathlib.Omega.{arith}
 use native.Mathlib.Decide.{decLe}
 use native.Mathlib.Nat.{lt-of-not-le}
@@ -10,7 +10,7 @@ use native.Mathlib.Numerals.{add-one}
 use lib.Dec.{leb, ltb, eqb}
 use lib.ListN.{length, take, drop, getD, set, replicate, length-set, length-take, length-drop}
 use lib.Seq.{getD-set-same, getD-set-other, getD-take, getD-drop, ext-getD}
-use borrow.Author.Tests.{leb-true, leb-false, ltb-true, eqb-true, not-true}
+use borrow.Author.Tests.{leb-true, leb-false, ltb-true, eqb-true}
 use Rattle.book.specs.Records.{holdsHour}
 use Rattle.orders.specs.Columns.{sideFor}
 use Rattle.rules.specs.Orders.{Side, buy, sell}
@@ -26,8 +26,7 @@ use Rattle.setup.specs.Setup.{
   RowsWritten,
   TwinsAt,
   noWorse,
-  AheadOf,
-  BehindOf,
+  TwinOf,
   TwinsEmpty,
   TwinsWritten,
 }
@@ -213,36 +212,31 @@ twins-from blocks a b e =
       sameQuantity = eqb-true _ _ (two .1);
     }
 
+pub twins-back : (blocks : List ℕ) (a b : ℕ) → TwinsAt blocks a b → TwinsAt blocks b a
+twins-back blocks a b t = record { sameSide = sym (t .sameSide); sameHours = sym (t .sameHours); sameQuantity = sym (t .sameQuantity) }
+
+-- two tests with the same answer
+agree : (a b : Bool) → Bool·beq a b ≡ true → a ≡ b
+agree true true e = refl
+agree true false e = sym e
+agree false true e = e
+agree false false e = refl
+
 -- the twin found so far
-pub ahead-none : (blocks : List ℕ) (i : ℕ) → AheadOf blocks i 0
-ahead-none blocks i a e = absurd (omega arith)
+pub twin-none : (blocks : List ℕ) (i : ℕ) (ahead : Bool) → TwinOf blocks i ahead 0
+twin-none blocks i ahead a e = absurd (omega arith)
 
-pub behind-none : (blocks : List ℕ) (i : ℕ) → BehindOf blocks i 0
-behind-none blocks i a e = absurd (omega arith)
-
-pub ahead-next : (blocks : List ℕ) (i j found next : ℕ) (twins ahead nearer : Bool) → AheadOf blocks i found → j < i →
-    (twins ≡ true → TwinsAt blocks j i) → ahead ≡ noWorse (sideAt blocks i) (limitAt blocks j) (limitAt blocks i) →
-    next ≡ cond ((twins && ahead) && nearer) (j + 1) found → AheadOf blocks i next
-ahead-next blocks i j found next twins ahead nearer so k are is e =
+pub twin-next : (blocks : List ℕ) (i j found next : ℕ) (ahead twins better nearer : Bool) → TwinOf blocks i ahead found → j < i →
+    (twins ≡ true → TwinsAt blocks j i) → better ≡ noWorse (sideAt blocks i) (limitAt blocks j) (limitAt blocks i) →
+    next ≡ cond (((twins && ltb 0 (quantityAt blocks i)) && Bool·beq better ahead) && nearer) (j + 1) found → TwinOf blocks i ahead next
+twin-next blocks i j found next ahead twins better nearer so k are is e =
     rw e
-    (by-test (λ t. AheadOf blocks i (cond t (j + 1) found)) ((twins && ahead) && nearer)
+    (by-test (λ t. TwinOf blocks i ahead (cond t (j + 1) found)) (((twins && ltb 0 (quantityAt blocks i)) && Bool·beq better ahead) && nearer)
     (λ p a z.
     let same : a ≡ j = omega arith in
-    let two = both twins ahead (both (twins && ahead) nearer p .0) in
-    rw same (k, are (two .0), sym is ∙ two .1))
-    (λ p. so))
-
-pub behind-next : (blocks : List ℕ) (i j found next : ℕ) (twins ahead nearer : Bool) → BehindOf blocks i found → j < i →
-    (twins ≡ true → TwinsAt blocks i j) → ahead ≡ noWorse (sideAt blocks i) (limitAt blocks j) (limitAt blocks i) →
-    next ≡ cond (((twins && not ahead) && ltb 0 (quantityAt blocks i)) && nearer) (j + 1) found → BehindOf blocks i next
-behind-next blocks i j found next twins ahead nearer so k are is e =
-    rw e
-    (by-test (λ t. BehindOf blocks i (cond t (j + 1) found)) (((twins && not ahead) && ltb 0 (quantityAt blocks i)) && nearer)
-    (λ p a z.
-    let same : a ≡ j = omega arith in
-    let three = both (twins && not ahead) (ltb 0 (quantityAt blocks i)) (both ((twins && not ahead) && ltb 0 (quantityAt blocks i)) nearer p .0) in
-    let two = both twins (not ahead) (three .0) in
-    rw same (k, are (two .0), sym is ∙ not-true ahead (two .1), ltb-true 0 (quantityAt blocks i) (three .1)))
+    let three = both (twins && ltb 0 (quantityAt blocks i)) (Bool·beq better ahead) (both ((twins && ltb 0 (quantityAt blocks i)) && Bool·beq better ahead) nearer p .0) in
+    let two = both twins (ltb 0 (quantityAt blocks i)) (three .0) in
+    rw same (k, are (two .0), sym is ∙ agree better ahead (three .1), ltb-true 0 (quantityAt blocks i) (two .1)))
     (λ p. so))
 
 -- the twins of the blocks, block by block
@@ -252,8 +246,8 @@ module _ (blocks : List ℕ) where
     pub size : length r ≡ 1024
     pub columns : (k : ℕ) → k < 192 → getD r k 0 ≡ getD blocks k 0
     pub rows : (k : ℕ) → 256 ≤ k → getD r k 0 ≡ getD blocks k 0
-    pub ahead : (j : ℕ) → j < i → AheadOf blocks j (aheadAt r j)
-    pub behind : (j : ℕ) → j < i → BehindOf blocks j (behindAt r j)
+    pub ahead : (j : ℕ) → j < i → TwinOf blocks j true (aheadAt r j)
+    pub behind : (j : ℕ) → j < i → TwinOf blocks j false (behindAt r j)
     pub none : (j : ℕ) → i ≤ j → j < 32 → (aheadAt r j ≡ 0) × (behindAt r j ≡ 0)
 
   pub twins-start : (count : ℕ) → length blocks ≡ 1024 → TwinsEmpty blocks → TwinsTo count 0 blocks
@@ -267,16 +261,16 @@ module _ (blocks : List ℕ) where
     none = λ j a b. (empty (192 + j) (omega arith) (omega arith), empty (224 + j) (omega arith) (omega arith));
   }
 
-  pub twins-next : (count i : ℕ) (r : List ℕ) (a b : ℕ) → TwinsTo count i r → count ≤ 32 → i < count → AheadOf blocks i a → BehindOf blocks i b →
+  pub twins-next : (count i : ℕ) (r : List ℕ) (a b : ℕ) → TwinsTo count i r → count ≤ 32 → i < count → TwinOf blocks i true a → TwinOf blocks i false b →
       TwinsTo count (i + 1) (set (set r (192 + i) a) (224 + i) b)
   twins-next count i r a b t few below fa fb = record {
     inside = omega arith;
     size = rw length-set size₁;
     columns = λ k c. other k (λ e. omega arith) (λ e. omega arith) ∙ t .columns k c;
     rows = λ k c. other k (λ e. omega arith) (λ e. omega arith) ∙ t .rows k c;
-    ahead = λ j c. below-next (λ j. AheadOf blocks j (aheadAt r₂ j)) i j
+    ahead = λ j c. below-next (λ j. TwinOf blocks j true (aheadAt r₂ j)) i j
         (λ d. rw (other (192 + j) (λ e. omega arith) (λ e. omega arith)) (t .ahead j d)) (rw ahead-here fa) (rw add-one at c);
-    behind = λ j c. below-next (λ j. BehindOf blocks j (behindAt r₂ j)) i j
+    behind = λ j c. below-next (λ j. TwinOf blocks j false (behindAt r₂ j)) i j
         (λ d. rw (other (224 + j) (λ e. omega arith) (λ e. omega arith)) (t .behind j d)) (rw behind-here fb) (rw add-one at c);
     none = λ j c d.
         let n = t .none j (omega arith) d in (
@@ -334,8 +328,8 @@ no-worse-false side limit other = at (sideFor side)
 pub record Completed (sides hours prices quantities root : List ℕ) (count : ℕ) (blocks : List ℕ) : Type 0 where
   pub columns : (j : ℕ) → j < count → Written sides hours prices quantities root blocks j
   pub row : (j h : ℕ) → j < count → 1 ≤ h → h ≤ 24 → rowAt blocks j h ≡ when (holdsHour (hoursAt blocks j) h) (quantityAt blocks j)
-  pub ahead : (j : ℕ) → j < count → AheadOf blocks j (aheadAt blocks j)
-  pub behind : (j : ℕ) → j < count → BehindOf blocks j (behindAt blocks j)
+  pub ahead : (j : ℕ) → j < count → TwinOf blocks j true (aheadAt blocks j)
+  pub behind : (j : ℕ) → j < count → TwinOf blocks j false (behindAt blocks j)
 
 -- what is said of a list's six columns is said of one with the same six
 module _ (before blocks : List ℕ) (same : (k : ℕ) → k < 192 → getD blocks k 0 ≡ getD before k 0) where
@@ -357,30 +351,20 @@ module _ (before blocks : List ℕ) (same : (k : ℕ) → k < 192 → getD block
     sameQuantity = same (64 + a) (omega arith) ∙ t .sameQuantity ∙ sym (same (64 + b) (omega arith));
   }
 
-  ahead-carried : (i found : ℕ) → i < 32 → AheadOf before i found → AheadOf blocks i found
-  ahead-carried i found k of a e =
-      let t = of a e in
-      let b = t .0 in
-      (b, twins-carried a i (omega arith) k (t .1), rw (same i (omega arith), same (96 + a) (omega arith), same (96 + i) (omega arith)) (t .2))
-
-  behind-carried : (i found : ℕ) → i < 32 → BehindOf before i found → BehindOf blocks i found
-  behind-carried i found k of a e =
+  twin-carried : (i : ℕ) (ahead : Bool) (found : ℕ) → i < 32 → TwinOf before i ahead found → TwinOf blocks i ahead found
+  twin-carried i ahead found k of a e =
       let t = of a e in
       let b = t .0 in (
         b,
-        twins-carried i a k (omega arith) (t .1),
+        twins-carried a i (omega arith) k (t .1),
         rw (same i (omega arith), same (96 + a) (omega arith), same (96 + i) (omega arith)) (t .2),
         rw (same (64 + i) (omega arith)) (t .3),
       )
 
 -- the number of an earlier twin fits
-ahead-fits : (blocks : List ℕ) (i found : ℕ) → i < 32 → AheadOf blocks i found → found ≤ 32
-ahead-fits blocks i zero k of = omega arith
-ahead-fits blocks i (suc a) k of = omega (arith, of a refl .0)
-
-behind-fits : (blocks : List ℕ) (i found : ℕ) → i < 32 → BehindOf blocks i found → found ≤ 32
-behind-fits blocks i zero k of = omega arith
-behind-fits blocks i (suc a) k of = omega (arith, of a refl .0)
+twin-fits : (blocks : List ℕ) (i : ℕ) (ahead : Bool) (found : ℕ) → i < 32 → TwinOf blocks i ahead found → found ≤ 32
+twin-fits blocks i ahead zero k of = omega arith
+twin-fits blocks i ahead (suc a) k of = omega (arith, of a refl .0)
 
 -- the list as it grows: the columns, wide; with its rows; with its twins
 module _ (count : ℕ) (columns wide traded blocks : List ℕ) (few : count ≤ 32) (widened : Widened columns wide) (rows : RowsWritten count wide traded)
@@ -397,8 +381,8 @@ module _ (count : ℕ) (columns wide traded blocks : List ℕ) (few : count ≤ 
         let x : hoursAt blocks j ≡ hoursAt wide j = twins .columns (32 + j) (omega arith) ∙ rows .same (32 + j) (omega arith) in
         let q : quantityAt blocks j ≡ quantityAt wide j = twins .columns (64 + j) (omega arith) ∙ rows .same (64 + j) (omega arith) in
         rw (x, q) there;
-    ahead = λ j k. ahead-carried traded blocks (twins .columns) j (aheadAt blocks j) (omega arith) (twins .ahead j k);
-    behind = λ j k. behind-carried traded blocks (twins .columns) j (behindAt blocks j) (omega arith) (twins .behind j k);
+    ahead = λ j k. twin-carried traded blocks (twins .columns) j true (aheadAt blocks j) (omega arith) (twins .ahead j k);
+    behind = λ j k. twin-carried traded blocks (twins .columns) j false (behindAt blocks j) (omega arith) (twins .behind j k);
   }
 
   pub blocks-sized : BlocksSized blocks
@@ -409,7 +393,7 @@ module _ (count : ℕ) (columns wide traded blocks : List ℕ) (few : count ≤ 
       | yes a ↦ let n = twins .none i a k in (omega (arith, n .0), omega (arith, n .1))
       | no a ↦
           let b : i < count = lt-of-not-le a in
-          (ahead-fits traded i (aheadAt blocks i) k (twins .ahead i b), behind-fits traded i (behindAt blocks i) k (twins .behind i b))
+          (twin-fits traded i true (aheadAt blocks i) k (twins .ahead i b), twin-fits traded i false (behindAt blocks i) k (twins .behind i b))
     ];
   }
 

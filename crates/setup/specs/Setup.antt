@@ -142,13 +142,10 @@ pub record TwinsAt (blocks : List ℕ) (a b : ℕ) : Type 0 where
 unfoldable pub noWorse : (side limit other : ℕ) → Bool
 noWorse side limit other = testSide (sideFor side) (leb other limit) (leb limit other)
 
--- A number that is 0, or 1 and the number of an earlier twin that is taken before block i; .. that is taken after block i.
-abbrev pub AheadOf : (blocks : List ℕ) (i found : ℕ) → Type 0
-AheadOf blocks i found = (a : ℕ) → found ≡ suc a → (a < i) × TwinsAt blocks a i × (noWorse (sideAt blocks i) (limitAt blocks a) (limitAt blocks i) ≡ true)
-
-abbrev pub BehindOf : (blocks : List ℕ) (i found : ℕ) → Type 0
-BehindOf blocks i found = (b : ℕ) → found ≡ suc b →
-    (b < i) × TwinsAt blocks i b × (noWorse (sideAt blocks i) (limitAt blocks b) (limitAt blocks i) ≡ false) × (1 ≤ quantityAt blocks i)
+-- A number that is 0, or 1 and the number of an earlier twin of block i: one that is taken before it, or where `ahead` is false after it.
+abbrev pub TwinOf : (blocks : List ℕ) (i : ℕ) (ahead : Bool) (found : ℕ) → Type 0
+TwinOf blocks i ahead found = (a : ℕ) → found ≡ suc a →
+    (a < i) × TwinsAt blocks a i × (noWorse (sideAt blocks i) (limitAt blocks a) (limitAt blocks i) ≡ ahead) × (1 ≤ quantityAt blocks i)
 
 -- No twin stands yet.
 abbrev pub TwinsEmpty : List ℕ → Type 0
@@ -159,8 +156,8 @@ pub record TwinsWritten (count : ℕ) (before blocks : List ℕ) : Type 0 where
   pub size : length blocks ≡ 1024
   pub columns : (k : ℕ) → k < 192 → getD blocks k 0 ≡ getD before k 0
   pub rows : (k : ℕ) → 256 ≤ k → getD blocks k 0 ≡ getD before k 0
-  pub ahead : (i : ℕ) → i < count → AheadOf before i (aheadAt blocks i)
-  pub behind : (i : ℕ) → i < count → BehindOf before i (behindAt blocks i)
+  pub ahead : (i : ℕ) → i < count → TwinOf before i true (aheadAt blocks i)
+  pub behind : (i : ℕ) → i < count → TwinOf before i false (behindAt blocks i)
   pub none : (i : ℕ) → count ≤ i → i < 32 → (aheadAt blocks i ≡ 0) × (behindAt blocks i ≡ 0)
 
 -- WHAT IS READY: the day of an accepted book behind the tables, at some prices.

@@ -14,11 +14,11 @@ abbrev μ-loop : tie.MeasureT-loop
 loop-holds : tie.Need-loop-holds Inv-loop μ-loop
 loop-holds c = twins-start _ _ (search needs) (c .pre .1)
 
-slice-aggregate-twin-ahead : tie.Need-slice-aggregate-twin-ahead Inv-loop μ-loop
-slice-aggregate-twin-ahead c = search needs
+slice-aggregate-nearest-twin : tie.Need-slice-aggregate-nearest-twin Inv-loop μ-loop
+slice-aggregate-nearest-twin c = search needs
 
-twin-ahead-requires : tie.Need-twin-ahead-requires Inv-loop μ-loop
-twin-ahead-requires c κs = search needs
+nearest-twin-requires : tie.Need-nearest-twin-requires Inv-loop μ-loop
+nearest-twin-requires c κs = search needs
 
 add-r : tie.Need-add-r Inv-loop μ-loop
 add-r c = search needs
@@ -29,11 +29,11 @@ mul-r c = search needs
 array-write-r : tie.Need-array-write-r Inv-loop μ-loop
 array-write-r c = search needs
 
-slice-aggregate-twin-behind : tie.Need-slice-aggregate-twin-behind Inv-loop μ-loop
-slice-aggregate-twin-behind c = search needs
+slice-aggregate-nearest-twin-2 : tie.Need-slice-aggregate-nearest-twin-2 Inv-loop μ-loop
+slice-aggregate-nearest-twin-2 c = search needs
 
-twin-behind-requires : tie.Need-twin-behind-requires Inv-loop μ-loop
-twin-behind-requires c κs = search needs
+nearest-twin-requires-2 : tie.Need-nearest-twin-requires-2 Inv-loop μ-loop
+nearest-twin-requires-2 c κs = search needs
 
 add-r-2 : tie.Need-add-r-2 Inv-loop μ-loop
 add-r-2 c = search needs
@@ -55,7 +55,7 @@ loop-again c =
     let f = c .before .before in
     let i = f .before .before in
     let s = i .before .before in
-    twins-next _ _ _ _ _ _ (i .before .loop .inv) (s .pre .0) (i .loop-test .taken) (f .twin-ahead .ensures) (c .twin-behind .ensures)
+    twins-next _ _ _ _ _ _ (i .before .loop .inv) (s .pre .0) (i .loop-test .taken) (f .nearest-twin .ensures) (c .nearest-twin2 .ensures)
 
 returns : tie.Need-returns Inv-loop μ-loop
 returns c = twins-all _ _ _ _ (c .before .loop .inv) (c .loop-test .left)
@@ -67,13 +67,13 @@ with-twins-spec =
     Inv-loop
     μ-loop
     loop-holds
-    slice-aggregate-twin-ahead
-    twin-ahead-requires
+    slice-aggregate-nearest-twin
+    nearest-twin-requires
     add-r
     mul-r
     array-write-r
-    slice-aggregate-twin-behind
-    twin-behind-requires
+    slice-aggregate-nearest-twin-2
+    nearest-twin-requires-2
     add-r-2
     mul-r-2
     array-write-r-2

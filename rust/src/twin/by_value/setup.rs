@@ -281,40 +281,20 @@ fn choose(test: bool, a: u32, b: u32) -> u32
     if test { a } else { b }
 }
 
-// Of the blocks before block i, the twin that is taken before it, the last by limit; its number and 1, or 0 for none.
-fn twin_ahead(blocks: &[u32], i: usize) -> u32
-{
-    let side = blocks[i];
-    let limit = blocks[96 + i];
-    let mut found: u32 = 0;
-    let mut edge = choose(side == 0, 4294967295, 0);
-    let mut j: usize = 0;
-    while j < i {
-        let here = blocks[96 + j];
-        let ahead = are_twins(blocks, j, i) & is_no_worse(side, here, limit);
-        let test = ahead & is_no_worse(side, edge, here);
-        let next = choose(test, (j + 1) as u32, found);
-        let nearer = choose(test, here, edge);
-        found = next;
-        edge = nearer;
-        j += 1;
-    }
-    found
-}
-
-// Of the blocks before block i, the twin that is taken after it, the first by limit; its number and 1, or 0 for none.
-fn twin_behind(blocks: &[u32], i: usize) -> u32
+// Of the earlier twins of block i that are taken before it, the last by limit; where ahead is false, of those that are taken after it, the first. Its number
+// and 1, or 0 for none.
+fn nearest_twin(blocks: &[u32], i: usize, ahead: bool) -> u32
 {
     let side = blocks[i];
     let limit = blocks[96 + i];
     let trades = 0 < blocks[64 + i];
     let mut found: u32 = 0;
-    let mut edge = choose(side == 0, 0, 4294967295);
+    let mut edge = choose((side == 0) == ahead, 4294967295, 0);
     let mut j: usize = 0;
     while j < i {
         let here = blocks[96 + j];
-        let behind = (are_twins(blocks, i, j) & !is_no_worse(side, here, limit)) & trades;
-        let test = behind & !is_no_worse(side, edge, here);
+        let fits = (are_twins(blocks, j, i) & trades) & (is_no_worse(side, here, limit) == ahead);
+        let test = fits & (is_no_worse(side, edge, here) == ahead);
         let next = choose(test, (j + 1) as u32, found);
         let nearer = choose(test, here, edge);
         found = next;
@@ -330,8 +310,8 @@ fn with_twins(count: usize, blocks: [u32; 1024]) -> [u32; 1024]
     let mut r = blocks;
     let mut i: usize = 0;
     while i < count {
-        r[192 + i] = twin_ahead(&blocks, i);
-        r[224 + i] = twin_behind(&blocks, i);
+        r[192 + i] = nearest_twin(&blocks, i, true);
+        r[224 + i] = nearest_twin(&blocks, i, false);
         i += 1;
     }
     r

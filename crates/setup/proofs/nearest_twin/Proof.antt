@@ -1,17 +1,17 @@
--- `setup::twin_ahead` meets its contract: what is found among the blocks before j is ahead. Assumes nothing.
+-- `setup::nearest_twin` meets its contract: what is found among the blocks before j is such a twin. Assumes nothing.
 use Prim.Native.Nat.{_-_, _≤_}
 use native.Mathlib.Omega.{arith}
-use Rattle.setup.specs.Setup.{AheadOf}
-use Rattle.setup.proofs.SetupTwinLaws.{ahead-none, ahead-next}
+use Rattle.setup.specs.Setup.{TwinOf}
+use Rattle.setup.proofs.SetupTwinLaws.{twin-none, twin-next}
 use borrow.Author.Needs.{needs}
-use Rattle.setup.proofs.twin_ahead.Statement.{statement}
-use Rattle.setup.proofs.twin_ahead.Tie as tie
+use Rattle.setup.proofs.nearest_twin.Statement.{statement}
+use Rattle.setup.proofs.nearest_twin.Tie as tie
 
 abbrev Inv-loop : tie.InvT-loop
-Inv-loop blocks i side limit found₀ edge₀ j₀ found edge j = (j ≤ i) × AheadOf blocks i found
+Inv-loop blocks i ahead side limit trades found₀ edge₀ j₀ found edge j = (j ≤ i) × TwinOf blocks i ahead found
 
 abbrev μ-loop : tie.MeasureT-loop
-μ-loop blocks i side limit found₀ edge₀ j₀ found edge j = i - j
+μ-loop blocks i ahead side limit trades found₀ edge₀ j₀ found edge j = i - j
 
 mul-side : tie.Need-mul-side Inv-loop μ-loop
 mul-side c = search needs
@@ -28,11 +28,20 @@ mul-limit c = search needs
 shared-slice-read-limit : tie.Need-shared-slice-read-limit Inv-loop μ-loop
 shared-slice-read-limit c = search needs
 
+add-trades : tie.Need-add-trades Inv-loop μ-loop
+add-trades c = search needs
+
+mul-trades : tie.Need-mul-trades Inv-loop μ-loop
+mul-trades c = search needs
+
+shared-slice-read-trades : tie.Need-shared-slice-read-trades Inv-loop μ-loop
+shared-slice-read-trades c = search needs
+
 choose-requires : tie.Need-choose-requires Inv-loop μ-loop
 choose-requires c κs = search needs
 
 loop-holds : tie.Need-loop-holds Inv-loop μ-loop
-loop-holds c = (omega arith, ahead-none _ _)
+loop-holds c = (omega arith, twin-none _ _ _)
 
 add-here : tie.Need-add-here Inv-loop μ-loop
 add-here c = search needs
@@ -75,15 +84,15 @@ loop-again c =
     let w = c .before .before .before in
     let i = w .before .before .before in (
       omega (arith, i .loop-test .taken),
-      ahead-next _ _ (i .before .loop .j) _ _ _ _ _ (i .before .loop .inv .1) (i .loop-test .taken) (w .before .are-twins .ensures)
+      twin-next _ _ (i .before .loop .j) _ _ _ _ _ _ (i .before .loop .inv .1) (i .loop-test .taken) (w .before .are-twins .ensures)
           (w .is-no-worse .ensures) (c .before .choose2 .ensures),
     )
 
 returns : tie.Need-returns Inv-loop μ-loop
 returns c = c .before .loop .inv .1
 
-pub twin-ahead-spec : {M : Type 1} → statement M
-twin-ahead-spec =
+pub nearest-twin-spec : {M : Type 1} → statement M
+nearest-twin-spec =
     tie.close
     (tie.spec
     Inv-loop
@@ -93,6 +102,9 @@ twin-ahead-spec =
     add-limit
     mul-limit
     shared-slice-read-limit
+    add-trades
+    mul-trades
+    shared-slice-read-trades
     choose-requires
     loop-holds
     add-here
