@@ -215,9 +215,6 @@ module _ (l : List Step) (r : PricesInRange l) (off : ℕ) (table : List ℕ) (p
     pub gap-table : (i : ℕ) → first ≤ i → i ≤ last → slack price (net l i off) ≡ getD out i 0 + slack price (net l m off)
     gap-table i a b = omega (arith, alike-at i a b, alike-at m (g .from) (g .to), g .zeroAt)
 
-    pub gap-least : (i : ℕ) → first ≤ i → i ≤ last → slack price (net l m off) ≤ slack price (net l i off)
-    gap-least i a b = omega (arith, gap-table i a b)
-
 -- A GAP TABLE FALLS TO ITS LEAST GAP AND RISES FROM IT, since its prices do not rise
 pub never-rises : (table : List ℕ) → NotRising table → (n i : ℕ) → i + n < length table → getD table (i + n) 0 ≤ getD table i 0
 never-rises table falls zero i k = rw add-zero (omega arith)

@@ -1,7 +1,7 @@
--- The price table of an hour, level by level: a price, the next lower one, and the place from which the demand is met below it. Assumes nothing.
-use Prim.Native.Nat.{ℕ, zero, suc, _+_, _-_, _≤_, _<_, max}
+-- The price table of an hour, level by level: a price, and what the steps down to it trade. Assumes nothing.
+use Prim.Native.Nat.{ℕ, zero, suc, _+_, _*_, _^_, _≤_, _<_}
 use mathlib.Core.Path.{_≡_, refl, sym, _∙_}
-use mathlib.Core.List.{List, [], _∷_}
+use mathlib.Core.List.{List}
 use native.Mathlib.Omega.{arith}
 use native.Mathlib.Decide.{decLe}
 use native.Mathlib.Nat.{lt-of-not-le}
@@ -10,181 +10,202 @@ use lib.ListN.{length, getD, set}
 use lib.Seq.{getD-set-same, getD-set-other}
 use borrow.Author.Tests.{lt-ltb, le-ltb}
 use Rattle.rules.specs.Orders.{Step, maxPrice}
-use Rattle.rules.specs.Hour.{Hour, when, middle}
+use Rattle.rules.specs.Hour.{Hour}
 use Rattle.rules.specs.Contender.{PricesInRange}
 use Rattle.rules.proofs.PricingLaws.{DemandMet, Clearable, net}
-use Rattle.rules.proofs.TableLaws.{
-  lowOf,
-  priceOf,
-  unitPrice,
-  unit-first,
-  unit-is,
-  unit-falls,
-  unit-net,
-  unit-low,
-  tablePrice,
-  price-is-table,
-  meets-down,
-  priceBelow,
-  below-positive,
-  below-less,
-  below-next,
-}
+use Rattle.rules.proofs.TableLaws.{lowOf, unitPrice, unit-first, unit-is, unit-falls, unit-net, unit-low}
 use Rattle.orders.specs.Columns.{stepsFrom}
-use Rattle.pricing.specs.Curves.{Columns, TotalsAt, hourWith, LeastCovered}
-use Rattle.pricing.specs.Tables.{UnitPrices, PriceTable, BelowOf, LevelOf, NotRising, InRange}
-use Rattle.pricing.proofs.TotalsLaws.{restOf, rest-more, rest-end, Counted, counted-all}
+use Rattle.pricing.specs.Tables.{UnitPrices, PriceTable, keyPrice, keyQuantity, keyAbove, aboveIn, amountIn, KeysOf, NextLevel, NotRising, InRange}
+use Rattle.rules.proofs.CurveLaws.{when-le}
+use native.Mathlib.Numerals.{add-one}
 
--- THE NEAREST PRICE BELOW p, one price more
-module _ (found price p : ℕ) where
-  abbrev Nearest : ℕ → Type 0
-  Nearest r = r ≡ max found (when (ltb price p) price)
+-- OVER THE KEYS
+module _ (keys : List ℕ) where
+  amount-grows : (a b : ℕ) → a ≤ b → amountIn keys a ≤ amountIn keys b
+  unfolding amountIn
+  amount-grows a zero le = let e : a ≡ 0 = omega arith in rw e (omega arith)
+  amount-grows a (suc b) le = elim (decLe a b) [
+    | yes k ↦ omega (arith, amount-grows a b k)
+    | no k ↦ let e : a ≡ suc b = omega (arith, lt-of-not-le k) in rw e (omega arith)
+  ]
 
-  pub nearest-new : price < p → found < price → Nearest price
-  nearest-new k l = rw (lt-ltb price p k) (omega arith)
+  above-at-most : (q n : ℕ) → aboveIn q keys n ≤ amountIn keys n
+  unfolding aboveIn amountIn
+  above-at-most q zero = omega arith
+  above-at-most q (suc n) = omega (arith, above-at-most q n, when-le (ltb q (keyPrice (getD keys n 0))) (keyQuantity (getD keys n 0)))
 
-  pub nearest-old : price < p → price ≤ found → Nearest found
-  nearest-old k l = rw (lt-ltb price p k) (omega arith)
+  above-all : (q n : ℕ) → ((i : ℕ) → i < n → q < keyPrice (getD keys i 0)) → amountIn keys n ≤ aboveIn q keys n
+  unfolding aboveIn amountIn
+  above-all q zero f = omega arith
+  above-all q (suc n) f = rw (lt-ltb q (keyPrice (getD keys n 0)) (f n (omega arith))) (omega (arith, above-all q n (λ i a. f i (omega arith))))
 
-  pub nearest-not : p ≤ price → Nearest found
-  nearest-not k = rw (le-ltb price p k) (omega arith)
+  -- those from number m on are not above a price
+  above-within : (q m n : ℕ) → ((i : ℕ) → m ≤ i → i < n → keyPrice (getD keys i 0) ≤ q) → aboveIn q keys n ≤ amountIn keys m
+  unfolding aboveIn
+  above-within q m zero f = omega arith
+  above-within q m (suc n) f = elim (decLe m n) [
+    | yes le ↦ rw (le-ltb q (keyPrice (getD keys n 0)) (f n le (omega arith))) (omega (arith, above-within q m n (λ i a b. f i a (omega arith))))
+    | no gt ↦
+        let some : aboveIn q keys n + keyAbove q (getD keys n 0) ≤ amountIn keys (suc n) = above-at-most q (suc n) in
+        omega (arith, amount-grows (suc n) m (lt-of-not-le gt))
+  ]
 
--- OVER THE COLUMNS: the nearest so far and that of the rest are the whole's
-below-more : (p : ℕ) (s : Step) (l : List Step) → priceBelow p (s ∷ l) ≡ max (when (ltb (s .price) p) (s .price)) (priceBelow p l)
-unfolding priceBelow
-below-more p s l = refl
+  -- those before it are
+  above-covers : (q m n : ℕ) → m ≤ n → ((i : ℕ) → i < m → q < keyPrice (getD keys i 0)) → amountIn keys m ≤ aboveIn q keys n
+  unfolding aboveIn
+  above-covers q m zero le f = let e : m ≡ 0 = omega arith in rw e (above-all q 0 (λ i a. absurd (omega arith)))
+  above-covers q m (suc n) le f = elim (decLe m n) [
+    | yes k ↦ omega (arith, above-covers q m n k f)
+    | no k ↦ let e : m ≡ suc n = omega (arith, lt-of-not-le k) in rw e (above-all q (suc n) (λ i a. f i (omega arith)))
+  ]
 
-below-none : (p : ℕ) → priceBelow p [] ≡ 1
-unfolding priceBelow
-below-none p = refl
+-- the keys so far trade little
+pub amount-fits : (keys : List ℕ) (n : ℕ) → amountIn keys n ≤ n * 2 ^ 32
+unfolding amountIn
+amount-fits keys zero = omega arith
+amount-fits keys (suc n) = omega (arith, amount-fits keys n)
 
-module _ (sides prices quantities : List ℕ) (p : ℕ) where
-  pub record Neared (found i : ℕ) : Type 0 where
-    pub positive : 1 ≤ found
-    pub whole : (h : ℕ) → priceBelow p (stepsFrom h sides prices quantities) ≡ max found (priceBelow p (restOf h sides prices quantities i))
+amount-more : (keys : List ℕ) (n : ℕ) → amountIn keys (n + 1) ≡ amountIn keys n + keyQuantity (getD keys n 0)
+unfolding amountIn
+amount-more keys n = rw add-one
 
-  pub neared-start : Neared 1 0
-  neared-start = record {
-    positive = omega arith;
-    whole = λ h. omega (arith, below-positive p (stepsFrom h sides prices quantities));
-  }
-
-  pub neared-next : Columns sides prices quantities → (found found′ i : ℕ) → Neared found i → i < length sides →
-      found′ ≡ max found (when (ltb (getD prices i 0) p) (getD prices i 0)) → Neared found′ (i + 1)
-  neared-next columns found found′ i n k e = record {
-    positive = omega (arith, n .positive);
-    whole = λ h.
-        n .whole h ∙ rw (rest-more h sides prices quantities i (columns .asManyPrices) (columns .asManyQuantities) k, below-more) (omega arith);
-  }
-
-  pub neared-all : Columns sides prices quantities → (found above upto i : ℕ) → Neared found i →
-      Counted sides prices quantities (p - 1) above upto i → length sides ≤ i → BelowOf sides prices quantities p found above upto
-  neared-all columns found above upto i n c k = record {
-    next = λ h.
-        let e = rw (rest-end h sides prices quantities i k, below-none) at (n .whole h) in
-        omega (arith, n .positive);
-    totals = counted-all sides prices quantities columns (p - 1) above upto i c k;
-  }
-
--- A LEVEL from the totals one cent below its price
-module _ (sides prices quantities : List ℕ) (off : ℕ) where
+-- FILLING from the first place on: what is filled is right, and the level's price meets the demand of the place to come; at any lower price the keys
+-- down to the level are all above it
+module _ (sides prices quantities keys : List ℕ) (off : ℕ) where
   abbrev at : ℕ → ℕ → Hour
   at h i = net (stepsFrom h sides prices quantities) i (suc off)
 
-  pub level-last : LevelOf sides prices quantities off 1 1 8192
-  level-last = record {
-    positive = omega arith;
-    moves = λ i a b. absurd (omega arith);
-    meets = λ h i a b. absurd (omega arith);
-    stays = λ h i a b. absurd (omega arith);
-  }
+  abbrev count : ℕ
+  count = length sides
 
-  -- the demand is met at p exactly from the place `need` on
-  pub record Needs (p need : ℕ) : Type 0 where
-    pub enough : (h i : ℕ) → need ≤ i → DemandMet (at h i) p
-    pub short : (h i : ℕ) → i < need → DemandMet (at h i) p → ⊥
-
-  pub needs-is : (p above upto need : ℕ) → TotalsAt sides prices quantities p above upto → need ≡ above + off + 1 - upto → Needs p need
-  needs-is p above upto need t e = record {
-    enough = λ h i a. omega (arith, t .buys h, t .sells h);
-    short = λ h i a d. omega (arith, t .buys h, t .sells h);
-  }
-
-  pub level-is : (p price above upto need : ℕ) → 1 < p → BelowOf sides prices quantities p price above upto → Needs (p - 1) need →
-      LevelOf sides prices quantities off p price need
-  level-is p price above upto need k b n = record {
-    positive = omega (arith, b .next 0, below-positive p (stepsFrom 0 sides prices quantities));
-    moves = λ i _ _. omega (arith, b .next 0, below-less p (stepsFrom 0 sides prices quantities) k);
-    meets = λ h i a _.
-        let l = stepsFrom h sides prices quantities in
-        let e : suc (p - 1) ≡ p = omega arith in
-        let low : priceBelow p l ≤ p - 1 = omega (arith, below-less p l k) in
-        rw (b .next h) (meets-down (at h i) (priceBelow p l) (p - 1) low (rw e (below-next p l)) (n .enough h i a));
-    stays = λ h i a _. n .short h i a;
-  }
-
-  -- FILLING from the first place on: what is filled is right, and the level's price meets the demand of the place to come
-  pub record Filled (table : List ℕ) (price below need i : ℕ) : Type 0 where
+  pub record Filled (table : List ℕ) (price traded taken i : ℕ) : Type 0 where
     pub positive : 1 ≤ price
     pub inRange : price ≤ maxPrice
-    pub level : LevelOf sides prices quantities off price below need
+    pub inside : taken ≤ count + 1
+    pub amount : taken ≤ count → traded ≡ amountIn keys taken
+    pub lastOne : count < taken → traded ≡ 2 ^ 62
     pub met : (h : ℕ) → price < maxPrice → DemandMet (at h i) price
+    pub covers : (q : ℕ) → 1 ≤ q → q < price → traded ≤ aboveIn q keys count
     pub done : (h j : ℕ) → j < i → getD table j 0 ≡ unitPrice (at h j)
 
-  pub filled-start : (table : List ℕ) (n first price below need : ℕ) → n + (off + 1) ≡ 2097152 →
-      ((h : ℕ) → LeastCovered 0 (hourWith h sides prices quantities n) first) → price ≡ first →
-      LevelOf sides prices quantities off first below need → Filled table price below need 0
-  filled-start table n first price below need e c same l =
-      rw same
-      record {
-        positive = c 0 .positive;
-        inRange = c 0 .inRange;
-        level = l;
-        met = λ h k. omega (arith, c h .holds k);
-        done = λ h j k. absurd (omega arith);
-      }
-
-  -- the demand is met below: on to the next lower price
-  pub filled-move : (table : List ℕ) (price below need price′ below′ need′ i : ℕ) → Filled table price below need i → need ≤ i → i < 8192 →
-      price′ ≡ below → LevelOf sides prices quantities off below below′ need′ → Filled table price′ below′ need′ i
-  filled-move table price below need price′ below′ need′ i f k s same l =
-      rw same
-      record {
-        positive = f .level .positive;
-        inRange = omega (arith, f .level .moves i k s, f .inRange);
-        level = l;
-        met = λ h _. f .level .meets h i k s;
-        done = f .done;
-      }
-
-  -- it is not: the place has the level's price
-  price-here : (price below need i : ℕ) → 1 ≤ price → price ≤ maxPrice → LevelOf sides prices quantities off price below need → (h : ℕ) →
-      (price < maxPrice → DemandMet (at h i) price) → i < need → unitPrice (at h i) ≡ price
-  price-here zero below need i pos top l h met k = absurd (omega arith)
-  price-here (suc p) below need i pos top l h met k =
-      let e : suc p - 1 ≡ p = omega arith in
-      unit-is (at h i) p top met (λ a d. l .stays h i k (omega arith) (rw e d))
-
-  pub filled-next : (table : List ℕ) (price below need i : ℕ) → Filled table price below need i → i < need → i < length table →
-      Filled (set table i price) price below need (i + 1)
-  filled-next table price below need i f k s = record {
-    positive = f .positive;
-    inRange = f .inRange;
-    level = f .level;
-    met = λ h m. omega (arith, f .met h m);
-    done = λ h j m. elim (decLe i j) [
-      | yes z ↦
-          let e : j ≡ i = omega arith in
-          rw (e, getD-set-same table i price 0 s) (sym (price-here price below need i (f .positive) (f .inRange) (f .level) h (f .met h) k))
-      | no z ↦
-          let lt : j < i = lt-of-not-le z in
-          rw (getD-set-other table i j price 0 (λ e. omega arith)) (f .done h j lt)
-    ];
+  pub filled-start : (table : List ℕ) → Filled table 300000 0 0 0
+  filled-start table = record {
+    positive = omega arith;
+    inRange = omega arith;
+    inside = omega arith;
+    amount = λ _. unfold amountIn in refl;
+    lastOne = λ k. absurd (omega arith);
+    met = λ h k. absurd (omega arith);
+    covers = λ q a b. omega arith;
+    done = λ h j k. absurd (omega arith);
   }
 
-  pub filled-all : (table : List ℕ) (price below need i : ℕ) → Filled table price below need i → length table ≤ i →
+  pub filled-all : (table : List ℕ) (price traded taken i : ℕ) → Filled table price traded taken i → length table ≤ i →
       PriceTable sides prices quantities off table
-  filled-all table price below need i f k h j m = f .done h j (omega arith)
+  filled-all table price traded taken i f k h j m = f .done h j (omega arith)
+
+  -- what is traded so far fits
+  pub traded-fits : (table : List ℕ) (price traded taken i : ℕ) → Filled table price traded taken i → count ≤ 2048 → traded ≤ 2 ^ 62
+  traded-fits table price traded taken i f few = elim (decLe taken count) [
+    | yes k ↦ omega (arith, f .amount k, amount-fits keys taken)
+    | no k ↦ omega (arith, f .lastOne (lt-of-not-le k))
+  ]
+
+  module _ (sold : ℕ) (sorted : KeysOf sides prices quantities keys sold) where
+    -- what is traded so far is met: on to the next level
+    met-at : (q i traded : ℕ) → traded + off + 1 ≤ sold + i → aboveIn q keys count ≤ traded → (h : ℕ) → DemandMet (at h i) q
+    met-at q i traded enough within h = omega (arith, sorted .aboveIs h q)
+
+    module _ (table : List ℕ) (price traded taken i price′ traded′ taken′ : ℕ) (f : Filled table price traded taken i)
+        (enough : traded + off + 1 ≤ sold + i) (few : taken ≤ count) (next : NextLevel keys count traded taken price′ traded′ taken′) where
+      abbrev here : ℕ
+      here = keyPrice (getD keys taken 0)
+
+      not-above : (b : ℕ) → taken ≤ b → b < count → keyPrice (getD keys b 0) ≤ here
+      not-above b le inside = elim (decLe b taken) [
+        | yes k ↦ let e : b ≡ taken = omega arith in rw e (omega arith)
+        | no k ↦ omega (arith, sorted .falling taken b (lt-of-not-le k) inside)
+      ]
+
+      not-below : (a : ℕ) → a < taken + 1 → taken < count → here ≤ keyPrice (getD keys a 0)
+      not-below a le inside = elim (decLe taken a) [
+        | yes k ↦ let e : a ≡ taken = omega arith in rw e (omega arith)
+        | no k ↦ omega (arith, sorted .falling a taken (lt-of-not-le k) inside)
+      ]
+
+      pub filled-move : Filled table price′ traded′ taken′ i
+      filled-move = elim (decLe count taken) [
+        | yes k ↦
+            let last = next .lastOne k in
+            let e : taken ≡ count = omega arith in
+            record {
+              positive = omega (arith, last .0);
+              inRange = omega (arith, last .0);
+              inside = omega (arith, next .oneMore);
+              amount = λ z. absurd (omega (arith, next .oneMore));
+              lastOne = λ _. last .1;
+              met = λ h _. rw (last .0) (met-at 1 i traded enough (omega (arith, f .amount few, above-within keys 1 taken count (λ b le less. absurd (omega arith)))) h);
+              covers = λ q a b. absurd (omega (arith, last .0));
+              done = f .done;
+            }
+        | no k ↦
+            let less : taken < count = lt-of-not-le k in
+            let by-key = next .byKey less in
+            record {
+              positive = omega (arith, by-key .0);
+              inRange = omega (arith, by-key .0);
+              inside = omega (arith, next .oneMore);
+              amount = λ _. rw (next .oneMore) (omega (arith, by-key .1, f .amount few, amount-more keys taken));
+              lastOne = λ z. absurd (omega (arith, next .oneMore));
+              met = λ h below.
+                  met-at price′ i traded enough
+                  (omega (arith, f .amount few, above-within keys price′ taken count (λ b le inside. omega (arith, by-key .0, not-above b le inside)))) h;
+              covers = λ q a b.
+                  omega (
+                    arith,
+                    by-key .1,
+                    f .amount few,
+                    amount-more keys taken,
+                    above-covers keys q (taken + 1) count (omega arith) (λ c inside. omega (arith, by-key .0, not-below c inside less)),
+                  );
+              done = f .done;
+            }
+      ]
+
+    -- it is not: the place has the level's price
+    price-here : (price traded i : ℕ) → 1 ≤ price → price ≤ maxPrice → ((q : ℕ) → 1 ≤ q → q < price → traded ≤ aboveIn q keys count) → (h : ℕ) →
+        (price < maxPrice → DemandMet (at h i) price) → sold + i < traded + off + 1 → unitPrice (at h i) ≡ price
+    price-here zero traded i pos top covers h met k = absurd (omega arith)
+    price-here (suc p) traded i pos top covers h met k =
+        unit-is (at h i) p top met (λ a d. omega (arith, sorted .aboveIs h p, covers p a (omega arith)))
+
+    pub filled-next : (table : List ℕ) (price traded taken i : ℕ) → Filled table price traded taken i → sold + i < traded + off + 1 → i < length table →
+        Filled (set table i price) price traded taken (i + 1)
+    filled-next table price traded taken i f k s = record {
+      positive = f .positive;
+      inRange = f .inRange;
+      inside = f .inside;
+      amount = f .amount;
+      lastOne = f .lastOne;
+      met = λ h m. omega (arith, f .met h m);
+      covers = f .covers;
+      done = λ h j m. elim (decLe i j) [
+        | yes z ↦
+            let e : j ≡ i = omega arith in
+            rw (e, getD-set-same table i price 0 s) (sym (price-here price traded i (f .positive) (f .inRange) (f .covers) h (f .met h) k))
+        | no z ↦
+            let lt : j < i = lt-of-not-le z in
+            rw (getD-set-other table i j price 0 (λ e. omega arith)) (f .done h j lt)
+      ];
+    }
+
+    -- after the last level no place of a table is met
+    pub not-the-last : (table : List ℕ) (price traded taken i : ℕ) → Filled table price traded taken i → i < 8192 → traded + off + 1 ≤ sold + i →
+        taken ≤ count
+    not-the-last table price traded taken i f small enough = elim (decLe taken count) [
+      | yes k ↦ k
+      | no k ↦ absurd (omega (arith, f .lastOne (lt-of-not-le k), sorted .soldFits))
+    ]
 
 -- WHAT A TABLE OF UNIT PRICES SAYS: it does not rise, and has prices of 1 to 300000; place i has H of N = i − off, the next place L
 module _ (l : List Step) (off : ℕ) (table : List ℕ) (t : UnitPrices l off table) where
@@ -197,13 +218,6 @@ module _ (l : List Step) (off : ℕ) (table : List ℕ) (t : UnitPrices l off ta
   pub unit-at : (i : ℕ) → i + 1 < length table → unitPrice (net l i off) ≡ getD table (i + 1) 0
   unit-at i k = unit-net l i off (i + 1) (suc off) (omega arith) ∙ sym (t (i + 1) k)
 
-  pub price-from-table : (i : ℕ) → i + 1 < length table → tablePrice l i off ≡ middle (getD table (i + 1) 0) (getD table i 0)
-  unfolding tablePrice
-  price-from-table i k = rw (unit-at i k, t i (omega arith))
-
   module _ (r : PricesInRange l) (i : ℕ) (c : Clearable (net l i off)) where
     pub low-at : i + 1 < length table → lowOf (net l i off) ≡ getD table (i + 1) 0
     low-at k = unit-low (net l i off) r c ∙ unit-at i k
-
-    pub price-at : i + 1 < length table → priceOf (net l i off) ≡ middle (getD table (i + 1) 0) (getD table i 0)
-    price-at k = price-is-table l r i off c ∙ price-from-table i k

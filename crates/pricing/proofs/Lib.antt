@@ -4,6 +4,7 @@ pub mod TradeLaws
 pub mod EndLaws
 pub mod AnswerLaws
 pub mod ShareLaws
+pub mod SortLaws
 pub mod LevelLaws
 pub mod RangeLaws
 pub mod GapLaws

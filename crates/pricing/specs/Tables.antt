@@ -1,18 +1,17 @@
 -- THE TABLES OF AN HOUR: the unit price of each N of a range, the N at which the hour clears, and its gaps at a price. Definitions only.
 -- Place i of a table stands for N = i − off: blocks that sell i and buy off. Assumes nothing.
-use Prim.Native.Nat.{ℕ, suc, _+_, _-_, _*_, _^_, _≤_, _<_, max}
+use Prim.Native.Nat.{ℕ, zero, suc, _+_, _*_, _/_, _%_, _^_, _≤_, _<_, max, min}
 use mathlib.Core.List.{List}
 use mathlib.Core.Logic.{_↔_}
 use mathlib.Core.Path.{_≡_}
-use lib.Dec.{ltb, leb}
+use lib.Dec.{ltb}
 use lib.ListN.{length, getD}
-use Rattle.orders.specs.Columns.{sideFor, stepsFrom}
+use Rattle.orders.specs.Columns.{stepsFrom}
 use Rattle.rules.specs.Orders.{Step, maxPrice}
-use Rattle.rules.specs.Hour.{bySide, when, allBuys, allSells}
+use Rattle.rules.specs.Hour.{when, buysAbove, sellsTo, allBuys, allSells}
 use Rattle.rules.specs.Contender.{PricesInRange}
-use Rattle.rules.proofs.PricingLaws.{DemandMet, Clearable, net}
-use Rattle.rules.proofs.TableLaws.{unitPrice, priceBelow}
-use Rattle.pricing.specs.Curves.{TotalsAt}
+use Rattle.rules.proofs.PricingLaws.{Clearable, net}
+use Rattle.rules.proofs.TableLaws.{unitPrice}
 
 -- THE PRICE TABLE
 -- Each place has the unit price of the N before its own: H at its own, and L at that of the place before.
@@ -23,24 +22,57 @@ UnitPrices l off table = (i : ℕ) → i < length table → getD table i 0 ≡ u
 abbrev pub PriceTable : List ℕ → List ℕ → List ℕ → ℕ → List ℕ → Type 0
 PriceTable sides prices quantities off table = (h : ℕ) → UnitPrices (stepsFrom h sides prices quantities) off table
 
--- One step more: the nearest price below p so far, and the totals one cent below p.
-pub record BelowMore (p side price quantity found above upto found′ above′ upto′ : ℕ) : Type 0 where
-  pub nearest : found′ ≡ max found (when (ltb price p) price)
-  pub buys : above′ ≡ above + when (ltb (p - 1) price) (bySide (sideFor side) quantity 0)
-  pub sells : upto′ ≡ upto + when (leb price (p - 1)) (bySide (sideFor side) 0 quantity)
+-- THE STEPS IN FALLING PRICE, buys and sells alike. A step's price and quantity are one number, its key: sorting keys sorts steps by price.
+abbrev pub keyOf : ℕ → ℕ → ℕ
+keyOf price quantity = price * 4294967296 + quantity
 
--- The greatest price of a step below p, 1 where there is none, and the totals one cent below p.
-pub record BelowOf (sides prices quantities : List ℕ) (p price above upto : ℕ) : Type 0 where
-  pub next : (h : ℕ) → price ≡ priceBelow p (stepsFrom h sides prices quantities)
-  pub totals : TotalsAt sides prices quantities (p - 1) above upto
+abbrev pub keyPrice : ℕ → ℕ
+keyPrice key = key / 4294967296
 
--- A price, the next lower one, and the first place at which that one meets the demand; at the places before it no price below the first does.
--- No place of a table, of at most 8,192, comes after the price 1.
-pub record LevelOf (sides prices quantities : List ℕ) (off price below need : ℕ) : Type 0 where
-  pub positive : 1 ≤ below
-  pub moves : (i : ℕ) → need ≤ i → i < 8192 → below < price
-  pub meets : (h i : ℕ) → need ≤ i → i < 8192 → DemandMet (net (stepsFrom h sides prices quantities) i (suc off)) below
-  pub stays : (h i : ℕ) → i < need → 1 < price → DemandMet (net (stepsFrom h sides prices quantities) i (suc off)) (price - 1) → ⊥
+abbrev pub keyQuantity : ℕ → ℕ
+keyQuantity key = key % 4294967296
+
+-- What a key trades above price p.
+abbrev pub keyAbove : ℕ → ℕ → ℕ
+keyAbove p key = when (ltb p (keyPrice key)) (keyQuantity key)
+
+-- What the first n keys trade above price p, and what they trade at all.
+unfoldable pub aboveIn : ℕ → List ℕ → ℕ → ℕ
+aboveIn p keys zero = 0
+aboveIn p keys (suc n) = aboveIn p keys n + keyAbove p (getD keys n 0)
+
+unfoldable pub amountIn : List ℕ → ℕ → ℕ
+amountIn keys zero = 0
+amountIn keys (suc n) = amountIn keys n + keyQuantity (getD keys n 0)
+
+-- The first n keys do not rise.
+abbrev pub Falling : List ℕ → ℕ → Type 0
+Falling keys n = (a b : ℕ) → a < b → b < n → getD keys b 0 ≤ getD keys a 0
+
+-- A key is put among the first n, which fall.
+pub record InsertedTo (before : List ℕ) (n key : ℕ) (after : List ℕ) : Type 0 where
+  pub sameLength : length after ≡ length before
+  pub falling : Falling after (n + 1)
+  pub aboveIs : (p : ℕ) → aboveIn p after (n + 1) ≡ aboveIn p before n + keyAbove p key
+
+-- The keys of the columns' steps, which sell so much at all: of the steps of either side, those above a price are the buys above it and the sells not up
+-- to it, whatever hour the columns are of.
+pub record KeysOf (sides prices quantities keys : List ℕ) (sold : ℕ) : Type 0 where
+  pub falling : Falling keys (length sides)
+  pub aboveIs : (h p : ℕ) → buysAbove p (stepsFrom h sides prices quantities) + sold
+      ≡ aboveIn p keys (length sides) + sellsTo p (stepsFrom h sides prices quantities)
+  pub soldFits : sold ≤ 2048 * 2 ^ 32
+
+-- The price from 1 to the highest that is nearest to a number.
+abbrev pub capped : ℕ → ℕ
+capped price = max 1 (min price maxPrice)
+
+-- A level of prices, what the keys down to it trade, and how many keys these are; the next level, which is the price 1 after the last key, and is left
+-- at no place of a table.
+pub record NextLevel (keys : List ℕ) (count traded taken price′ traded′ taken′ : ℕ) : Type 0 where
+  pub oneMore : taken′ ≡ taken + 1
+  pub byKey : taken < count → (price′ ≡ capped (keyPrice (getD keys taken 0))) × (traded′ ≡ traded + keyQuantity (getD keys taken 0))
+  pub lastOne : count ≤ taken → (price′ ≡ 1) × (traded′ ≡ 2 ^ 62)
 
 -- WHERE AN HOUR CLEARS
 -- All that the columns' steps buy and sell, whatever hour they are of, where their prices are in range.

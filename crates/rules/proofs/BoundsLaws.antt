@@ -1,5 +1,5 @@
 -- HOW LARGE THE NUMBERS OF A DAY GET, for the code's number widths: of a day of at most 2,047 steps of at most 99,999 each and 32 blocks of at most
--- 250 each, at prices up to 300000 and with no hour counted more than twice, value, cost and welfare are below 2 ^ 47, traded quantities below
+-- 250 each, at prices up to 300000 and with no hour counted more than twice, value and welfare are below 2 ^ 47, traded quantities below
 -- 10 ^ 9, executed quantities at most 99,999; a price is at most 300000. Assumes nothing.
 use Prim.Native.Nat.{ℕ, zero, suc, _*_, _^_, _≤_, _<_}
 use mathlib.Core.Bool.{Bool, true, false}
@@ -25,9 +25,7 @@ use Rattle.rules.specs.Day.{
   setPrices,
   hourCount,
   stepsValue,
-  stepsCost,
   blocksValue,
-  blocksCost,
   dayValue,
   executed,
   welfare,
@@ -74,10 +72,6 @@ bought-at-most : (side : Side) (w q p : ℕ) → w ≤ 2 → q ≤ 99999 → p �
 bought-at-most buy w q p hw hq hp = product-le w (q * p) 2 29999700000 hw (product-le q p 99999 300000 hq hp)
 bought-at-most sell w q p hw hq hp = product-le w 0 2 29999700000 hw (omega arith)
 
-sold-at-most : (side : Side) (w q p : ℕ) → w ≤ 2 → q ≤ 99999 → p ≤ maxPrice → w * bySide side 0 (q * p) ≤ 59999400000
-sold-at-most buy w q p hw hq hp = product-le w 0 2 29999700000 hw (omega arith)
-sold-at-most sell w q p hw hq hp = product-le w (q * p) 2 29999700000 hw (product-le q p 99999 300000 hq hp)
-
 module _ (hours : ℕ) (few : (h : ℕ) → weight hours h ≤ 2) where
   stepsValue-small : (l : List Step) (qs : List ℕ) → SmallSteps l → Each Within l qs → stepsValue hours l qs ≤ 59999400000 * length l
   unfolding stepsValue
@@ -89,18 +83,6 @@ module _ (hours : ℕ) (few : (h : ℕ) → weight hours h ≤ 2) where
         arith,
         bought-at-most (x .side) (weight hours (x .hour)) q (x .price) (few (x .hour)) (le-trans (w .0) (s .1)) (s .0),
         stepsValue-small l qs (s .2) (w .1),
-      )
-
-  stepsCost-small : (l : List Step) (qs : List ℕ) → SmallSteps l → Each Within l qs → stepsCost hours l qs ≤ 59999400000 * length l
-  unfolding stepsCost
-  stepsCost-small [] [] s w = omega arith
-  stepsCost-small [] (q ∷ qs) s w = absurd w
-  stepsCost-small (x ∷ l) [] s w = absurd w
-  stepsCost-small (x ∷ l) (q ∷ qs) s w =
-      omega (
-        arith,
-        sold-at-most (x .side) (weight hours (x .hour)) q (x .price) (few (x .hour)) (le-trans (w .0) (s .1)) (s .0),
-        stepsCost-small l qs (s .2) (w .1),
       )
 
   -- THE BLOCKS
@@ -127,19 +109,10 @@ module _ (hours : ℕ) (few : (h : ℕ) → weight hours h ≤ 2) where
   first-at-most buy n m h = h
   first-at-most sell n m h = omega arith
 
-  second-at-most : (side : Side) (n m : ℕ) → n ≤ m → bySide side 0 n ≤ m
-  second-at-most buy n m h = omega arith
-  second-at-most sell n m h = h
-
   blocksValue-small : (l : List Block) → EachBlock SmallBlock l → blocksValue hours l ≤ 3600000000 * length l
   unfolding blocksValue
   blocksValue-small [] s = omega arith
   blocksValue-small (b ∷ l) s = omega (arith, first-at-most (b .side) _ _ (block-at-most b (s .0)), blocksValue-small l (s .1))
-
-  blocksCost-small : (l : List Block) → EachBlock SmallBlock l → blocksCost hours l ≤ 3600000000 * length l
-  unfolding blocksCost
-  blocksCost-small [] s = omega arith
-  blocksCost-small (b ∷ l) s = omega (arith, second-at-most (b .side) _ _ (block-at-most b (s .0)), blocksCost-small l (s .1))
 
 -- those of a set are no more
 pub taken-few : (l : List Block) (set : List Bool) → length (taken l set) ≤ length l

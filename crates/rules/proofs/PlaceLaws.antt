@@ -7,7 +7,7 @@ use mathlib.Core.Path.{_≡_, refl}
 use mathlib.Core.List.{List, [], _∷_, _++_}
 use native.Mathlib.Omega.{arith}
 use native.Mathlib.Nat.{suc-inj}
-use lib.ListN.{length, drop, replicate}
+use lib.ListN.{length, drop}
 use Rattle.rules.specs.Orders.{Block}
 use Rattle.rules.specs.Hour.{Hour}
 use Rattle.rules.specs.Day.{
@@ -95,12 +95,6 @@ pricesAt day at h = tablePrice (stepsIn h (day .steps)) (at h) (overBlocks (buys
 -- the gaps at one place for each hour
 unfoldable pub gapsAt : Day → (ℕ → ℕ) → (ℕ → ℕ) → ℕ → ℕ
 gapsAt day p at h = slack (p h) (net (stepsIn h (day .steps)) (at h) (overBlocks (buys h) (day .blocks)))
-
--- every block is left out
-pub place-empty : (l : List Block) (h : ℕ) → place l (replicate (length l) false) h ≡ overBlocks (buys h) l
-unfolding place
-place-empty [] h = refl
-place-empty (b ∷ l) h = omega (arith, place-empty l h)
 
 -- TESTS at prices that agree in the hours that count
 module _ (hours : ℕ) (f g : ℕ → ℕ) (same : (h : ℕ) → Counts hours h → f h ≡ g h) where

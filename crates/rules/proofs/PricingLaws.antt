@@ -345,6 +345,9 @@ module _ (h h′ : Hour) (less : NoMoreExcess h h′) (l u p l′ u′ p′ : �
           } in
           omega (arith, a .ends (suc q) (omega arith) (omega (arith, a′ .inRange)) c)
 
+  pub price-not-higher : p′ ≤ p
+  price-not-higher = omega (arith, low-not-higher, high-not-higher, a .isMiddle, a′ .isMiddle)
+
 -- THE ANSWER DEPENDS ON N ALONE
 pub test-same : (x y x′ y′ : ℕ) → x + y′ ≡ x′ + y → leb x y ≡ leb x′ y′
 test-same x y x′ y′ e = by-le (λ t. t ≡ leb x′ y′) x y (λ h. rw (le-leb x′ y′ (omega arith))) (λ h. rw (lt-leb x′ y′ (omega arith)))

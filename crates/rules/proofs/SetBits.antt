@@ -1,16 +1,15 @@
 -- A set of blocks as a number, the lowest bit for the first block, and as a list of decisions. Assumes nothing.
 use Prim.Native.Nat.{ℕ, zero, suc, _+_, _/_, _%_, _^_, _<_}
 use mathlib.Core.Bool.{true, false}
-use mathlib.Core.Path.{_≡_, refl, ap, sym}
+use mathlib.Core.Path.{_≡_, refl, ap}
 use mathlib.Core.List.{[], _∷_, _++_}
 use native.Mathlib.Omega.{arith}
 use native.Mathlib.Nat.{div-one}
 use lib.Dec.{eqb}
-use lib.ListN.{length, getD, replicate}
+use lib.ListN.{length, getD}
 use lib.Pow.{shr-shr}
-use borrow.Author.Tests.{eqb-true, eqb-false, eq-eqb, ne-eqb}
+use borrow.Author.Tests.{eq-eqb, ne-eqb}
 use Rattle.rules.specs.Day.{decisions}
-use Rattle.rules.proofs.Tests.{by-eq}
 
 bits-suc : (k u : ℕ) → decisions (suc k) u ≡ eqb (u % 2) 1 ∷ decisions k (u / 2)
 unfolding decisions
@@ -39,12 +38,6 @@ bits-left (suc k) u h = rw (bits-suc (suc k) u, bits-left k (u / 2) (omega arith
 pub bits-room : (k u : ℕ) → u < 2 ^ k → (u + 2 ^ k < 2 ^ suc k) × (u < 2 ^ suc k)
 bits-room k u h = (omega arith, omega arith)
 
--- no block is taken
-pub bits-zero : (k : ℕ) → decisions k 0 ≡ replicate k false
-unfolding decisions
-bits-zero zero = refl
-bits-zero (suc k) = ap (λ l. false ∷ l) (bits-zero k)
-
 -- ELEMENT i IS BIT i
 pub bits-at : (k u i : ℕ) → i < k → getD (decisions k u) i false ≡ eqb (u / 2 ^ i % 2) 1
 unfolding decisions
@@ -53,19 +46,3 @@ bits-at (suc k) u zero h = rw (div-one u)
 bits-at (suc k) u (suc i) h =
     let e : 1 + i ≡ suc i = omega arith in
     rw (bits-at k (u / 2) i (omega arith), rw e at (shr-shr u 1 i))
-
--- TWO NUMBERS of the same bits are one
-same-bit : (a b : ℕ) → a < 2 → b < 2 → eqb a 1 ≡ eqb b 1 → a ≡ b
-same-bit a b i j e =
-    by-eq (λ t. t ≡ eqb b 1 → a ≡ b) a 1
-    (λ x f. omega (arith, eqb-true b 1 (sym f)))
-    (λ x f. let y : b ≡ 1 → ⊥ = eqb-false b 1 (sym f) in omega arith)
-    e
-
-pub bits-same : (k u v : ℕ) → u < 2 ^ k → v < 2 ^ k → decisions k u ≡ decisions k v → u ≡ v
-bits-same zero u v a b e = omega arith
-bits-same (suc k) u v a b e =
-    let f = rw (bits-suc k u, bits-suc k v) at e in
-    let low : eqb (u % 2) 1 ≡ eqb (v % 2) 1 = cc in
-    let high : decisions k (u / 2) ≡ decisions k (v / 2) = cc in
-    omega (arith, same-bit (u % 2) (v % 2) (omega arith) (omega arith) low, bits-same k (u / 2) (v / 2) (omega arith) (omega arith) high)

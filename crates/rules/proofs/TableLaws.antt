@@ -1,40 +1,19 @@
 -- A TABLE OF PRICES over N, for one hour. The unit price of N is the least price that meets the demand; it never rises with N, L is that of N and H
--- that of N − 1: the least clearing price of N clears N + 1 too, and is its greatest. At each price p the N from D(p) on have it, as many as the
--- quantity that stands at p: so a table is filled by walking the steps' prices downwards. Assumes nothing.
-use Prim.Native.Nat.{ℕ, zero, suc, _+_, _≤_, _<_, max}
+-- that of N − 1: the least clearing price of N clears N + 1 too, and is its greatest. Assumes nothing.
+use Prim.Native.Nat.{ℕ, zero, suc, _+_, _≤_, _<_}
 use mathlib.Core.Bool.{Bool, true, false}
-use mathlib.Core.Path.{_≡_, refl}
-use mathlib.Core.List.{List, [], _∷_}
+use mathlib.Core.Path.{_≡_}
+use mathlib.Core.List.{List}
 use mathlib.Core.Option.{Option, none, some}
 use native.Mathlib.Omega.{arith}
 use native.Mathlib.Nat.{lt-of-not-le}
 use native.Mathlib.Decide.{decLe}
-use lib.Dec.{ltb, leb, eqb}
-use borrow.Author.Tests.{leb-true, leb-false, lt-ltb, lt-leb}
-use Rattle.rules.specs.Orders.{Side, buy, sell, Step, maxPrice}
-use Rattle.rules.specs.Hour.{
-  Hour,
-  bySide,
-  when,
-  total,
-  buying,
-  selling,
-  buysAbove,
-  buysFrom,
-  sellsTo,
-  sellsBelow,
-  least,
-  Pricing,
-  cleared,
-  doesNotClear,
-  middle,
-  pricing,
-  priceIn,
-}
-use Rattle.rules.specs.Execution.{buyingAt, sellingAt}
+use lib.Dec.{leb}
+use borrow.Author.Tests.{leb-true, leb-false}
+use Rattle.rules.specs.Orders.{Step, maxPrice}
+use Rattle.rules.specs.Hour.{Hour, buysAbove, sellsTo, least, Pricing, cleared, doesNotClear, middle, pricing, priceIn}
 use Rattle.rules.specs.Contender.{PricesInRange}
-use Rattle.rules.proofs.Tests.{by-lt, by-le}
-use Rattle.rules.proofs.CurveLaws.{buysFrom-suc, sellsBelow-suc, buysFrom-split, sellsTo-split, buysAbove-max, sellsTo-max}
+use Rattle.rules.proofs.CurveLaws.{buysAbove-max, sellsTo-max}
 use Rattle.rules.proofs.PricingLaws.{
   DemandMet,
   SupplyMet,
@@ -48,8 +27,6 @@ use Rattle.rules.proofs.PricingLaws.{
   Cleared,
   middle-clears,
   answer,
-  NoMoreExcess,
-  low-not-higher,
   net,
   pricing-net,
 }
@@ -91,22 +68,6 @@ module _ (l : List Step) (s b s′ b′ : ℕ) (same : s + b′ ≡ s′ + b) wh
 
   pub clearable-net : Clearable (net l s b) → Clearable (net l s′ b′)
   clearable-net c = record { buysSuffice = omega (arith, c .buysSuffice); sellsSuffice = omega (arith, c .sellsSuffice) }
-
--- N ≤ N′
-module _ (l : List Step) (r : PricesInRange l) (s b s′ b′ : ℕ) (less : s + b′ ≤ s′ + b) where
-  pub no-more-excess : NoMoreExcess (net l s b) (net l s′ b′)
-  no-more-excess p = omega arith
-
-  module _ (c : Clearable (net l s b)) (c′ : Clearable (net l s′ b′)) where
-    abbrev less-N : Hour
-    less-N = net l s b
-
-    abbrev more-N : Hour
-    more-N = net l s′ b′
-
-    -- M11 of one hour: L, H and the price do not rise
-    pub low-falls : lowOf (net l s′ b′) ≤ lowOf (net l s b)
-    low-falls = low-not-higher less-N more-N no-more-excess _ _ _ _ _ _ (answered less-N r c) (answered more-N r c′)
 
 -- THE UNIT PRICE of an hour: the least price of 1 to 300000 that meets the demand; the greatest where none does. A table of it over N holds all of
 -- L and H: L is the unit price of N, and H that of N − 1
@@ -261,103 +222,3 @@ module _ (l : List Step) (r : PricesInRange l) (s b : ℕ) where
   pub price-is-table : Clearable (net l s b) → priceOf (net l s b) ≡ tablePrice l s b
   unfolding tablePrice
   price-is-table c = rw (← (unit-low (net l s b) r c), ← (unit-high-before c)) (answered (net l s b) r c .isMiddle)
-
--- FILLING A TABLE of L over N
--- L by two tests on neighbouring prices
-pub low-is : (h : Hour) → PricesInRange (h .steps) → Clearable h → (p : ℕ) → suc p ≤ maxPrice → DemandMet h (suc p) →
-    (1 ≤ p → DemandMet h p → ⊥) → lowOf h ≡ suc p
-low-is h r c p k d f = rw (unit-low h r c) (unit-is h p k (λ _. d) f)
-
--- what stands at price p, on both sides together
-unfoldable pub standing : ℕ → List Step → ℕ
-standing p = total (λ s. when (eqb (s .price) p) (s .quantity))
-
-pub standing-is : (p : ℕ) (l : List Step) → standing p l ≡ total (buyingAt p) l + total (sellingAt p) l
-unfolding standing
-standing-is p [] = omega arith
-standing-is p (s ∷ l) = omega (arith, of-side (s .side) (eqb (s .price) p) (s .quantity), standing-is p l)
-  where
-    of-side : (side : Side) (t : Bool) (q : ℕ) → when t q ≡ when t (bySide side q 0) + when t (bySide side 0 q)
-    of-side buy true q = omega arith
-    of-side buy false q = omega arith
-    of-side sell true q = omega arith
-    of-side sell false q = omega arith
-
--- D(p − 1) is D(p) and what stands at p, where D is the buys above less the sells at or below
-pub excess-step : (p : ℕ) (l : List Step) → buysAbove p l + sellsTo (suc p) l ≡ buysAbove (suc p) l + sellsTo p l + standing (suc p) l
-excess-step p l =
-    omega (arith, standing-is (suc p) l, buysFrom-suc p l, sellsBelow-suc p l, buysFrom-split (suc p) l, sellsTo-split (suc p) l)
-
--- no step of any quantity lies strictly between two prices
-abbrev pub NoneBetween : ℕ → ℕ → List Step → Type 0
-NoneBetween low high [] = Unit {0}
-NoneBetween low high (s ∷ l) = (low < s .price → s .price < high → s .quantity ≡ 0) × NoneBetween low high l
-
-module _ (low high : ℕ) (k : low < high) where
-  above-is-from : (x n : ℕ) → (low < x → x < high → n ≡ 0) → when (ltb low x) n ≡ when (leb high x) n
-  above-is-from x n f =
-      by-lt (λ t. when t n ≡ when (leb high x) n) low x
-      (λ a. by-le (λ t. n ≡ when t n) high x (λ z. refl) (λ z. f a z))
-      (λ a. rw (lt-leb high x (omega arith)))
-
-  to-is-below : (x n : ℕ) → (low < x → x < high → n ≡ 0) → when (leb x low) n ≡ when (ltb x high) n
-  to-is-below x n f =
-      by-lt (λ t. when (leb x low) n ≡ when t n) x high
-      (λ z. by-le (λ t. when t n ≡ n) x low (λ a. refl) (λ a. omega (arith, f a z)))
-      (λ z. rw (lt-leb x low (omega arith)))
-
-  none-of-side : (side : Side) (q : ℕ) → q ≡ 0 → (bySide side q 0 ≡ 0) × (bySide side 0 q ≡ 0)
-  none-of-side buy q e = (e, refl)
-  none-of-side sell q e = (refl, e)
-
-  pub none-between : (l : List Step) → NoneBetween low high l → (buysAbove low l ≡ buysFrom high l) × (sellsTo low l ≡ sellsBelow high l)
-  unfolding buysAbove buysFrom sellsTo sellsBelow
-  none-between [] z = (refl, refl)
-  none-between (s ∷ l) z =
-      let t = none-between l (z .1) in (
-        omega (arith, above-is-from (s .price) (buying s) (λ a e. none-of-side (s .side) (s .quantity) (z .0 a e) .0)),
-        omega (arith, to-is-below (s .price) (selling s) (λ a e. none-of-side (s .side) (s .quantity) (z .0 a e) .1)),
-      )
-
--- D is the same from a step's price up to just below the next higher one
-pub excess-same : (low p : ℕ) (l : List Step) → low ≤ p → NoneBetween low (suc p) l → (buysAbove low l ≡ buysAbove p l) × (sellsTo low l ≡ sellsTo p l)
-excess-same low p l k z =
-    let t = none-between low (suc p) (omega arith) l z in
-    (omega (arith, buysFrom-suc p l), omega (arith, sellsBelow-suc p l))
-
--- so what meets the demand just below a price meets it at the next lower step's price
-pub meets-down : (h : Hour) (low p : ℕ) → low ≤ p → NoneBetween low (suc p) (h .steps) → DemandMet h p → DemandMet h low
-meets-down h low p k z d = omega (arith, excess-same low p (h .steps) k z)
-
--- and past the N that stand at a price the next lower step's price meets the demand
-pub filled-next : (h : Hour) (low p : ℕ) → low ≤ p → NoneBetween low (suc p) (h .steps) →
-    buysAbove (suc p) (h .steps) + h .blockBuys + standing (suc p) (h .steps) ≤ sellsTo (suc p) (h .steps) + h .blockSales → DemandMet h low
-filled-next h low p k z past = meets-down h low p k z (omega (arith, excess-step p (h .steps)))
-
--- the greatest price of a step below p, 1 where there is none
-unfoldable pub priceBelow : ℕ → List Step → ℕ
-priceBelow p [] = 1
-priceBelow p (s ∷ l) = max (when (ltb (s .price) p) (s .price)) (priceBelow p l)
-
-pub below-positive : (p : ℕ) (l : List Step) → 1 ≤ priceBelow p l
-unfolding priceBelow
-below-positive p [] = omega arith
-below-positive p (s ∷ l) = omega (arith, below-positive p l)
-
-pub below-less : (p : ℕ) (l : List Step) → 1 < p → priceBelow p l < p
-unfolding priceBelow
-below-less p [] k = k
-below-less p (s ∷ l) k =
-    by-lt (λ t. max (when t (s .price)) (priceBelow p l) < p) (s .price) p (λ a. omega (arith, below-less p l k)) (λ a. omega (arith, below-less p l k))
-
-none-above : (low low′ high : ℕ) → low ≤ low′ → (l : List Step) → NoneBetween low high l → NoneBetween low′ high l
-none-above low low′ high k [] z = tt
-none-above low low′ high k (s ∷ l) z = ((λ a. z .0 (omega arith)), none-above low low′ high k l (z .1))
-
-pub below-next : (p : ℕ) (l : List Step) → NoneBetween (priceBelow p l) p l
-unfolding priceBelow
-below-next p [] = tt
-below-next p (s ∷ l) = (
-  (λ a e. absurd (omega (arith, rw (lt-ltb (s .price) p e) at a))),
-  none-above (priceBelow p l) (max (when (ltb (s .price) p) (s .price)) (priceBelow p l)) p (omega arith) l (below-next p l),
-)
