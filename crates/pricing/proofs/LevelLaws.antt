@@ -6,7 +6,7 @@ use native.Mathlib.Omega.{arith}
 use native.Mathlib.Decide.{decLe}
 use native.Mathlib.Nat.{lt-of-not-le}
 use lib.Dec.{ltb}
-use lib.ListN.{length, getD, set}
+use lib.ListN.{length, getD, set, length-set}
 use lib.Seq.{getD-set-same, getD-set-other}
 use borrow.Author.Tests.{lt-ltb, le-ltb}
 use Rattle.rules.specs.Orders.{Step, maxPrice}
@@ -15,7 +15,7 @@ use Rattle.rules.specs.Contender.{PricesInRange}
 use Rattle.rules.proofs.PricingLaws.{DemandMet, Clearable, net}
 use Rattle.rules.proofs.TableLaws.{lowOf, unitPrice, unit-first, unit-is, unit-falls, unit-net, unit-low}
 use Rattle.orders.specs.Columns.{stepsFrom}
-use Rattle.pricing.specs.Tables.{UnitPrices, PriceTable, keyPrice, keyQuantity, keyAbove, aboveIn, amountIn, KeysOf, NextLevel, NotRising, InRange}
+use Rattle.pricing.specs.Tables.{UnitPrices, PriceTable, keyPrice, keyQuantity, keyAbove, aboveIn, amountIn, KeysOf, NextLevel, RunFilled, NotRising, InRange}
 use Rattle.rules.proofs.CurveLaws.{when-le}
 use native.Mathlib.Numerals.{add-one}
 
@@ -179,9 +179,9 @@ module _ (sides prices quantities keys : List ℕ) (off : ℕ) where
     price-here (suc p) traded i pos top covers h met k =
         unit-is (at h i) p top met (λ a d. omega (arith, sorted .aboveIs h p, covers p a (omega arith)))
 
-    pub filled-next : (table : List ℕ) (price traded taken i : ℕ) → Filled table price traded taken i → sold + i < traded + off + 1 → i < length table →
-        Filled (set table i price) price traded taken (i + 1)
-    filled-next table price traded taken i f k s = record {
+    pub filled-run : (table table′ : List ℕ) (price traded taken i end : ℕ) → Filled table price traded taken i → i ≤ end →
+        ((j : ℕ) → j < end → sold + j < traded + off + 1) → RunFilled table i end price table′ → Filled table′ price traded taken end
+    filled-run table table′ price traded taken i end f le short run = record {
       positive = f .positive;
       inRange = f .inRange;
       inside = f .inside;
@@ -189,13 +189,11 @@ module _ (sides prices quantities keys : List ℕ) (off : ℕ) where
       lastOne = f .lastOne;
       met = λ h m. omega (arith, f .met h m);
       covers = f .covers;
-      done = λ h j m. elim (decLe i j) [
-        | yes z ↦
-            let e : j ≡ i = omega arith in
-            rw (e, getD-set-same table i price 0 s) (sym (price-here price traded i (f .positive) (f .inRange) (f .covers) h (f .met h) k))
-        | no z ↦
-            let lt : j < i = lt-of-not-le z in
-            rw (getD-set-other table i j price 0 (λ e. omega arith)) (f .done h j lt)
+      done = λ h j k. elim (decLe i j) [
+        | yes from ↦
+            run .fills j from k
+            ∙ sym (price-here price traded j (f .positive) (f .inRange) (f .covers) h (λ m. omega (arith, f .met h m)) (short j k))
+        | no before ↦ run .keeps j (lt-of-not-le before) ∙ f .done h j (lt-of-not-le before)
       ];
     }
 
@@ -206,6 +204,34 @@ module _ (sides prices quantities keys : List ℕ) (off : ℕ) where
       | yes k ↦ k
       | no k ↦ absurd (omega (arith, f .lastOne (lt-of-not-le k), sorted .soldFits))
     ]
+
+-- ONE PRICE over a run of places
+module _ (before : List ℕ) (from price : ℕ) where
+  pub record RunTo (i : ℕ) (after : List ℕ) : Type 0 where
+    pub begun : from ≤ i
+    pub run : RunFilled before from i price after
+
+  pub run-start : RunTo from before
+  run-start = record {
+    begun = omega arith;
+    run = record { sameLength = refl; keeps = λ j k. refl; fills = λ j a b. absurd (omega arith) };
+  }
+
+  pub run-next : (i : ℕ) (after : List ℕ) → RunTo i after → i < length before → RunTo (i + 1) (set after i price)
+  run-next i after t k = record {
+    begun = omega (arith, t .begun);
+    run = record {
+      sameLength = rw length-set (t .run .sameLength);
+      keeps = λ j less. getD-set-other after i j price 0 (λ e. omega (arith, t .begun)) ∙ t .run .keeps j less;
+      fills = λ j a b. elim (decLe i j) [
+        | yes z ↦ let e : j ≡ i = omega arith in rw e (getD-set-same after i price 0 (omega (arith, t .run .sameLength)))
+        | no z ↦ getD-set-other after i j price 0 (λ e. omega (arith, lt-of-not-le z)) ∙ t .run .fills j a (lt-of-not-le z)
+      ];
+    };
+  }
+
+  pub run-all : (i to : ℕ) (after : List ℕ) → RunTo i after → i ≤ to → to ≤ i → RunFilled before from to price after
+  run-all i to after t a b = let e : to ≡ i = omega arith in rw e (t .run)
 
 -- WHAT A TABLE OF UNIT PRICES SAYS: it does not rise, and has prices of 1 to 300000; place i has H of N = i − off, the next place L
 module _ (l : List Step) (off : ℕ) (table : List ℕ) (t : UnitPrices l off table) where

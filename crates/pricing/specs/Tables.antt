@@ -74,6 +74,12 @@ pub record NextLevel (keys : List ℕ) (count traded taken price′ traded′ ta
   pub byKey : taken < count → (price′ ≡ capped (keyPrice (getD keys taken 0))) × (traded′ ≡ traded + keyQuantity (getD keys taken 0))
   pub lastOne : count ≤ taken → (price′ ≡ 1) × (traded′ ≡ 2 ^ 62)
 
+-- The places from `from` up to `to` have the price, those before them are as they were.
+pub record RunFilled (before : List ℕ) (from to price : ℕ) (after : List ℕ) : Type 0 where
+  pub sameLength : length after ≡ length before
+  pub keeps : (j : ℕ) → j < from → getD after j 0 ≡ getD before j 0
+  pub fills : (j : ℕ) → from ≤ j → j < to → getD after j 0 ≡ price
+
 -- WHERE AN HOUR CLEARS
 -- All that the columns' steps buy and sell, whatever hour they are of, where their prices are in range.
 pub record AllOf (sides prices quantities : List ℕ) (buys sells : ℕ) : Type 0 where
