@@ -131,6 +131,10 @@ taken-le f (b ∷ l) [] = omega arith
 taken-le f (b ∷ l) (true ∷ s) = omega (arith, taken-le f l s)
 taken-le f (b ∷ l) (false ∷ s) = omega (arith, taken-le f l s)
 
+-- no place is past what all blocks trade
+place-within : (l : List Block) (s : List Bool) (h : ℕ) → length s ≡ length l → place l s h ≤ overBlocks (sells h) l + overBlocks (buys h) l
+place-within l s h size = omega (arith, place-is l s h size, taken-le (sells h) l s)
+
 -- what passes for each taken block by its number
 passes-taken : (t : Block → Bool) (other : Block) (l : List Block) (s : List Bool) →
     ((j : ℕ) → j < length l → getD s j false ≡ true → t (getD l j other) ≡ true) → everyBlock t (taken l s) ≡ true
@@ -195,14 +199,13 @@ module _ (day : Day) (p rest : ℕ → ℕ) (low gap first last blocks : List �
   size = whole ∙ sym (known .counted)
 
   place-fits : (h : ℕ) → 1 ≤ h → h ≤ 24 → place (day .blocks) d h ≤ 1600
-  place-fits h a b =
-      omega (arith, place-is (day .blocks) d h size, taken-le (sells h) (day .blocks) d, known .fits h a b)
+  place-fits h a b = omega (arith, place-within (day .blocks) d h size, known .fits h a b)
 
   -- a lawful set's places are in range
   lawful-in-range : lawful day d ≡ true → InRange first last places
   lawful-in-range law h a b =
       rw (branch .placesAre h a b)
-      (known .clearsOnly h (place (day .blocks) d h) a b (place-fits h a b) (lawful-clears day d size (known .prices) (known .hours) law h (counts (day .hours) h a b)))
+      (known .clearsOnly h (place (day .blocks) d h) a b (place-within (day .blocks) d h size) (lawful-clears day d size (known .prices) (known .hours) law h (counts (day .hours) h a b)))
 
   module _ (inside : InRange first last places) where
     clear-at : (h : ℕ) → 1 ≤ h → h ≤ 24 → Clearable (hourAt day h (place (day .blocks) d h))
@@ -449,8 +452,7 @@ module _ (low gap first last blocks : List ℕ) (count : ℕ) where
   lawful-place day p rest known s size law h a b =
       let n : length s ≡ length (day .blocks) = size ∙ sym (known .counted) in
       let i = place (day .blocks) s h in
-      let f : i ≤ 1600 = omega (arith, place-is (day .blocks) s h n, taken-le (sells h) (day .blocks) s, known .fits h a b) in
-      known .clearsOnly h i a b f (lawful-clears day s n (known .prices) (known .hours) law h (counts (day .hours) h a b))
+      known .clearsOnly h i a b (place-within (day .blocks) s h n) (lawful-clears day s n (known .prices) (known .hours) law h (counts (day .hours) h a b))
 
   -- and its gaps by the table
   pub gap-of-lawful : (day : Day) (p rest : ℕ → ℕ) → Known day p rest low gap first last blocks count → (s : List Bool) → length s ≡ count →

@@ -69,9 +69,10 @@ pub record Known (day : Day) (p rest : ℕ → ℕ) (low gap first last blocks :
   -- the price table: the least price that meets the demand, one unit of N below the place
   pub lowIs : (h i : ℕ) → 1 ≤ h → h ≤ 24 → i ≤ 1601 →
       cell low h i ≡ unitPrice (net (stepsIn h (day .steps)) i (suc (overBlocks (buys h) (day .blocks))))
-  -- the places at which an hour clears
+  -- the places at which an hour clears, of those that its blocks can reach
   pub clears : (h i : ℕ) → 1 ≤ h → h ≤ 24 → i ≤ 1600 → ofHour first h ≤ i → i ≤ ofHour last h → Clearable (hourAt day h i)
-  pub clearsOnly : (h i : ℕ) → 1 ≤ h → h ≤ 24 → i ≤ 1600 → Clearable (hourAt day h i) → (ofHour first h ≤ i) × (i ≤ ofHour last h)
+  pub clearsOnly : (h i : ℕ) → 1 ≤ h → h ≤ 24 → i ≤ overBlocks (sells h) (day .blocks) + overBlocks (buys h) (day .blocks) → Clearable (hourAt day h i) →
+      (ofHour first h ≤ i) × (i ≤ ofHour last h)
   -- the gap table
   pub gapIs : (h i : ℕ) → 1 ≤ h → h ≤ 24 → ofHour first h ≤ i → i ≤ ofHour last h → slack (p h) (hourAt day h i) ≡ cell gap h i + rest h
   pub shown : (j : ℕ) → j < count → Shown day p blocks j

@@ -15,7 +15,7 @@ use Rattle.rules.specs.Orders.{Side, buy, sell}
 use Rattle.rules.specs.Hour.{bySide, when}
 use Rattle.rules.proofs.CurveLaws.{when-le}
 use Rattle.search.specs.Search.{Small, sideAt, hoursAt, quantityAt, limitAt, againstAt, gainAt, sumOfHours}
-use Rattle.setup.specs.Setup.{BlocksHeld, sumBelow, boughtIn, written, Written}
+use Rattle.setup.specs.Setup.{BlocksHeld, sumBelow, tradedIn, TradedBy, written, Written}
 use Rattle.search.proofs.LeafLaws.{zeros}
 
 -- a number for each side stays below what both do
@@ -56,32 +56,60 @@ moved-most x q places more size moved j = elim (decLe 24 j) [
       omega (arith, moved (suc j) (omega arith) (omega (arith, lt-of-not-le k)), when-le (holdsHour x (suc j)) q)
 ]
 
--- WHAT THE BUY BLOCKS BUY in each hour
-module _ (sides hours quantities : List ℕ) where
-  pub record OffTo (i : ℕ) (off : List ℕ) : Type 0 where
-    pub size : length off ≡ 24
-    pub small : Small (i * 50) off
-    pub is : (h : ℕ) → 1 ≤ h → h ≤ 24 → getD off (h - 1) 0 ≡ boughtIn i sides hours quantities h
+-- WHAT THE BLOCKS TRADE in each hour
+module _ (sides hours quantities : List ℕ) (all : Bool) where
+  pub record TradedTo (i : ℕ) (column : List ℕ) : Type 0 where
+    pub size : length column ≡ 24
+    pub small : Small (i * 50) column
+    pub is : (h : ℕ) → 1 ≤ h → h ≤ 24 → getD column (h - 1) 0 ≡ tradedIn i sides hours quantities all h
 
-  pub off-start : OffTo 0 (replicate 24 0)
+  pub traded-start : TradedTo 0 (replicate 24 0)
   unfolding sumBelow
-  off-start = record { size = refl; small = λ j. omega (arith, zeros 24 j); is = λ h a b. zeros 24 (h - 1) }
+  traded-start = record { size = refl; small = λ j. omega (arith, zeros 24 j); is = λ h a b. zeros 24 (h - 1) }
 
-  pub off-next : (i : ℕ) (off more : List ℕ) (q : ℕ) → OffTo i off → getD quantities i 0 ≤ 50 →
-      q ≡ bySide (sideFor (getD sides i 0)) (getD quantities i 0) 0 → length more ≡ 24 →
-      ((h : ℕ) → 1 ≤ h → h ≤ 24 → getD more (h - 1) 0 ≡ getD off (h - 1) 0 + when (holdsHour (getD hours i 0) h) q) → OffTo (i + 1) more
+  -- what one block trades
+  pub traded-fits : (i q rest : ℕ) → getD quantities i 0 ≤ 50 → rest ≡ cond all (getD quantities i 0) 0 →
+      q ≡ bySide (sideFor (getD sides i 0)) (getD quantities i 0) rest → q ≤ 50
+  traded-fits i q rest few er e =
+      rw e (side-le (sideFor (getD sides i 0)) (getD quantities i 0) rest 50 few (rw er (chosen-le all (getD quantities i 0) 50 few)))
+
+  pub traded-next : (i : ℕ) (column more : List ℕ) (q rest : ℕ) → TradedTo i column → getD quantities i 0 ≤ 50 →
+      rest ≡ cond all (getD quantities i 0) 0 → q ≡ bySide (sideFor (getD sides i 0)) (getD quantities i 0) rest → length more ≡ 24 →
+      ((h : ℕ) → 1 ≤ h → h ≤ 24 → getD more (h - 1) 0 ≡ getD column (h - 1) 0 + when (holdsHour (getD hours i 0) h) q) → TradedTo (i + 1) more
   unfolding sumBelow
-  off-next i off more q o few e size moved = record {
+  traded-next i column more q rest t few er e size moved = record {
     size = size;
-    small =
-        let fits = side-le (sideFor (getD sides i 0)) (getD quantities i 0) 0 50 few (omega arith) in
-        λ j. omega (arith, moved-most (getD hours i 0) q off more size moved j, o .small j, fits);
-    is = λ h a b. moved h a b ∙ rw (add-one, o .is h a b, e);
+    small = λ j. omega (arith, moved-most (getD hours i 0) q column more size moved j, t .small j, traded-fits i q rest few er e);
+    is = λ h a b. moved h a b ∙ rw (add-one, t .is h a b, e, er);
   }
 
-  pub off-all : (count i : ℕ) (off : List ℕ) → OffTo i off → i ≡ count → count ≤ 32 →
-      Small 1600 off × ((h : ℕ) → 1 ≤ h → h ≤ 24 → getD off (h - 1) 0 ≡ boughtIn count sides hours quantities h)
-  off-all count i off o e few = (λ j. omega (arith, o .small j), λ h a b. rw (← e) (o .is h a b))
+  pub traded-all : (count i : ℕ) (column : List ℕ) → TradedTo i column → i ≡ count → count ≤ 32 → TradedBy count sides hours quantities all column
+  traded-all count i column t e few = record { small = λ j. omega (arith, t .small j); is = λ h a b. rw (← e) (t .is h a b) }
+
+-- the buys are no more than all
+bought-least : (sides hours quantities : List ℕ) (h n : ℕ) → tradedIn n sides hours quantities false h ≤ tradedIn n sides hours quantities true h
+unfolding sumBelow
+bought-least sides hours quantities h zero = omega arith
+bought-least sides hours quantities h (suc n) =
+    omega (arith, bought-least sides hours quantities h n, one (sideFor (getD sides n 0)) (holdsHour (getD hours n 0) h) (getD quantities n 0))
+  where
+    one : (side : Side) (run : Bool) (q : ℕ) → when run (bySide side q (cond false q 0)) ≤ when run (bySide side q (cond true q 0))
+    one buy run q = omega arith
+    one sell true q = omega arith
+    one sell false q = omega arith
+
+pub bought-within : (count : ℕ) (sides hours quantities bought traded : List ℕ) → TradedBy count sides hours quantities false bought →
+    TradedBy count sides hours quantities true traded → (h : ℕ) → h < 24 → getD bought h 0 ≤ getD traded h 0
+bought-within count sides hours quantities bought traded b t h k =
+    let e : suc h - 1 ≡ h = omega arith in
+    let x : getD bought (suc h - 1) 0 ≡ getD bought h 0 = rw e in
+    let y : getD traded (suc h - 1) 0 ≡ getD traded h 0 = rw e in
+    omega (
+      arith,
+      b .is (suc h) (omega arith) (omega arith),
+      t .is (suc h) (omega arith) (omega arith),
+      bought-least sides hours quantities (suc h) count,
+    )
 
 -- ONE BLOCK WRITTEN: six numbers
 module _ (c : List ℕ) (i v₀ v₁ v₂ v₃ v₄ v₅ : ℕ) (k : i < 32) (size : length c ≡ 192) where

@@ -2,13 +2,14 @@
 use Prim.Native.Nat.{ℕ, zero, suc, _+_, _-_, _*_, _/_, _%_, _≤_, _<_}
 use mathlib.Core.Path.{_≡_, refl, sym, ap, _∙_}
 use mathlib.Core.List.{List, [], _∷_}
+use mathlib.Core.Bool.{Bool, true, false, cond}
 use mathlib.Core.Logic.{_↔_}
 use native.Mathlib.Omega.{arith}
 use native.Mathlib.Decide.{decLe}
 use native.Mathlib.Nat.{lt-of-not-le}
 use lib.ListN.{length, take, drop, getD, length-map, drop-of-length-le}
 use lib.Seq.{getD-take, getD-drop, slice}
-use Rattle.book.specs.Records.{number, sideByte, hourCount}
+use Rattle.book.specs.Records.{number, sideByte, hourCount, holdsHour}
 use Rattle.book.specs.Refusals.{Accepted}
 use Rattle.book.proofs.Members.{Each}
 use Rattle.orders.specs.Bridge.{dayFrom}
@@ -47,7 +48,8 @@ use Rattle.setup.specs.Setup.{
   RangedAt,
   RangesAre,
   sumBelow,
-  boughtIn,
+  tradedIn,
+  TradedBy,
   Written,
   TwinsAt,
   ReadyFor,
@@ -55,6 +57,7 @@ use Rattle.setup.specs.Setup.{
 use Rattle.search.proofs.BranchLaws.{daySum-plain}
 use Rattle.setup.proofs.SetupTwinLaws.{Completed, twins-back, no-worse-true, no-worse-false}
 use Rattle.setup.proofs.SetupTableLaws.{take-drop, row-length, range-holds}
+use Rattle.setup.proofs.SetupBlockLaws.{bought-within}
 
 -- THE BLOCKS OF THE COLUMNS
 blocks-at : (b r s x p q : List ℕ) (j : ℕ) → j < length r → j < length s → j < length x → j < length p → j < length q →
@@ -77,6 +80,20 @@ unfolding sumBelow
 over-below l B f zero next = omega arith
 over-below l B f (suc n) next =
     omega (arith, over-below l B f n (λ j k. next j (omega arith)), ap (overBlocks f) (next n (omega arith)))
+
+-- all that blocks trade is what they sell and what they buy
+traded-both : (n : ℕ) (runs : ℕ → Bool) (side : ℕ → Side) (q : ℕ → ℕ) →
+    sumBelow n (λ i. when (runs i) (bySide (side i) (q i) (cond true (q i) 0)))
+    ≡ sumBelow n (λ i. when (runs i) (bySide (side i) 0 (q i))) + sumBelow n (λ i. when (runs i) (bySide (side i) (q i) 0))
+unfolding sumBelow
+traded-both zero runs side q = omega arith
+traded-both (suc n) runs side q = omega (arith, traded-both n runs side q, one (runs n) (side n) (q n))
+  where
+    one : (t : Bool) (s : Side) (x : ℕ) → when t (bySide s x (cond true x 0)) ≡ when t (bySide s 0 x) + when t (bySide s x 0)
+    one true buy x = omega arith
+    one true sell x = omega arith
+    one false buy x = omega arith
+    one false sell x = omega arith
 
 -- what blocks of at most 50 trade in an hour
 trade-fits : (h : ℕ) (s : Block) → BlockInRange s → sells h s + buys h s ≤ 50
@@ -144,11 +161,24 @@ module _ (b ends stepRecords sides prices quantities : List ℕ) (count : ℕ) (
   blocks-counted : length (dayFrom b .blocks) ≡ count
   blocks-counted = block-count b count records blockSides hours blockPrices blockQuantities bc a
 
-  bought-is : (h : ℕ) → boughtIn count blockSides hours blockQuantities h ≡ overBlocks (buys h) (dayFrom b .blocks)
+  none-after : drop count (dayFrom b .blocks) ≡ []
+  none-after = let most : length (dayFrom b .blocks) ≤ count = omega (arith, blocks-counted) in drop-of-length-le (dayFrom b .blocks) most
+
+  bought-is : (h : ℕ) → tradedIn count blockSides hours blockQuantities false h ≡ overBlocks (buys h) (dayFrom b .blocks)
   bought-is h =
-      let most : length (dayFrom b .blocks) ≤ count = omega (arith, blocks-counted) in
-      let none : drop count (dayFrom b .blocks) ≡ [] = drop-of-length-le (dayFrom b .blocks) most in
-      omega (arith, over-below (dayFrom b .blocks) blockHere (buys h) count block-next, ap (overBlocks (buys h)) none)
+      omega (arith, over-below (dayFrom b .blocks) blockHere (buys h) count block-next, ap (overBlocks (buys h)) none-after)
+
+  traded-is : (h : ℕ) → tradedIn count blockSides hours blockQuantities true h
+      ≡ overBlocks (sells h) (dayFrom b .blocks) + overBlocks (buys h) (dayFrom b .blocks)
+  traded-is h =
+      omega (
+        arith,
+        over-below (dayFrom b .blocks) blockHere (sells h) count block-next,
+        over-below (dayFrom b .blocks) blockHere (buys h) count block-next,
+        ap (overBlocks (sells h)) none-after,
+        ap (overBlocks (buys h)) none-after,
+        traded-both count (λ i. holdsHour (getD hours i 0) h) (λ i. sideFor (getD blockSides i 0)) (λ i. getD blockQuantities i 0),
+      )
 
   blocks-fit : (h : ℕ) → overBlocks (sells h) (dayFrom b .blocks) + overBlocks (buys h) (dayFrom b .blocks) ≤ 1600
   blocks-fit h = omega (arith, trades-fit h (dayFrom b .blocks) (blocks-in-range b a), blocks-counted, bc .few)
@@ -251,9 +281,9 @@ module _ (b ends stepRecords sides prices quantities : List ℕ) (count : ℕ) (
         (below, twins-ahead j c k (omega arith) (twins-back columns c j (f .1)) (omega (arith, less)) (λ n. (f .3, less)))
 
   -- THE HOURS
-  module _ (off root low gap first last turn columns : List ℕ) (lowSize : length low ≡ 38448) (offFits : Small 1600 off)
-      (offIs : (h : ℕ) → 1 ≤ h → h ≤ 24 → getD off (h - 1) 0 ≡ boughtIn count blockSides hours blockQuantities h)
-      (rows : RowsAre sides prices quantities ends off low) (ranges : RangesAre sides prices quantities ends off root low gap first last turn)
+  module _ (off most root low gap first last turn columns : List ℕ) (lowSize : length low ≡ 38448)
+      (bought : TradedBy count blockSides hours blockQuantities false off) (traded : TradedBy count blockSides hours blockQuantities true most)
+      (rows : RowsAre sides prices quantities ends off low) (ranges : RangesAre sides prices quantities ends off most root low gap first last turn)
       (blocks : Completed blockSides hours blockPrices blockQuantities root count columns) where
     abbrev rootOf : ℕ → ℕ
     rootOf h = getD root (h - 1) 0
@@ -267,7 +297,10 @@ module _ (b ends stepRecords sides prices quantities : List ℕ) (count : ℕ) (
       inside = omega arith
 
       off-is : getD off (h - 1) 0 ≡ overBlocks (buys h) (dayFrom b .blocks)
-      off-is = offIs h from to ∙ bought-is h
+      off-is = bought .is h from to ∙ bought-is h
+
+      most-is : getD most (h - 1) 0 ≡ overBlocks (sells h) (dayFrom b .blocks) + overBlocks (buys h) (dayFrom b .blocks)
+      most-is = traded .is h from to ∙ traded-is h
 
       abbrev steps : List Step
       steps = stepsIn h (dayFrom b .steps)
@@ -275,7 +308,7 @@ module _ (b ends stepRecords sides prices quantities : List ℕ) (count : ℕ) (
       abbrev offHere : ℕ
       offHere = getD off (h - 1) 0
 
-      range : RangedAt sides prices quantities ends off root low gap first last turn (h - 1)
+      range : RangedAt sides prices quantities ends off most root low gap first last turn (h - 1)
       range = ranges (h - 1) inside
 
       unit-prices : UnitPrices steps offHere (rowOf low (h - 1))
@@ -290,7 +323,10 @@ module _ (b ends stepRecords sides prices quantities : List ℕ) (count : ℕ) (
       sold-here : range .sold ≡ allSells steps
       sold-here = rw (steps-are h from to) (range .all .allSold h (rw (steps-are h from to) at prices-here))
 
-      clearing-at : (i : ℕ) → i ≤ 1600 → ((ofHour first h ≤ i) × (i ≤ ofHour last h)) ↔ Clearable (net steps i offHere)
+      abbrev mostHere : ℕ
+      mostHere = getD most (h - 1) 0
+
+      clearing-at : (i : ℕ) → i ≤ mostHere → ((ofHour first h ≤ i) × (i ≤ ofHour last h)) ↔ Clearable (net steps i offHere)
       clearing-at = range .range .clearing steps bought-here sold-here
 
       cell-is : (table : List ℕ) (i : ℕ) → i ≤ 1601 → getD (rowOf table (h - 1)) i 0 ≡ cell table h i
@@ -304,23 +340,26 @@ module _ (b ends stepRecords sides prices quantities : List ℕ) (count : ℕ) (
       row-falls = table-not-rising steps offHere (rowOf low (h - 1)) unit-prices
 
       row-inside : ofHour last h < length (rowOf low (h - 1))
-      row-inside = omega (arith, range .range .inside, row-length low (h - 1) lowSize inside)
+      row-inside = omega (arith, range .range .inside, traded .small (h - 1), row-length low (h - 1) lowSize inside)
 
       clears-at : (i : ℕ) → i ≤ 1600 → ofHour first h ≤ i → i ≤ ofHour last h → Clearable (hourAt (dayFrom b) h i)
-      clears-at i k x y = rw (← off-is) (clearing-at i k .0 (x, y))
+      clears-at i k x y = rw (← off-is) (clearing-at i (omega (arith, range .range .inside)) .0 (x, y))
 
-      clears-only : (i : ℕ) → i ≤ 1600 → Clearable (hourAt (dayFrom b) h i) → (ofHour first h ≤ i) × (i ≤ ofHour last h)
-      clears-only i k c = clearing-at i k .1 (rw (← off-is) at c)
+      clears-only : (i : ℕ) → i ≤ overBlocks (sells h) (dayFrom b .blocks) + overBlocks (buys h) (dayFrom b .blocks) → Clearable (hourAt (dayFrom b) h i) → (ofHour first h ≤ i) × (i ≤ ofHour last h)
+      clears-only i k c = clearing-at i (omega (arith, most-is)) .1 (rw (← off-is) at c)
 
       -- the gap table
       ordered : (ofHour first h ≤ offHere) × (offHere ≤ ofHour last h)
-      ordered = range-holds (range .bought) (range .sold) offHere (ofHour first h) (ofHour last h) (range .range) (offFits (h - 1))
+      ordered =
+          range-holds (range .bought) (range .sold) offHere mostHere (ofHour first h) (ofHour last h) (range .range)
+          (bought-within count blockSides hours blockQuantities off most bought traded (h - 1) inside)
 
       gap-here : (i : ℕ) → ofHour first h ≤ i → i ≤ ofHour last h →
           slack (rootOf h) (net steps i offHere) ≡ getD (rowOf gap (h - 1)) i 0 + slack (rootOf h) (net steps (ofHour turn h) offHere)
       gap-here =
           let o = ordered in
           let top = range .range .inside in
+          let fits = traded .small (h - 1) in
           gap-table steps prices-here offHere (rowOf low (h - 1)) unit-prices (rootOf h) (ofHour first h) (ofHour last h) (ofHour turn h)
           (rowOf gap (h - 1)) (range .gaps) (omega (arith, row-length low (h - 1) lowSize inside))
           (clearing-at (ofHour first h) (omega arith) .0 (omega arith, omega arith))
@@ -330,6 +369,7 @@ module _ (b ends stepRecords sides prices quantities : List ℕ) (count : ℕ) (
       gap-is i x y =
           let o = ordered in
           let top = range .range .inside in
+          let fits = traded .small (h - 1) in
           rw (← off-is)
           (omega (
             arith,
@@ -358,10 +398,12 @@ module _ (b ends stepRecords sides prices quantities : List ℕ) (count : ℕ) (
     turning = record {
       falls = λ h i j from to x y z t.
           let o = range h from to .range .inside in
+          let fits = traded .small (h - 1) in
           let g = gap-falls _ _ _ _ _ _ (row-falls h from to) (row-inside h from to) (range h from to .gaps) i j x y z t in
           rw (cell-is h from to gap i (omega arith), cell-is h from to gap j (omega arith)) at g;
       rises = λ h i j from to x y z t.
           let o = range h from to .range .inside in
+          let fits = traded .small (h - 1) in
           let g = gap-rises _ _ _ _ _ _ (row-falls h from to) (row-inside h from to) (range h from to .gaps) i j x y z t in
           rw (cell-is h from to gap i (omega arith), cell-is h from to gap j (omega arith)) at g;
     }
@@ -373,20 +415,20 @@ set-up low gap first last columns l g f t s m c =
     record { lowRows = l; gapRows = g; firstHours = f; lastHours = t; lastFits = s; lowFits = m; blocksFit = c }
 
 pub ready : (sides prices quantities ends : List ℕ) (count : ℕ) (records blockSides hours blockPrices blockQuantities : List ℕ)
-    (off root low gap first last turn columns : List ℕ) → length low ≡ 38448 → Small 1600 off →
-    ((h : ℕ) → 1 ≤ h → h ≤ 24 → getD off (h - 1) 0 ≡ boughtIn count blockSides hours blockQuantities h) →
-    RowsAre sides prices quantities ends off low → RangesAre sides prices quantities ends off root low gap first last turn →
+    (off most root low gap first last turn columns : List ℕ) → length low ≡ 38448 → TradedBy count blockSides hours blockQuantities false off →
+    TradedBy count blockSides hours blockQuantities true most → RowsAre sides prices quantities ends off low →
+    RangesAre sides prices quantities ends off most root low gap first last turn →
     Completed blockSides hours blockPrices blockQuantities root count columns →
     ReadyFor sides prices quantities ends count records blockSides hours blockPrices blockQuantities low gap first last turn columns
-ready sides prices quantities ends count records blockSides hours blockPrices blockQuantities off root low gap first last turn columns l s o rows
+ready sides prices quantities ends count records blockSides hours blockPrices blockQuantities off most root low gap first last turn columns l o t rows
     ranges w b stepRecords a sc bc =
     record {
       p = _;
       rest = _;
-      known = known b ends stepRecords sides prices quantities count records blockSides hours blockPrices blockQuantities a sc bc off root low gap
-          first last turn columns l s o rows ranges w;
-      turning = turning b ends stepRecords sides prices quantities count records blockSides hours blockPrices blockQuantities a sc bc off root low gap
-          first last turn columns l s o rows ranges w;
+      known = known b ends stepRecords sides prices quantities count records blockSides hours blockPrices blockQuantities a sc bc off most root low
+          gap first last turn columns l o t rows ranges w;
+      turning = turning b ends stepRecords sides prices quantities count records blockSides hours blockPrices blockQuantities a sc bc off most root low
+          gap first last turn columns l o t rows ranges w;
     }
 
 -- WHAT SAFETY ASKS holds of an accepted book's columns, where the steps' are arrays of 2,048

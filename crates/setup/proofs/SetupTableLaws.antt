@@ -110,19 +110,19 @@ module _ (sides prices quantities ends off : List ℕ) where
   rows-all low h r k j a = r .done j (omega arith)
 
 -- ONE HOUR'S RANGE: it has the place off
-pub range-holds : (buys sells off first last : ℕ) → ClearRange buys sells off 1600 first last → off ≤ 1600 → (first ≤ off) × (off ≤ last)
-range-holds buys sells off first last r k =
+pub range-holds : (buys sells off most first last : ℕ) → ClearRange buys sells off most first last → off ≤ most → (first ≤ off) × (off ≤ last)
+range-holds buys sells off most first last r k =
     let l : List Step = record { hour = 1; side = buy; price = 1; quantity = buys } ∷ record { hour = 1; side = sell; price = 1; quantity = sells } ∷ [] in
     r .clearing l (omega arith) (omega arith) off k .1 (record { buysSuffice = omega arith; sellsSuffice = omega arith })
 
-module _ (sides prices quantities : List ℕ) (off price : ℕ) (row : List ℕ) (table : PriceTable sides prices quantities off row)
-    (size : length row ≡ 1602) (small : off ≤ 1600) (top : price ≤ 300000) where
-  pub hour-room : (buys sells first last : ℕ) (gap : List ℕ) → length gap ≡ 1602 → ClearRange buys sells off 1600 first last →
+module _ (sides prices quantities : List ℕ) (off most price : ℕ) (row : List ℕ) (table : PriceTable sides prices quantities off row)
+    (size : length row ≡ 1602) (small : off ≤ most) (few : most ≤ 1600) (top : price ≤ 300000) where
+  pub hour-room : (buys sells first last : ℕ) (gap : List ℕ) → length gap ≡ 1602 → ClearRange buys sells off most first last →
       GapsFor row price first last gap × NotRising row
   hour-room buys sells first last gap e r =
       let l = stepsFrom 0 sides prices quantities in (
         record {
-          ordered = omega (arith, range-holds buys sells off first last r small);
+          ordered = omega (arith, range-holds buys sells off most first last r small);
           inside = omega (arith, r .inside);
           asMany = size ∙ sym e;
           few = omega arith;
@@ -133,15 +133,15 @@ module _ (sides prices quantities : List ℕ) (off price : ℕ) (row : List ℕ)
       )
 
   pub hour-ranged : (buys sells first last turn : ℕ) (gap : List ℕ) → AllOf sides prices quantities buys sells →
-      ClearRange buys sells off 1600 first last → GapTable row price first last turn gap →
-      ((first ≤ 1600) × (last ≤ 1600) × (turn ≤ 1600)) × Ranged sides prices quantities off price first last turn row gap
+      ClearRange buys sells off most first last → GapTable row price first last turn gap →
+      ((first ≤ 1600) × (last ≤ 1600) × (turn ≤ 1600)) × Ranged sides prices quantities off most price first last turn row gap
   hour-ranged buys sells first last turn gap a r g = (
-    (omega (arith, range-holds buys sells off first last r small), r .inside, omega (arith, g .to, r .inside)),
+    (omega (arith, range-holds buys sells off most first last r small), omega (arith, r .inside), omega (arith, g .to, r .inside)),
     record { bought = buys; sold = sells; all = a; range = r; gaps = g },
   )
 
 -- THE RANGES AND THE GAP TABLES
-module _ (sides prices quantities ends off root low : List ℕ) where
+module _ (sides prices quantities ends off most root low : List ℕ) where
   pub record RangesTo (gap first last turn : List ℕ) (h : ℕ) : Type 0 where
     pub inside : h ≤ 24
     pub size : length gap ≡ 38448
@@ -149,7 +149,7 @@ module _ (sides prices quantities ends off root low : List ℕ) where
     pub lastSize : length last ≡ 24
     pub turnSize : length turn ≡ 24
     pub small : (j : ℕ) → getD last j 0 ≤ 1600
-    pub done : (j : ℕ) → j < h → RangedAt sides prices quantities ends off root low gap first last turn j
+    pub done : (j : ℕ) → j < h → RangedAt sides prices quantities ends off most root low gap first last turn j
 
   pub ranges-start : (gap : List ℕ) → length gap ≡ 38448 → RangesTo gap (replicate 24 0) (replicate 24 0) (replicate 24 0) 0
   ranges-start gap e = record {
@@ -163,7 +163,7 @@ module _ (sides prices quantities ends off root low : List ℕ) where
   }
 
   pub ranges-next : (gap first last turn row : List ℕ) (h k f l m : ℕ) → RangesTo gap first last turn h → h < 24 → length row ≡ 1602 → k ≡ 1602 → l ≤ 1600 →
-      Ranged (partOf ends h sides) (partOf ends h prices) (partOf ends h quantities) (getD off h 0) (getD root h 0) f l m (rowOf low h) row →
+      Ranged (partOf ends h sides) (partOf ends h prices) (partOf ends h quantities) (getD off h 0) (getD most h 0) (getD root h 0) f l m (rowOf low h) row →
       RangesTo (putMid (h * 1602) k gap row) (set first h f) (set last h l) (set turn h m) (h + 1)
   ranges-next gap first last turn row h k f l m r a full wide small t =
       let inF : h < length first = omega (arith, r .firstSize) in
@@ -177,7 +177,7 @@ module _ (sides prices quantities ends off root low : List ℕ) where
         lastSize = rw length-set (r .lastSize);
         turnSize = rw length-set (r .turnSize);
         small = set-small 1600 last h l inL small (r .small);
-        done = λ j b. below-next (RangedAt sides prices quantities ends off root low new (set first h f) (set last h l) (set turn h m)) h j
+        done = λ j b. below-next (RangedAt sides prices quantities ends off most root low new (set first h f) (set last h l) (set turn h m)) h j
             (λ c. rw (
               row-before gap row h k (r .size) a full wide j c,
               getD-set-other first h j f 0 (λ e. omega arith),
@@ -194,5 +194,5 @@ module _ (sides prices quantities ends off root low : List ℕ) where
 
   pub ranges-all : (gap first last turn : List ℕ) (h : ℕ) → RangesTo gap first last turn h → 24 ≤ h →
       ((length first ≡ 24) × (length last ≡ 24) × (length turn ≡ 24) × Small 1600 last)
-      × RangesAre sides prices quantities ends off root low gap first last turn
+      × RangesAre sides prices quantities ends off most root low gap first last turn
   ranges-all gap first last turn h r k = ((r .firstSize, r .lastSize, r .turnSize, r .small), λ j a. r .done j (omega arith))

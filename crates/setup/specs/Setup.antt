@@ -2,7 +2,7 @@
 use Prim.Native.Nat.{ℕ, zero, suc, _+_, _-_, _*_, _≤_, _<_}
 use mathlib.Core.List.{List}
 use mathlib.Core.Path.{_≡_}
-use mathlib.Core.Bool.{Bool, true, false}
+use mathlib.Core.Bool.{Bool, true, false, cond}
 use lib.Dec.{leb}
 use lib.ListN.{length, take, drop, getD, set}
 use Rattle.book.specs.Records.{holdsHour, hourCount}
@@ -61,26 +61,26 @@ RowIs sides prices quantities ends off low h =
 abbrev pub RowsAre : (sides prices quantities ends off low : List ℕ) → Type 0
 RowsAre sides prices quantities ends off low = (h : ℕ) → h < 24 → RowIs sides prices quantities ends off low h
 
--- The places at which an hour clears, and its gaps there at a price, the least at turn.
-pub record Ranged (sides prices quantities : List ℕ) (off price first last turn : ℕ) (low gap : List ℕ) : Type 0 where
+-- The places at which an hour clears, of those up to most, and its gaps there at a price, the least at turn.
+pub record Ranged (sides prices quantities : List ℕ) (off most price first last turn : ℕ) (low gap : List ℕ) : Type 0 where
   pub bought : ℕ
   pub sold : ℕ
   pub all : AllOf sides prices quantities bought sold
-  pub range : ClearRange bought sold off 1600 first last
+  pub range : ClearRange bought sold off most first last
   pub gaps : GapTable low price first last turn gap
 
-abbrev pub RangedOf : (sides prices quantities : List ℕ) (a e off price first last turn : ℕ) (low gap : List ℕ) → Type 0
-RangedOf sides prices quantities a e off price first last turn low gap =
-    Ranged (between a e sides) (between a e prices) (between a e quantities) off price first last turn low gap
+abbrev pub RangedOf : (sides prices quantities : List ℕ) (a e off most price first last turn : ℕ) (low gap : List ℕ) → Type 0
+RangedOf sides prices quantities a e off most price first last turn low gap =
+    Ranged (between a e sides) (between a e prices) (between a e quantities) off most price first last turn low gap
 
-abbrev pub RangedAt : (sides prices quantities ends off root low gap first last turn : List ℕ) → ℕ → Type 0
-RangedAt sides prices quantities ends off root low gap first last turn h =
-    Ranged (partOf ends h sides) (partOf ends h prices) (partOf ends h quantities) (getD off h 0) (getD root h 0) (getD first h 0) (getD last h 0)
-    (getD turn h 0) (rowOf low h) (rowOf gap h)
+abbrev pub RangedAt : (sides prices quantities ends off most root low gap first last turn : List ℕ) → ℕ → Type 0
+RangedAt sides prices quantities ends off most root low gap first last turn h =
+    Ranged (partOf ends h sides) (partOf ends h prices) (partOf ends h quantities) (getD off h 0) (getD most h 0) (getD root h 0) (getD first h 0)
+    (getD last h 0) (getD turn h 0) (rowOf low h) (rowOf gap h)
 
-abbrev pub RangesAre : (sides prices quantities ends off root low gap first last turn : List ℕ) → Type 0
-RangesAre sides prices quantities ends off root low gap first last turn =
-    (h : ℕ) → h < 24 → RangedAt sides prices quantities ends off root low gap first last turn h
+abbrev pub RangesAre : (sides prices quantities ends off most root low gap first last turn : List ℕ) → Type 0
+RangesAre sides prices quantities ends off most root low gap first last turn =
+    (h : ℕ) → h < 24 → RangedAt sides prices quantities ends off most root low gap first last turn h
 
 -- THE BLOCKS
 -- The sum of a number of each of the first n places.
@@ -88,10 +88,15 @@ unfoldable pub sumBelow : ℕ → (ℕ → ℕ) → ℕ
 sumBelow zero f = 0
 sumBelow (suc n) f = sumBelow n f + f n
 
--- What the buy blocks of the columns buy in hour h.
-abbrev pub boughtIn : (count : ℕ) (sides hours quantities : List ℕ) → ℕ → ℕ
-boughtIn count sides hours quantities h =
-    sumBelow count (λ i. when (holdsHour (getD hours i 0) h) (bySide (sideFor (getD sides i 0)) (getD quantities i 0) 0))
+-- What the buy blocks of the columns buy in hour h; where `all` is true, with what the sell blocks sell.
+abbrev pub tradedIn : (count : ℕ) (sides hours quantities : List ℕ) (all : Bool) (h : ℕ) → ℕ
+tradedIn count sides hours quantities all h =
+    sumBelow count (λ i. when (holdsHour (getD hours i 0) h) (bySide (sideFor (getD sides i 0)) (getD quantities i 0) (cond all (getD quantities i 0) 0)))
+
+-- A column has that sum for each hour, at most 1,600.
+pub record TradedBy (count : ℕ) (sides hours quantities : List ℕ) (all : Bool) (column : List ℕ) : Type 0 where
+  pub small : Small 1600 column
+  pub is : (h : ℕ) → 1 ≤ h → h ≤ 24 → getD column (h - 1) 0 ≡ tradedIn count sides hours quantities all h
 
 -- The columns with block i written.
 unfoldable pub written : (columns : List ℕ) (i side hours quantity limit sum : ℕ) → List ℕ

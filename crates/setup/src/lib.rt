@@ -7,7 +7,7 @@ ghost use Rattle.orders.specs.Columns.{sideFor};
 ghost use Rattle.search.specs.Search.{Small, quantityAt, firstOf, lastOf, turnOf};
 ghost use mathlib.Core.Bool.{true, cond};
 ghost use Rattle.setup.specs.Setup.{StepsHeld, PartHeld, BlocksHeld, TableOf, RowsAre, RangedOf, RangesAre};
-ghost use Rattle.setup.specs.Setup.{boughtIn, written, Written, ReadyFor};
+ghost use Rattle.setup.specs.Setup.{TradedBy, written, Written, ReadyFor};
 ghost use Rattle.setup.specs.Setup.{Widened, RowsEmpty, RowsWritten, TwinsAt, noWorse, TwinOf, TwinsEmpty, TwinsWritten};
 ghost use Rattle.search.specs.Meaning.{Sized};
 use book::hour_count;
@@ -85,7 +85,8 @@ fn fill_tables(
     }
 }
 
-// The places at which an hour clears, whose steps stand from a up to e, and its gaps there at a price. The range has the place off: there N is 0.
+// The places at which an hour clears, of those up to most, whose steps stand from a up to e, and its gaps there at a price. The range has the place off:
+// there N is 0.
 fn fill_hour(
     sides: &[u8],
     prices: &[u32],
@@ -93,18 +94,19 @@ fn fill_hour(
     a: usize,
     e: usize,
     off: u32,
+    most: u32,
     price: u32,
     row: &[u32],
     gap: &mut [u32],
 ) -> Range
-    requires held { ⌜ PartHeld (now sides) (now prices) (now quantities) a e × (off ≤ 1600) × (price ≤ 300000) × (length (now gap) ≡ 1602) ⌝ }
+    requires held { ⌜ PartHeld (now sides) (now prices) (now quantities) a e × (off ≤ most) × (most ≤ 1600) × (price ≤ 300000) × (length (now gap) ≡ 1602) ⌝ }
     requires table { ⌜ (length (now row) ≡ 1602) × TableOf (now sides) (now prices) (now quantities) a e off (now row) ⌝ }
     ensures fits { λ r. ⌜ (r .first ≤ 1600) × (r .last ≤ 1600) × (r .turn ≤ 1600) ⌝ }
-    ensures ranged { λ r. ⌜ RangedOf (now (sides .entry)) (now (prices .entry)) (now (quantities .entry)) a e off price
+    ensures ranged { λ r. ⌜ RangedOf (now (sides .entry)) (now (prices .entry)) (now (quantities .entry)) a e off most price
         (r .first) (r .last) (r .turn) (now (row .entry)) (now (gap .exit)) ⌝ }
 {
     let all = all_totals(&sides[a..e], &prices[a..e], &quantities[a..e]);
-    let range = clear_range(all.buys, all.sells, off, 1600);
+    let range = clear_range(all.buys, all.sells, off, most as usize);
     let turn = fill_gaps(row, price, range.first, range.last, gap);
     Range {
         first: range.first,
@@ -120,14 +122,16 @@ fn fill_ranges(
     quantities: &[u32],
     ends: [u16; 25],
     off: [u32; 24],
+    most: [u32; 24],
     root: [u32; 24],
     low: &[u32],
     gap: &mut [u32],
 ) -> Ranges
-    requires held { ⌜ StepsHeld (now sides) (now prices) (now quantities) ends × Small 1600 off × Small 300000 root × (length (now gap) ≡ 38448) ⌝ }
+    requires held { ⌜ StepsHeld (now sides) (now prices) (now quantities) ends × Small 1600 most × Small 300000 root × (length (now gap) ≡ 38448) ⌝ }
+    requires within { ⌜ ((h : ℕ) → h < 24 → getD off h 0 ≤ getD most h 0) ⌝ }
     requires tables { ⌜ (length (now low) ≡ 38448) × RowsAre (now sides) (now prices) (now quantities) ends off (now low) ⌝ }
     ensures small { λ r. ⌜ (length (r .first) ≡ 24) × (length (r .last) ≡ 24) × (length (r .turn) ≡ 24) × Small 1600 (r .last) ⌝ }
-    ensures ranges { λ r. ⌜ RangesAre (now (sides .entry)) (now (prices .entry)) (now (quantities .entry)) ends off root
+    ensures ranges { λ r. ⌜ RangesAre (now (sides .entry)) (now (prices .entry)) (now (quantities .entry)) ends off most root
         (now (low .entry)) (now (gap .exit)) (r .first) (r .last) (r .turn) ⌝ }
 {
     let mut first = [0; 24];
@@ -144,6 +148,7 @@ fn fill_ranges(
             ends[h] as usize,
             ends[h + 1] as usize,
             off[h],
+            most[h],
             root[h],
             &low[from..to],
             &mut gap[from..to],
@@ -170,24 +175,27 @@ fn by_side(side: u8, a: u32, b: u32) -> u32
     if side == 0 { a } else { b }
 }
 
-// What the buy blocks buy in each hour.
-fn bought_by_hour(
+// What the buy blocks buy in each hour; where `all` is true, with what the sell blocks sell.
+fn traded_by_hour(
     count: usize,
     sides: [u8; 32],
     hours: [u32; 32],
     quantities: [u32; 32],
+    all: bool,
 ) -> [u32; 24]
     requires { ⌜ (count ≤ 32) × ((i : ℕ) → i < count → getD quantities i 0 ≤ 50) ⌝ }
-    ensures { λ r. ⌜ Small 1600 r × ((h : ℕ) → 1 ≤ h → h ≤ 24 → getD r (h - 1) 0 ≡ boughtIn count sides hours quantities h) ⌝ }
+    ensures { λ r. ⌜ TradedBy count sides hours quantities all r ⌝ }
 {
-    let mut off = [0; 24];
+    let mut sum = [0; 24];
     let mut i: usize = 0;
     while i < count {
-        let more = moved(off, hours[i], by_side(sides[i], quantities[i], 0));
-        off = more;
+        let quantity = quantities[i];
+        let traded = by_side(sides[i], quantity, choose(all, quantity, 0));
+        let more = moved(sum, hours[i], traded);
+        sum = more;
         i += 1;
     }
-    off
+    sum
 }
 
 // The columns with block i written: its side, hours, quantity, limit, and what it loses if taken and if left out.
@@ -643,10 +651,11 @@ pub fn prepare(
     let hours = blocks.hours;
     let limits = blocks.prices;
     let amounts = blocks.quantities;
-    let off = bought_by_hour(count, block_sides, hours, amounts);
+    let off = traded_by_hour(count, block_sides, hours, amounts, false);
+    let most = traded_by_hour(count, block_sides, hours, amounts, true);
     fill_tables(sides, prices, quantities, ends, off, low);
     let root = root_prices(low, off, count, block_sides, hours, limits, amounts);
-    let ranges = fill_ranges(sides, prices, quantities, ends, off, root, low, gap);
+    let ranges = fill_ranges(sides, prices, quantities, ends, off, most, root, low, gap);
     let columns = block_columns(count, block_sides, hours, limits, amounts, root);
     let first = ranges.first;
     let last = ranges.last;

@@ -53,7 +53,7 @@ fill-gaps-requires c κs =
     let s = c .before .before .before .before .before .before .before .before .before .before .before in
     let q = s .pre .0 in
     let t = s .pre .1 in
-    hour-room _ _ _ _ _ _ (t .1) (t .0) (q .1) (q .2) _ _ _ _ _ (q .3) (c .before .clear-range .ensures)
+    hour-room _ _ _ _ _ _ _ (t .1) (t .0) (q .1) (q .2) (q .3) _ _ _ _ _ (q .4) (c .before .clear-range .ensures)
 
 same-length : tie.Need-same-length
 same-length c = search needs
@@ -65,7 +65,7 @@ returns c =
     let q = s .pre .0 in
     let t = s .pre .1 in
     let g = c .before .before .fill-gaps in
-    hour-ranged _ _ _ _ _ _ (t .1) (t .0) (q .1) (q .2) _ _ _ _ (g .result) _ (r .before .all-totals .ensures) (r .clear-range .ensures) (g .ensures .0)
+    hour-ranged _ _ _ _ _ _ _ (t .1) (t .0) (q .1) (q .2) (q .3) _ _ _ _ (g .result) _ (r .before .all-totals .ensures) (r .clear-range .ensures) (g .ensures .0)
 
 pub fill-hour-spec : {M : Type 1} → statement M
 fill-hour-spec =

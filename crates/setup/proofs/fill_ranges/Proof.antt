@@ -6,18 +6,16 @@ use Rattle.setup.proofs.SetupTableLaws.{part-held, part-length, row-wid
 use borrow.Author.Needs.{needs}
 use Rattle.setup.proofs.fill_ranges.Statement.{statement}
 use Rattle.setup.proofs.fill_ranges.Tie as tie
-use Rattle.setup.proofs.fill_ranges.Reads as reads
-use Rattle.setup.proofs.fill_ranges.Lts as lts
-use Rattle.setup.proofs.fill_hour.Reads as fill-hour-reads
 
 abbrev Inv-loop : tie.InvT-loop
-Inv-loop sides prices quantities low gap₀ ends off root first₀ last₀ turn₀ h₀ gap first last turn h = RangesTo sides prices quantities ends off root low gap first last turn h
+Inv-loop sides prices quantities low gap₀ ends off most root first₀ last₀ turn₀ h₀ gap first last turn h =
+    RangesTo sides prices quantities ends off most root low gap first last turn h
 
 abbrev μ-loop : tie.MeasureT-loop
-μ-loop sides prices quantities low gap₀ ends off root first₀ last₀ turn₀ h₀ gap first last turn h = 24 - h
+μ-loop sides prices quantities low gap₀ ends off most root first₀ last₀ turn₀ h₀ gap first last turn h = 24 - h
 
 loop-holds : tie.Need-loop-holds Inv-loop μ-loop
-loop-holds c = ranges-start _ _ _ _ _ _ _ _ (c .before .before .before .before .before .pre .0 .3)
+loop-holds c = ranges-start _ _ _ _ _ _ _ _ _ (c .before .before .before .before .before .pre .0 .3)
 
 mul-from : tie.Need-mul-from Inv-loop μ-loop
 mul-from c = search needs
@@ -61,6 +59,12 @@ array-read-fill-hour-4 c = search needs
 mul-fill-hour-5 : tie.Need-mul-fill-hour-5 Inv-loop μ-loop
 mul-fill-hour-5 c = search needs
 
+array-read-fill-hour-5 : tie.Need-array-read-fill-hour-5 Inv-loop μ-loop
+array-read-fill-hour-5 c = search needs
+
+mul-fill-hour-6 : tie.Need-mul-fill-hour-6 Inv-loop μ-loop
+mul-fill-hour-6 c = search needs
+
 sub-fill-hour : tie.Need-sub-fill-hour Inv-loop μ-loop
 sub-fill-hour c = search needs
 
@@ -70,8 +74,8 @@ part-fill-hour-start c = search needs
 part-fill-hour-end : tie.Need-part-fill-hour-end Inv-loop μ-loop
 part-fill-hour-end c = search needs
 
-mul-fill-hour-6 : tie.Need-mul-fill-hour-6 Inv-loop μ-loop
-mul-fill-hour-6 c = search needs
+mul-fill-hour-7 : tie.Need-mul-fill-hour-7 Inv-loop μ-loop
+mul-fill-hour-7 c = search needs
 
 sub-fill-hour-2 : tie.Need-sub-fill-hour-2 Inv-loop μ-loop
 sub-fill-hour-2 c = search needs
@@ -88,8 +92,8 @@ fill-hour-requires c κs =
     let s = c .before .before .before .before .before .before .before .before .before in
     let k = c .before .before .loop-test .taken in
     let q = s .pre .0 in
-    let t = s .pre .1 in (
-      (part-held _ _ _ _ (q .0) (v .h) k, q .1 (v .h), q .2 (v .h), part-length (v .gap) (v .h) (v .inv .size) k),
+    let t = s .pre .1 .1 in (
+      (part-held _ _ _ _ (q .0) (v .h) k, s .pre .1 .0 (v .h) k, q .1 (v .h), q .2 (v .h), part-length (v .gap) (v .h) (v .inv .size) k),
       (part-length (s .args .low .now) (v .h) (t .0) k, rw (part-row (s .args .low .now) (v .h)) (t .1 (v .h) k)),
     )
 
@@ -124,23 +128,22 @@ add-h : tie.Need-add-h Inv-loop μ-loop
 add-h c = search needs
 
 loop-less : tie.Need-loop-less Inv-loop μ-loop
-loop-less c = search needs
+loop-less c = omega (arith, c .before .before .before .before .before .before .before .before .loop-test .taken)
 
 loop-again : tie.Need-loop-again Inv-loop μ-loop
 loop-again c =
     let v = c .before .before .before .before .before .before .before .before .before .loop in
-    let s = c .before .before .before .before .before .before .before .before .before .before .before .before .before .before .before in
     let k = c .before .before .before .before .before .before .before .before .loop-test .taken in
     let f = c .before .before .before .before .before .fill-hour in
-    ranges-next _ _ _ _ _ _ _ _ _ _ _ _ (v .h) _ _ _ _ (v .inv) k
-    (f .kept .1 .1 .1 .1 .1 .1 .1 .1 .0 ∙ part-length (v .gap) (v .h) (v .inv .size) k) (row-wide (v .h))
-    (f .ensures .0 .1) (rw (part-row (s .args .low .now) (v .h)) at (f .ensures .1))
+    ranges-next _ _ _ _ _ _ _ _ _ _ _ _ _ (v .h) _ _ _ _ (v .inv) k
+    (f .kept .1 .1 .1 .1 .1 .1 .1 .1 .1 .0 ∙ part-length (v .gap) (v .h) (v .inv .size) k) (row-wide (v .h))
+    (f .ensures .0 .1) (rw (part-row (c .before .before .before .before .before .before .before .before .before .before .before .before .before .before .before .args .low .now) (v .h)) at (f .ensures .1))
 
 same-length : tie.Need-same-length Inv-loop μ-loop
 same-length c = c .before .loop .inv .size ∙ sym (c .before .before .before .before .before .before .before .pre .0 .3)
 
 returns : tie.Need-returns Inv-loop μ-loop
-returns c = ranges-all _ _ _ _ _ _ _ _ _ _ _ _ (c .before .loop .inv) (c .loop-test .left)
+returns c = ranges-all _ _ _ _ _ _ _ _ _ _ _ _ _ (c .before .loop .inv) (c .loop-test .left)
 
 pub fill-ranges-spec : {M : Type 1} → statement M
 fill-ranges-spec =
@@ -163,10 +166,12 @@ fill-ranges-spec =
     mul-fill-hour-4
     array-read-fill-hour-4
     mul-fill-hour-5
+    array-read-fill-hour-5
+    mul-fill-hour-6
     sub-fill-hour
     part-fill-hour-start
     part-fill-hour-end
-    mul-fill-hour-6
+    mul-fill-hour-7
     sub-fill-hour-2
     part-fill-hour-start-2
     part-fill-hour-end-2

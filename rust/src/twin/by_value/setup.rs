@@ -74,7 +74,8 @@ fn fill_tables(
     }
 }
 
-// The places at which an hour clears, whose steps stand from a up to e, and its gaps there at a price. The range has the place off: there N is 0.
+// The places at which an hour clears, of those up to most, whose steps stand from a up to e, and its gaps there at a price. The range has the place off:
+// there N is 0.
 fn fill_hour(
     sides: &[u8],
     prices: &[u32],
@@ -82,13 +83,14 @@ fn fill_hour(
     a: usize,
     e: usize,
     off: u32,
+    most: u32,
     price: u32,
     row: &[u32],
     gap: &mut [u32],
 ) -> Range
 {
     let all = all_totals(&sides[a..e], &prices[a..e], &quantities[a..e]);
-    let range = clear_range(all.buys, all.sells, off, 1600);
+    let range = clear_range(all.buys, all.sells, off, most as usize);
     let turn = fill_gaps(row, price, range.first, range.last, gap);
     Range {
         first: range.first,
@@ -104,6 +106,7 @@ fn fill_ranges(
     quantities: &[u32],
     ends: [u16; 25],
     off: [u32; 24],
+    most: [u32; 24],
     root: [u32; 24],
     low: &[u32],
     gap: &mut [u32],
@@ -123,6 +126,7 @@ fn fill_ranges(
             ends[h] as usize,
             ends[h + 1] as usize,
             off[h],
+            most[h],
             root[h],
             &low[from..to],
             &mut gap[from..to],
@@ -147,22 +151,25 @@ fn by_side(side: u8, a: u32, b: u32) -> u32
     if side == 0 { a } else { b }
 }
 
-// What the buy blocks buy in each hour.
-fn bought_by_hour(
+// What the buy blocks buy in each hour; where `all` is true, with what the sell blocks sell.
+fn traded_by_hour(
     count: usize,
     sides: [u8; 32],
     hours: [u32; 32],
     quantities: [u32; 32],
+    all: bool,
 ) -> [u32; 24]
 {
-    let mut off = [0; 24];
+    let mut sum = [0; 24];
     let mut i: usize = 0;
     while i < count {
-        let more = moved(off, hours[i], by_side(sides[i], quantities[i], 0));
-        off = more;
+        let quantity = quantities[i];
+        let traded = by_side(sides[i], quantity, choose(all, quantity, 0));
+        let more = moved(sum, hours[i], traded);
+        sum = more;
         i += 1;
     }
-    off
+    sum
 }
 
 // The columns with block i written: its side, hours, quantity, limit, and what it loses if taken and if left out.
@@ -563,10 +570,11 @@ pub fn prepare(
     let hours = blocks.hours;
     let limits = blocks.prices;
     let amounts = blocks.quantities;
-    let off = bought_by_hour(count, block_sides, hours, amounts);
+    let off = traded_by_hour(count, block_sides, hours, amounts, false);
+    let most = traded_by_hour(count, block_sides, hours, amounts, true);
     fill_tables(sides, prices, quantities, ends, off, low);
     let root = root_prices(low, off, count, block_sides, hours, limits, amounts);
-    let ranges = fill_ranges(sides, prices, quantities, ends, off, root, low, gap);
+    let ranges = fill_ranges(sides, prices, quantities, ends, off, most, root, low, gap);
     let columns = block_columns(count, block_sides, hours, limits, amounts, root);
     let first = ranges.first;
     let last = ranges.last;
