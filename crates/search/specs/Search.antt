@@ -171,6 +171,13 @@ pub record ReachOf (first last least free : List ℕ) (balances : Bool) (from to
   pub balanced : balances ≡ true → (h : ℕ) → 1 ≤ h → h ≤ 24 → ofHour from h ≤ ofHour to h
   pub unbalanced : balances ≡ false → ((h : ℕ) → 1 ≤ h → h ≤ 24 → ofHour from h ≤ ofHour to h) → ⊥
 
+-- A branch at these places reaches that with its blocks from number j on.
+pub record ReachedBy (first last blocks : List ℕ) (count j out loss limit : ℕ) (places : List ℕ) (balances : Bool) (from to : List ℕ) : Type 0 where
+  pub least : List ℕ
+  pub free : List ℕ
+  pub rest : RestOf blocks count j out loss limit places least free
+  pub reach : ReachOf first last least free balances from to
+
 -- The sum of the hours' gaps at the places from `from` to `to` that are nearest to where the gaps turn.
 unfoldable pub leastGaps : (gap turn from to : List ℕ) → ℕ
 leastGaps gap turn from to = sumTo 24 (λ h. cell gap h (nearest (ofHour turn h) (ofHour from h) (ofHour to h)))

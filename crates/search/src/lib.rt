@@ -6,7 +6,7 @@ ghost use lib.ListN.{length, getD};
 ghost use Rattle.rules.specs.Hour.{when};
 ghost use Rattle.book.specs.Records.{holdsHour};
 ghost use mathlib.Core.Bool.{cond};
-ghost use Rattle.search.specs.Search.{Small, sumOfHours, ofHour, GapsOf, PricesOf, keepsAt, allKeep, isOut, isRuledOut, mustMove, mayMove, AddedTo, isBarred, isDue, rowAt, RestOf, ReachOf, leastGaps, firstOf, lastOf, turnOf};
+ghost use Rattle.search.specs.Search.{Small, sumOfHours, ofHour, GapsOf, PricesOf, keepsAt, allKeep, isOut, isRuledOut, mustMove, mayMove, AddedTo, isBarred, isDue, rowAt, RestOf, ReachOf, ReachedBy, leastGaps, firstOf, lastOf, turnOf};
 ghost use Rattle.search.specs.Search as numbers;
 ghost use Rattle.search.specs.Meaning.{BlocksSized, Sized, Fits, Decided, TakenTo, LeftTo, JudgedFrom, ExploredFrom, FoundIn};
 
@@ -109,7 +109,7 @@ pub fn prices_at(low: &[u32], places: [u32; 24]) -> [u32; 24]
 
 // Whether a block keeps its limit: the sum of the low prices over its hours is at most the limit for a buy, that of the high prices at least the limit
 // for a sell.
-pub fn keeps_limit(side: u32, hours: u32, limit: u32, high: [u32; 24], low: [u32; 24]) -> bool
+fn keeps_limit(side: u32, hours: u32, limit: u32, high: [u32; 24], low: [u32; 24]) -> bool
     requires { ⌜ Small 300000 high × Small 300000 low ⌝ }
     ensures { λ r. ⌜ r ≡ keepsAt side hours limit high low ⌝ }
 {
@@ -390,6 +390,26 @@ fn reach_of(first: &[u32], last: &[u32], least: [u32; 24], free: [u32; 24]) -> R
     Reach { balances, from, to }
 }
 
+// What the node reaches with its undecided blocks, from number at on.
+fn reach_at(
+    hours: &[u32],
+    blocks: &[u32],
+    count: usize,
+    at: usize,
+    out: u32,
+    node: Node,
+    limit: u64,
+) -> Reach
+    requires { ⌜ BlocksSized (now blocks) × (length (now hours) ≡ 72) × (count ≤ 32) × (at ≤ count) × (node .loss ≤ 32 * 2 ^ 32) × Small (at * 50000) (node .places) ⌝ }
+    ensures { λ r. ⌜ ReachedBy (firstOf (now (hours .entry))) (lastOf (now (hours .entry))) (now (blocks .entry)) count at out (node .loss) limit (node .places) (r .balances) (r .from) (r .to) ⌝ }
+{
+    let places = node.places;
+    let rest = rest_of(blocks, count, at, out, node.loss, limit, places);
+    let least = rest.least;
+    let free = rest.free;
+    reach_of(&hours[0..24], &hours[24..48], least, free)
+}
+
 // The sum of the hours' least gaps over the places from `from` to `to`.
 fn least_gaps(gap: &[u32], turn: &[u32], from: [u32; 24], to: [u32; 24]) -> u64
     requires { ⌜ (length (now gap) ≡ 38448) × (length (now turn) ≡ 24) × ((h : ℕ) → h < 24 → getD to h 0 ≤ 1600) ⌝ }
@@ -460,11 +480,7 @@ fn judge(
             out: out,
         };
     }
-    let places = node.places;
-    let rest = rest_of(blocks, count as usize, at, out, node.loss, limit, places);
-    let least = rest.least;
-    let free = rest.free;
-    let reach = reach_of(&hours[0..24], &hours[24..48], least, free);
+    let reach = reach_at(hours, blocks, count as usize, at, out, node, limit);
     if !reach.balances {
         return drop;
     }

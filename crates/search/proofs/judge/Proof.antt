@@ -21,10 +21,10 @@ use Rattle.search.proofs.judge.Statement.{statement}
 use Rattle.search.proofs.judge.Tie as tie
 
 -- arrays of 24
-from-size : (f : tie.After-reach-of) → length (f .reach-of .result .from) ≡ 24
+from-size : (f : tie.After-reach-at) → length (f .reach-at .result .from) ≡ 24
 from-size f = search needs
 
-to-size : (f : tie.After-reach-of) → length (f .reach-of .result .to) ≡ 24
+to-size : (f : tie.After-reach-at) → length (f .reach-at .result .to) ≡ 24
 to-size f = search needs
 
 turn-size : (s : tie.Start) → length (turnOf (s .args .hours .now)) ≡ 24
@@ -47,39 +47,13 @@ is-forced-requires c κs =
 returns-2 : tie.Need-returns-2
 returns-2 c = judged-as-it-was _ _ _ _ _ _ _ _ _ _ _
 
-rest-of-requires : tie.Need-rest-of-requires
-rest-of-requires c κs =
-    let s = c .before .before .before .before .before .before .before .before .before in
-    (s .pre .0 .blocksFit, s .pre .2, omega arith, omega (arith, s .pre .4 .lossFits, s .pre .2), s .pre .4 .placesFit)
-
-sub-reach-of : tie.Need-sub-reach-of
-sub-reach-of c = search needs
-
-part-reach-of-start : tie.Need-part-reach-of-start
-part-reach-of-start c = search needs
-
-part-reach-of-end : tie.Need-part-reach-of-end
-part-reach-of-end c = search needs
-
-sub-reach-of-2 : tie.Need-sub-reach-of-2
-sub-reach-of-2 c = search needs
-
-part-reach-of-start-2 : tie.Need-part-reach-of-start-2
-part-reach-of-start-2 c = search needs
-
-part-reach-of-end-2 : tie.Need-part-reach-of-end-2
-part-reach-of-end-2 c = search needs
-
-reach-of-requires : tie.Need-reach-of-requires
-reach-of-requires c κs =
-    let s = c .before .before .before .before .before .before .before .before .before .before .before .before .before .before .pre .0 in
-    let r = c .before .before .before .before .rest-of .ensures in
-    (s .firstHours, s .lastHours, r .leastFits, r .freeFits)
+reach-at-requires : tie.Need-reach-at-requires
+reach-at-requires c κs =
+    let s = c .before .before .before .before .before .before .before .before in
+    (s .pre .0 .blocksFit, s .pre .1, s .pre .2, omega arith, omega (arith, s .pre .4 .lossFits, s .pre .2), s .pre .4 .placesFit)
 
 returns-3 : tie.Need-returns-3
-returns-3 c =
-    judged-dropped _ _ _ _ _ _ _ _ _ _ _ _
-    (dropped-unbalanced _ _ _ _ _ _ _ _ _ _ _ _ _ (c .before .before .before .before .before .before .before .rest-of .ensures) _ _ _ (c .before .before .reach-of .ensures) (not-true _ (c .if3 .taken)))
+returns-3 c = judged-dropped _ _ _ _ _ _ _ _ _ _ _ _ (dropped-unbalanced _ _ _ _ _ _ _ _ _ _ _ _ _ (c .before .before .reach-at .ensures .rest) _ _ _ (c .before .before .reach-at .ensures .reach) (not-true _ (c .if3 .taken)))
 
 sub-least-gaps : tie.Need-sub-least-gaps
 sub-least-gaps c = search needs
@@ -92,56 +66,55 @@ part-least-gaps-end c = search needs
 
 least-gaps-requires : tie.Need-least-gaps-requires
 least-gaps-requires c κs =
-    let s = c .before .before .before .before .before .before .before .before .before .before .before .before .before .before .before .before .before .before .before .before in
-    (s .pre .0 .gapRows, turn-size s, to-fits _ _ _ _ _ _ _ (c .before .before .before .before .before .reach-of .ensures) (s .pre .0 .lastFits))
+    let s = c .before .before .before .before .before .before .before .before .before .before .before .before .before .before in
+    (s .pre .0 .gapRows, turn-size s, to-fits _ _ _ _ _ _ _ (c .before .before .before .before .before .reach-at .ensures .reach) (s .pre .0 .lastFits))
 
 add-if4 : tie.Need-add-if4
 add-if4 c =
-    let s = c .before .before .before .before .before .before .before .before .before .before .before .before .before .before .before .before .before .before .before .before .before .before in
+    let s = c .before .before .before .before .before .before .before .before .before .before .before .before .before .before .before .before in
     omega (arith, c .before .least-gaps .ensures .1, s .pre .4 .lossFits, s .pre .2)
 
 returns-4 : tie.Need-returns-4
 returns-4 c =
     let g = c .before .before .least-gaps .ensures .0 in
-    judged-dropped _ _ _ _ _ _ _ _ _ _ _ _
-    (dropped-by-gaps _ _ _ _ _ _ _ _ _ _ _ _ _ (c .before .before .before .before .before .before .before .before .before .before .before .before .before .rest-of .ensures) _ _ _ (c .before .before .before .before .before .before .before .before .reach-of .ensures) (omega (arith, c .if4 .taken, g)))
+    judged-dropped _ _ _ _ _ _ _ _ _ _ _ _ (dropped-by-gaps _ _ _ _ _ _ _ _ _ _ _ _ _ (c .before .before .before .before .before .before .before .before .reach-at .ensures .rest) _ _ _ (c .before .before .before .before .before .before .before .before .reach-at .ensures .reach) (omega (arith, c .if4 .taken, g)))
 
 prices-at-requires : tie.Need-prices-at-requires
 prices-at-requires c κs =
-    let s = c .before .before .before .before .before .before .before .before .before .before .before .before .before .before .before .before .before .before .before .before .before .before .before in
+    let s = c .before .before .before .before .before .before .before .before .before .before .before .before .before .before .before .before .before in
     let f = c .before .before .before .before .before .before .before .before in (
       s .pre .0 .lowRows,
       s .pre .0 .lowFits,
-      from-small _ _ _ _ _ _ _ (f .reach-of .ensures) (s .pre .0 .lastFits) (not-false _ (c .before .before .before .before .before .before .if3 .left)) (from-size f),
+      from-small _ _ _ _ _ _ _ (f .reach-at .ensures .reach) (s .pre .0 .lastFits) (not-false _ (c .before .before .before .before .before .before .if3 .left)) (from-size f),
     )
 
 prices-at-requires-2 : tie.Need-prices-at-requires-2
 prices-at-requires-2 c κs =
-    let s = c .before .before .before .before .before .before .before .before .before .before .before .before .before .before .before .before .before .before .before .before .before .before .before .before in
+    let s = c .before .before .before .before .before .before .before .before .before .before .before .before .before .before .before .before .before .before in
     let f = c .before .before .before .before .before .before .before .before .before in
-    (s .pre .0 .lowRows, s .pre .0 .lowFits, to-small _ _ _ _ _ _ _ (f .reach-of .ensures) (s .pre .0 .lastFits) (to-size f))
+    (s .pre .0 .lowRows, s .pre .0 .lowFits, to-small _ _ _ _ _ _ _ (f .reach-at .ensures .reach) (s .pre .0 .lastFits) (to-size f))
 
 keeps-limits-requires : tie.Need-keeps-limits-requires
 keeps-limits-requires c κs =
-    let s = c .before .before .before .before .before .before .before .before .before .before .before .before .before .before .before .before .before .before .before .before .before .before .before .before .before in
+    let s = c .before .before .before .before .before .before .before .before .before .before .before .before .before .before .before .before .before .before .before in
     (s .pre .0 .blocksFit .columns, omega (arith, s .pre .2), search needs, search needs)
 
 returns-5 : tie.Need-returns-5
 returns-5 c =
-    let s = c .before .before .before .before .before .before .before .before .before .before .before .before .before .before .before .before .before .before .before .before .before .before .before .before .before .before .before in
+    let s = c .before .before .before .before .before .before .before .before .before .before .before .before .before .before .before .before .before .before .before .before .before in
     judged-dropped _ _ _ _ _ _ _ _ _ _ _ _
-    (dropped-by-limit _ _ _ _ _ _ _ _ _ _ _ _ _ (c .before .before .before .before .before .before .before .before .before .before .before .before .before .before .before .before .before .rest-of .ensures) _ _ _ (c .before .before .before .before .before .before .before .before .before .before .before .before .reach-of .ensures) _ _ (c .before .before .before .prices-at .ensures) (c .before .before .prices-at2 .ensures)
+    (dropped-by-limit _ _ _ _ _ _ _ _ _ _ _ _ _ (c .before .before .before .before .before .before .before .before .before .before .before .before .reach-at .ensures .rest) _ _ _ (c .before .before .before .before .before .before .before .before .before .before .before .before .reach-at .ensures .reach) _ _ (c .before .before .before .prices-at .ensures) (c .before .before .prices-at2 .ensures)
     (not-false _ (c .before .before .before .before .before .before .before .before .before .before .if3 .left)) (s .pre .0 .lastFits) (sym (c .before .keeps-limits .ensures) ∙ not-true _ (c .if5 .taken)))
 
 ruled-out-requires : tie.Need-ruled-out-requires
 ruled-out-requires c κs =
-    let s = c .before .before .before .before .before .before .before .before .before .before .before .before .before .before .before .before .before .before .before .before .before .before .before .before .before .before .before in
+    let s = c .before .before .before .before .before .before .before .before .before .before .before .before .before .before .before .before .before .before .before .before .before in
     (s .pre .0 .blocksFit .columns, s .pre .2, omega (arith, s .pre .3), search needs, search needs)
 
 returns-6 : tie.Need-returns-6
 returns-6 c =
-    let s = c .before .before .before .before .before .before .before .before .before .before .before .before .before .before .before .before .before .before .before .before .before .before .before .before .before .before .before .before in
-    judged-open _ _ _ _ _ _ _ _ _ _ _ _ _ (c .before .before .before .before .before .before .before .before .before .before .before .before .before .before .before .before .before .before .rest-of .ensures) _ _ _ (c .before .before .before .before .before .before .before .before .before .before .before .before .before .reach-of .ensures) _ _ (c .before .before .before .before .prices-at .ensures) (c .before .before .before .prices-at2 .ensures)
+    let s = c .before .before .before .before .before .before .before .before .before .before .before .before .before .before .before .before .before .before .before .before .before .before in
+    judged-open _ _ _ _ _ _ _ _ _ _ _ _ _ (c .before .before .before .before .before .before .before .before .before .before .before .before .before .reach-at .ensures .rest) _ _ _ (c .before .before .before .before .before .before .before .before .before .before .before .before .before .reach-at .ensures .reach) _ _ (c .before .before .before .before .prices-at .ensures) (c .before .before .before .prices-at2 .ensures)
     (not-false _ (c .before .before .before .before .before .before .before .before .before .before .before .if3 .left)) (s .pre .0 .lastFits) (s .pre .3) _ (c .ruled-out .ensures)
 
 pub judge-spec : {M : Type 1} → statement M
@@ -153,14 +126,7 @@ judge-spec =
     cast-at
     is-forced-requires
     returns-2
-    rest-of-requires
-    sub-reach-of
-    part-reach-of-start
-    part-reach-of-end
-    sub-reach-of-2
-    part-reach-of-start-2
-    part-reach-of-end-2
-    reach-of-requires
+    reach-at-requires
     returns-3
     sub-least-gaps
     part-least-gaps-start

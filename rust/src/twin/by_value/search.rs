@@ -94,7 +94,7 @@ pub fn prices_at(low: &[u32], places: [u32; 24]) -> [u32; 24]
 
 // Whether a block keeps its limit: the sum of the low prices over its hours is at most the limit for a buy, that of the high prices at least the limit
 // for a sell.
-pub fn keeps_limit(side: u32, hours: u32, limit: u32, high: [u32; 24], low: [u32; 24]) -> bool
+fn keeps_limit(side: u32, hours: u32, limit: u32, high: [u32; 24], low: [u32; 24]) -> bool
 {
     if side == 0 {
         price_sum(low, hours) <= limit
@@ -350,6 +350,24 @@ fn reach_of(first: &[u32], last: &[u32], least: [u32; 24], free: [u32; 24]) -> R
     Reach { balances, from, to }
 }
 
+// What the node reaches with its undecided blocks, from number at on.
+fn reach_at(
+    hours: &[u32],
+    blocks: &[u32],
+    count: usize,
+    at: usize,
+    out: u32,
+    node: Node,
+    limit: u64,
+) -> Reach
+{
+    let places = node.places;
+    let rest = rest_of(blocks, count, at, out, node.loss, limit, places);
+    let least = rest.least;
+    let free = rest.free;
+    reach_of(&hours[0..24], &hours[24..48], least, free)
+}
+
 // The sum of the hours' least gaps over the places from `from` to `to`.
 fn least_gaps(gap: &[u32], turn: &[u32], from: [u32; 24], to: [u32; 24]) -> u64
 {
@@ -415,11 +433,7 @@ fn judge(
             out: out,
         };
     }
-    let places = node.places;
-    let rest = rest_of(blocks, count as usize, at, out, node.loss, limit, places);
-    let least = rest.least;
-    let free = rest.free;
-    let reach = reach_of(&hours[0..24], &hours[24..48], least, free);
+    let reach = reach_at(hours, blocks, count as usize, at, out, node, limit);
     if !reach.balances {
         return drop;
     }
