@@ -1,5 +1,6 @@
--- Laws of the columns and of the bridge: ColumnLaws serves the functions' proofs, the others the layers above.
+-- Laws of the columns and of the bridge: ColumnLaws and GroupLaws serve the functions' proofs, the others the layers above.
 pub mod ColumnLaws
+pub mod GroupLaws
 pub mod FrontLaws
 pub mod RecordLaws
 pub mod HourLaws
