@@ -55,8 +55,8 @@ pub record InsertedTo (before : List ℕ) (n key : ℕ) (after : List ℕ) : Typ
   pub falling : Falling after (n + 1)
   pub aboveIs : (p : ℕ) → aboveIn p after (n + 1) ≡ aboveIn p before n + keyAbove p key
 
--- The keys of the columns' steps, which sell so much at all: of the steps of either side, those above a price are the buys above it and the sells not up
--- to it, whatever hour the columns are of.
+-- The keys of the columns' steps, and what the sells sell together: what both sides trade above a price is what the buys buy above it and the sells do not
+-- sell up to it, whatever hour the columns are of.
 pub record KeysOf (sides prices quantities keys : List ℕ) (sold : ℕ) : Type 0 where
   pub falling : Falling keys (length sides)
   pub aboveIs : (h p : ℕ) → buysAbove p (stepsFrom h sides prices quantities) + sold
