@@ -36,15 +36,14 @@ unfolding refusal ownCauses firstOf
 refusal-size b e = rw e
 
 -- Without it the other causes are looked for in their order, and 5 by the chains' lengths, which matter only where 3 does not hold
-pub refusal-sized : (b : List ℕ) (n : ℕ) → wrongSize b ≡ false
-    → n
-    ≡ cond (wrongHead b) 2
-    (cond (brokenChain b) 3
-    (cond (wrongField b) 4
-    (cond (ltb (length (stepChain b) + length (blockChain b) + 1) (recordCount b)) 5 (cond (tooManyBlocks b) 6 0))))
-    → n ≡ refusal b
+pub refusal-sized : (b : List ℕ) (head broken wrong short many : Bool) (n6 n5 n4 n3 n2 : ℕ) → wrongSize b ≡ false
+    → head ≡ wrongHead b → broken ≡ brokenChain b → wrong ≡ wrongField b
+    → short ≡ ltb (length (stepChain b) + length (blockChain b) + 1) (recordCount b) → many ≡ tooManyBlocks b
+    → n6 ≡ cond many 6 0 → n5 ≡ cond short 5 n6 → n4 ≡ cond wrong 4 n5 → n3 ≡ cond broken 3 n4 → n2 ≡ cond head 2 n3
+    → n2 ≡ refusal b
 unfolding refusal ownCauses firstOf
-refusal-sized b n e given = given ∙ rw e (ap (λ (m : ℕ). cond (wrongHead b) 2 m) (at (brokenChain b) refl))
+refusal-sized b head broken wrong short many n6 n5 n4 n3 n2 e h2 h3 h4 h5 h6 e6 e5 e4 e3 e2 =
+    rw (e2, e3, e4, e5, e6, h2, h3, h4, h5, h6, e) (ap (λ (m : ℕ). cond (wrongHead b) 2 m) (at (brokenChain b) refl))
   where
     at : (broken : Bool) → brokenChain b ≡ broken
         → _≡_ {A = ℕ} (cond broken 3

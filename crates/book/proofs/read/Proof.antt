@@ -1,4 +1,5 @@
 -- `book::read` meets its contract: an answer for number 0, and one for any other. Assumes nothing.
+use mathlib.Core.Path.{sym, _∙_}
 use Rattle.book.proofs.Refused.{reading-accepted, reading-refused}
 use borrow.Author.Needs.{needs}
 use Rattle.book.proofs.read.Statement.{statement}
@@ -8,7 +9,7 @@ refusal-of-requires : tie.Need-refusal-of-requires
 refusal-of-requires c κs = search needs
 
 returns : tie.Need-returns
-returns c = reading-refused _ _ (cc) (c .if1 .taken)
+returns c = reading-refused _ _ (c .before .refusal-of .ensures) (c .if1 .taken)
 
 first-step-requires : tie.Need-first-step-requires
 first-step-requires c κs = search needs
@@ -23,7 +24,11 @@ chain-length-requires-2 : tie.Need-chain-length-requires-2
 chain-length-requires-2 c κs = search needs
 
 returns-2 : tie.Need-returns-2
-returns-2 c = reading-accepted _ _ _ (cc) (cc) (cc)
+returns-2 c =
+    let s = c .before .before in
+    let n = s .before .before in
+    reading-accepted _ _ _ (sym (n .before .refusal-of .ensures) ∙ n .if1 .left) (s .chain-length .ensures ∙ rw (s .before .first-step .ensures))
+    (c .chain-length2 .ensures ∙ rw (c .before .first-block .ensures))
 
 pub read-spec : {M : Type 1} → statement M
 read-spec =

@@ -27,7 +27,9 @@ add-result c = search needs
 
 returns : tie.Need-returns
 unfolding u16At
-returns c = cc
+returns c =
+    let high = c .before .before in
+    rw (high .wide16 .ensures .0, high .before .byte .ensures, c .wide162 .ensures .0, c .before .byte2 .ensures)
 
 pub u16-at-spec : {M : Type 1} → statement M
 u16-at-spec =

@@ -42,7 +42,17 @@ add-result-2 c = search needs
 
 returns : tie.Need-returns
 unfolding u24At
-returns c = cc
+returns c =
+    let middle = c .before .before in
+    let high = middle .before .before in
+    rw (
+      high .wide32 .ensures .0,
+      high .before .byte .ensures,
+      middle .wide322 .ensures .0,
+      middle .before .byte2 .ensures,
+      c .wide323 .ensures .0,
+      c .before .byte3 .ensures,
+    )
 
 pub u24-at-spec : {M : Type 1} → statement M
 u24-at-spec =

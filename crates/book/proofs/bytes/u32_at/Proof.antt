@@ -57,7 +57,20 @@ add-result-3 c = search needs
 
 returns : tie.Need-returns
 unfolding u32At
-returns c = cc
+returns c =
+    let third = c .before .before in
+    let second = third .before .before in
+    let first = second .before .before in
+    rw (
+      first .wide32 .ensures .0,
+      first .before .byte .ensures,
+      second .wide322 .ensures .0,
+      second .before .byte2 .ensures,
+      third .wide323 .ensures .0,
+      third .before .byte3 .ensures,
+      c .wide324 .ensures .0,
+      c .before .byte4 .ensures,
+    )
 
 pub u32-at-spec : {M : Type 1} → statement M
 u32-at-spec =

@@ -1,5 +1,5 @@
 -- `book::causes::refusal_of` meets its contract, by the law that cause 5 is a matter of lengths where 3 does not hold. Assumes nothing.
-use mathlib.Core.Path.{sym}
+use mathlib.Core.Path.{sym, _∙_}
 use Rattle.book.proofs.Refused.{refusal-size, refusal-sized}
 use borrow.Author.Needs.{needs}
 use Rattle.book.proofs.causes.refusal_of.Statement.{statement}
@@ -9,7 +9,7 @@ has-wrong-size-requires : tie.Need-has-wrong-size-requires
 has-wrong-size-requires c κs = search needs
 
 returns : tie.Need-returns
-returns c = sym (refusal-size _ (cc))
+returns c = sym (refusal-size _ (sym (c .before .has-wrong-size .ensures) ∙ c .if1 .taken))
 
 has-wrong-head-requires : tie.Need-has-wrong-head-requires
 has-wrong-head-requires c κs = search needs
@@ -42,7 +42,8 @@ first-of-requires-5 : tie.Need-first-of-requires-5
 first-of-requires-5 c κs = search needs
 
 returns-2 : tie.Need-returns-2
-returns-2 c = let broken = c .before in
+returns-2 c =
+    let broken = c .before in
     let wrong = broken .before in
     let short = wrong .before in
     let many = short .before in
@@ -50,19 +51,12 @@ returns-2 c = let broken = c .before in
     let h5 = h6 .before in
     let h4 = h5 .before in
     let h3 = h4 .before in
-    refusal-sized _ _ (cc)
-    (rw (
-      c .first-of5 .ensures,
-      broken .first-of4 .ensures,
-      wrong .first-of3 .ensures,
-      short .first-of2 .ensures,
-      many .first-of .ensures,
-      h6 .has-too-many-blocks .ensures,
-      h5 .has-short-chains .ensures,
-      h4 .has-wrong-field .ensures,
-      h3 .has-broken-chain .ensures,
-      h3 .before .has-wrong-head .ensures,
-    ))
+    let h2 = h3 .before in
+    let sized = h2 .before in
+    refusal-sized _ _ _ _ _ _ _ _ _ _ _ (sym (sized .before .has-wrong-size .ensures) ∙ sized .if1 .left)
+    (h2 .has-wrong-head .ensures) (h3 .has-broken-chain .ensures) (h4 .has-wrong-field .ensures)
+    (h5 .has-short-chains .ensures) (h6 .has-too-many-blocks .ensures)
+    (many .first-of .ensures) (short .first-of2 .ensures) (wrong .first-of3 .ensures) (broken .first-of4 .ensures) (c .first-of5 .ensures)
 
 pub refusal-of-spec : {M : Type 1} → statement M
 refusal-of-spec =

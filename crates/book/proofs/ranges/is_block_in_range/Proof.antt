@@ -27,7 +27,18 @@ block-fits-requires c κs = search needs
 
 returns : tie.Need-returns
 unfolding blockInRange
-returns c = cc
+returns c =
+    let edition = c .before .before in
+    let hour = edition .before in
+    let side = hour .before in
+    rw (
+      side .is-within .ensures,
+      side .before .side-byte .ensures,
+      hour .hour-byte .ensures,
+      c .block-fits .ensures,
+      edition .edition-of .ensures,
+      c .before .block-at .ensures,
+    )
 
 pub is-block-in-range-spec : {M : Type 1} → statement M
 is-block-in-range-spec =

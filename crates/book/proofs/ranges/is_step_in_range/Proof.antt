@@ -21,7 +21,9 @@ step-fits-requires c κs = search needs
 
 returns : tie.Need-returns
 unfolding stepInRange
-returns c = cc
+returns c =
+    let side = c .before .before in
+    rw (side .is-within .ensures, side .before .side-byte .ensures, c .step-fits .ensures, c .before .step-at .ensures)
 
 pub is-step-in-range-spec : {M : Type 1} → statement M
 is-step-in-range-spec =

@@ -39,7 +39,21 @@ u16-at-requires c κs = search needs
 
 returns : tie.Need-returns
 unfolding blockAt
-returns c = cc
+returns c =
+    let price = c .before in
+    let hours = price .before in
+    let portfolio = hours .before in
+    let number = portfolio .before in
+    let side = number .before in
+    rw (
+      side .side-of .ensures,
+      side .before .side-byte .ensures,
+      number .number-of .ensures,
+      portfolio .portfolio-of .ensures,
+      hours .u24-at .ensures,
+      price .u24-at2 .ensures,
+      c .u16-at .ensures,
+    )
 
 pub block-at-spec : {M : Type 1} → statement M
 block-at-spec =

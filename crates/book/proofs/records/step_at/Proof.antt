@@ -36,7 +36,21 @@ u32-at-requires-2 c κs = search needs
 
 returns : tie.Need-returns
 unfolding stepAt
-returns c = cc
+returns c =
+    let price = c .before in
+    let portfolio = price .before in
+    let hour = portfolio .before in
+    let number = hour .before in
+    let side = number .before in
+    rw (
+      side .side-of .ensures,
+      side .before .side-byte .ensures,
+      number .number-of .ensures,
+      hour .hour-byte .ensures,
+      portfolio .portfolio-of .ensures,
+      price .u32-at .ensures,
+      c .u32-at2 .ensures,
+    )
 
 pub step-at-spec : {M : Type 1} → statement M
 step-at-spec =
