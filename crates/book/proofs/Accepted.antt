@@ -9,18 +9,18 @@ use native.Mathlib.Omega.{arith}
 use borrow.Author.Tests.{eq-eqb, ne-eqb, eqb-true, leb-true, ltb-false, le-leb, not-false}
 use lib.Dec.{eqb, leb, ltb}
 use lib.ListN.{length}
-use Rattle.book.specs.Bytes.{nonzero}
+use Rattle.records.specs.Bytes.{nonzero}
 use Rattle.book.specs.Tests.{within, someBelow, someIn, countIn, member}
 use Rattle.rules.specs.Orders.{Limits, limits}
-use Rattle.book.specs.Records.{recordCount, firstStep, firstBlock, dayHours, edition, kind, sideByte, hourByte}
-use Rattle.book.specs.Records.{stepAt, blockAt, recordAt, hourCount}
+use Rattle.records.specs.Records.{recordCount, firstStep, firstBlock, dayHours, edition, kind, sideByte, hourByte}
+use Rattle.records.specs.Records.{stepAt, blockAt, recordAt, hourCount}
 use Rattle.book.specs.Chains.{chainFrom, stepChain, blockChain, steps, blocks}
 use Rattle.book.specs.Refusals.{wrongSize, wrongHead, brokenChain, wrongField, stray, strayRecord, ownedBy, tooManyOf, tooManyBlocks}
 use Rattle.book.specs.Refusals.{firstOf, ownCauses, refusal, Accepted}
 use Rattle.book.specs.Refusals.{stepFits, blockFits, stepInRange, blockInRange, outOfRange}
-use Rattle.book.specs.declared.Step.{Step}
-use Rattle.book.specs.declared.Block.{Block}
-use Rattle.book.specs.declared.Record.the-variants as record-of
+use Rattle.records.specs.declared.Step.{Step}
+use Rattle.records.specs.declared.Block.{Block}
+use Rattle.records.specs.declared.Record.the-variants as record-of
 use Rattle.book.proofs.Laws.{or-left, or-right, and-left, and-right}
 use Rattle.book.proofs.Members.{Each, each-map, each-both, each-member, each-image, none-in, none-below, Distinct}
 use Rattle.book.proofs.Distinct.{Placed, placed, Rising, rising, distinct, apart, chain-positive, chain-short, chain-whole}

@@ -11,7 +11,7 @@ use borrow.Author.Tests.{eqb-true, eqb-false, leb-false, le-leb, lt-leb, not-fal
 use lib.Dec.{eqb, leb, ltb}
 use lib.ListN.{length, length-append, getD}
 use Rattle.book.specs.Tests.{someIn, member}
-use Rattle.book.specs.Records.{recordCount, firstStep, firstBlock, next, kind, number}
+use Rattle.records.specs.Records.{recordCount, firstStep, firstBlock, next, kind, number}
 use Rattle.book.specs.Chains.{chainFrom, chain, stepChain, blockChain}
 use Rattle.book.specs.Refusals.{misplaced, broken, brokenChain, stray, strayRecord}
 use Rattle.book.proofs.Laws.{or-left, or-right}

@@ -1,18 +1,17 @@
--- The laws that the functions' proofs cite: one link more of a chain, or none, one number more of a search, one hour more of a count.
+-- The laws that the functions' proofs cite: one link more of a chain, or none, one number more of a search, one member more of a portfolio.
 -- Assumes nothing.
-use Prim.Native.Nat.{ℕ, zero, suc, _+_, _-_, _/_, _%_, _^_, _≤_, _<_}
+use Prim.Native.Nat.{ℕ, zero, suc, _+_, _-_, _≤_, _<_}
 use mathlib.Core.Path.{_≡_, refl}
 use mathlib.Core.List.{List, [], _∷_}
-use mathlib.Core.Bool.{Bool, true, false, cond, not, _||_, _&&_, true≢false, false≢true}
+use mathlib.Core.Bool.{Bool, true, false, cond, _||_, _&&_, true≢false, false≢true}
 use native.Mathlib.Omega.{arith}
-use native.Mathlib.Numerals.{sub-one, add-one}
+use native.Mathlib.Numerals.{sub-one}
 use borrow.Author.Tests.{eq-eqb, ne-eqb, eqb-true, eqb-false}
 use lib.ListN.{length, getD, set}
 use lib.Seq.{getD-set-same, getD-set-other}
 use lib.Dec.{eqb}
-use Rattle.book.specs.Bytes.{byteAt, nonzero}
 use Rattle.book.specs.Tests.{someBelow}
-use Rattle.book.specs.Records.{next, hourCount}
+use Rattle.records.specs.Records.{next}
 use Rattle.book.specs.Chains.{chainFrom}
 
 -- Zero ends a chain
@@ -44,23 +43,6 @@ pub some-more : (n : ℕ) (test : ℕ → Bool) → 0 < n → someBelow n test �
 unfolding someBelow
 some-more zero test h = absurd (omega arith)
 some-more (suc n) test h = rw sub-one
-
--- No byte is left to look at
-pub nonzero-none : (b : List ℕ) (i n : ℕ) → n ≤ 0 → nonzero b i n ≡ false
-unfolding nonzero
-nonzero-none b i zero h = refl
-nonzero-none b i (suc n) h = absurd (omega arith)
-
--- The first byte, then those after it
-pub nonzero-more : (b : List ℕ) (i n : ℕ) → 0 < n → nonzero b i n ≡ (not (eqb (byteAt b i) 0) || nonzero b (i + 1) (n - 1))
-unfolding nonzero
-nonzero-more b i zero h = absurd (omega arith)
-nonzero-more b i (suc n) h = rw sub-one
-
--- One hour more
-pub hour-more : (n x : ℕ) → hourCount (n + 1) x ≡ hourCount n x + cond (eqb (x / 2 ^ n % 2) 1) 1 0
-unfolding hourCount
-hour-more n x = rw (add-one, sub-one)
 
 -- One member more of portfolio q: its count grows by one, and no other
 pub count-more : (counts : List ℕ) (q p n : ℕ) → p < length counts

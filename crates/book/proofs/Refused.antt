@@ -9,7 +9,7 @@ use borrow.Author.Tests.{eq-eqb, ne-eqb, eqb-true, leb-true, not-false}
 use lib.Dec.{eqb, leb, ltb}
 use lib.ListN.{length}
 use Rattle.book.specs.Tests.{within}
-use Rattle.book.specs.Records.{recordCount}
+use Rattle.records.specs.Records.{recordCount}
 use Rattle.book.specs.Chains.{stepChain, blockChain}
 use Rattle.book.specs.Refusals.{wrongSize, wrongHead, brokenChain, wrongField, strayRecord, tooManyBlocks}
 use Rattle.book.specs.Refusals.{firstOf, ownCauses, refusal}

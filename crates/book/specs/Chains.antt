@@ -4,9 +4,9 @@ use Prim.Native.Nat.{ℕ, zero, suc}
 use mathlib.Core.List.{List, [], _∷_, map}
 use mathlib.Core.Bool.{true, false}
 use lib.Dec.{eqb}
-use Rattle.book.specs.Records.{recordCount, firstStep, firstBlock, next, stepAt, blockAt}
-use Rattle.book.specs.declared.Step.{Step}
-use Rattle.book.specs.declared.Block.{Block}
+use Rattle.records.specs.Records.{recordCount, firstStep, firstBlock, next, stepAt, blockAt}
+use Rattle.records.specs.declared.Step.{Step}
+use Rattle.records.specs.declared.Block.{Block}
 
 -- The indices met from i on by following `next`, at most n of them
 unfoldable pub chainFrom : ℕ → List ℕ → ℕ → List ℕ

@@ -1,7 +1,5 @@
 -- What a reader of this crate must believe, beside document 01: definitions alone. The laws about them stand in proofs/.
-pub mod Bytes
 pub mod Tests
-pub mod Records
 pub mod Chains
 pub mod Refusals
 pub mod Answers

@@ -6,13 +6,13 @@ use mathlib.Core.List.{List, [], _∷_}
 use mathlib.Core.Bool.{Bool, true, false, cond, not, _&&_, _||_}
 use lib.Dec.{eqb, leb, ltb}
 use lib.ListN.{length}
-use Rattle.book.specs.Bytes.{nonzero}
+use Rattle.records.specs.Bytes.{nonzero}
 use Rattle.book.specs.Tests.{within, someBelow, someIn, countIn, member}
 use Rattle.rules.specs.Orders.{Limits, limits}
-use Rattle.book.specs.Records.{recordCount, dayHours, edition, kind, sideByte, number, hourByte, portfolio, stepAt, blockAt, hourCount}
+use Rattle.records.specs.Records.{recordCount, dayHours, edition, kind, sideByte, number, hourByte, portfolio, stepAt, blockAt, hourCount}
 use Rattle.book.specs.Chains.{stepChain, blockChain}
-use Rattle.book.specs.declared.Step.{Step}
-use Rattle.book.specs.declared.Block.{Block}
+use Rattle.records.specs.declared.Step.{Step}
+use Rattle.records.specs.declared.Block.{Block}
 
 -- 1: length not 16 × R, below 16 bytes, or R outside 1 to 2,048
 unfoldable pub wrongSize : List ℕ → Bool

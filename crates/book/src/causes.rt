@@ -6,23 +6,23 @@ ghost use Prim.Native.Nat.{_+_};
 ghost use lib.Dec.{ltb};
 ghost use lib.ListN.{length};
 ghost use Rattle.book.specs.Tests.{someBelow};
-ghost use Rattle.book.specs.Records.{recordCount};
+ghost use Rattle.records.specs.Records.{recordCount};
 ghost use Rattle.book.specs.Chains.{stepChain, blockChain};
 ghost use Rattle.book.specs.Refusals.{wrongSize, wrongHead, brokenChain, wrongField, tooManyOf, tooManyBlocks, refusal};
-use crate::bytes::is_nonzero;
 use crate::chains::chain_length;
 use crate::chains::counts_by_portfolio;
 use crate::chains::has_outside_field;
 use crate::chains::is_broken;
 use crate::ranges::is_within;
 use crate::ranges::most_blocks_of_portfolio;
-use crate::records::BLOCK;
-use crate::records::STEP;
-use crate::records::day_hours;
-use crate::records::edition_of;
-use crate::records::first_block;
-use crate::records::first_step;
-use crate::records::record_count;
+use records::BLOCK;
+use records::STEP;
+use records::day_hours;
+use records::edition_of;
+use records::first_block;
+use records::first_step;
+use records::is_nonzero;
+use records::record_count;
 
 // 1: the length, or the record count.
 fn has_wrong_size(book: &[u8]) -> bool

@@ -7,11 +7,11 @@ ghost use Rattle.book.specs.Tests.{someIn, countIn};
 ghost use Rattle.book.specs.Chains.{chain};
 ghost use Rattle.book.specs.Refusals.{misplaced, broken, outOfRange, ownedBy};
 use crate::ranges::is_out_of_range;
-use crate::records::kind_of;
-use crate::records::next_of;
-use crate::records::number_of;
-use crate::records::portfolio_of;
-use crate::records::record_count;
+use records::kind_of;
+use records::next_of;
+use records::number_of;
+use records::portfolio_of;
+use records::record_count;
 
 // How many records the chain that starts at first has.
 pub fn chain_length(book: &[u8], first: u16) -> u16

@@ -3,15 +3,15 @@ ghost use mathlib.Core.Path.{_≡_};
 ghost use Rattle.book.specs.Tests.{within};
 ghost use Rattle.rules.specs.Orders.{limits};
 ghost use Rattle.book.specs.Refusals.{stepFits, blockFits, stepInRange, blockInRange, outOfRange};
-use crate::Block;
-use crate::Step;
-use crate::records::STEP;
-use crate::records::block_at;
-use crate::records::edition_of;
-use crate::records::hour_byte;
-use crate::records::hour_count;
-use crate::records::side_byte;
-use crate::records::step_at;
+use records::Block;
+use records::STEP;
+use records::Step;
+use records::block_at;
+use records::edition_of;
+use records::hour_byte;
+use records::hour_count;
+use records::side_byte;
+use records::step_at;
 
 // Whether x is from low to high.
 pub fn is_within(low: u32, x: u32, high: u32) -> bool

@@ -1,8 +1,8 @@
--- `book::bytes::u32_at` meets its contract: the bytes are below 256, so that no sum wraps. Assumes nothing.
-use Rattle.book.specs.Bytes.{u32At}
+-- `records::bytes::u32_at` meets its contract: the bytes are below 256, so that no sum wraps. Assumes nothing.
+use Rattle.records.specs.Bytes.{u32At}
 use borrow.Author.Needs.{needs}
-use Rattle.book.proofs.bytes.u32_at.Statement.{statement}
-use Rattle.book.proofs.bytes.u32_at.Tie as tie
+use Rattle.records.proofs.bytes.u32_at.Statement.{statement}
+use Rattle.records.proofs.bytes.u32_at.Tie as tie
 
 byte-requires : tie.Need-byte-requires
 byte-requires c κs = search needs

@@ -2,7 +2,7 @@
 // Assumes nothing.
 ghost use mathlib.Core.Path.{_≡_};
 ghost use Prim.Native.Nat.{_<_};
-ghost use Rattle.book.specs.Bytes.{byteAt, u16At, u24At, u32At, nonzero};
+ghost use Rattle.records.specs.Bytes.{byteAt, u16At, u24At, u32At, nonzero};
 
 // Byte i, for any i.
 fn byte(book: &[u8], i: usize) -> u8

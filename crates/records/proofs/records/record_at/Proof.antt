@@ -1,9 +1,9 @@
--- `book::records::record_at` meets its contract, by the tests of the kind that each answer has passed. Assumes nothing.
+-- `records::records::record_at` meets its contract, by the tests of the kind that each answer has passed. Assumes nothing.
 use borrow.Author.Tests.{eq-eqb, ne-eqb}
-use Rattle.book.specs.Records.{recordAt}
+use Rattle.records.specs.Records.{recordAt}
 use borrow.Author.Needs.{needs}
-use Rattle.book.proofs.records.record_at.Statement.{statement}
-use Rattle.book.proofs.records.record_at.Tie as tie
+use Rattle.records.proofs.records.record_at.Statement.{statement}
+use Rattle.records.proofs.records.record_at.Tie as tie
 
 kind-of-requires : tie.Need-kind-of-requires
 kind-of-requires c κs = search needs

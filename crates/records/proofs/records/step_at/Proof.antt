@@ -1,8 +1,8 @@
--- `book::records::step_at` meets its contract, field by field. Assumes nothing.
-use Rattle.book.specs.Records.{stepAt}
+-- `records::records::step_at` meets its contract, field by field. Assumes nothing.
+use Rattle.records.specs.Records.{stepAt}
 use borrow.Author.Needs.{needs}
-use Rattle.book.proofs.records.step_at.Statement.{statement}
-use Rattle.book.proofs.records.step_at.Tie as tie
+use Rattle.records.proofs.records.step_at.Statement.{statement}
+use Rattle.records.proofs.records.step_at.Tie as tie
 
 mul-at : tie.Need-mul-at
 mul-at c = search needs

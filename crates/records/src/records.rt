@@ -2,9 +2,9 @@
 // Record k starts at byte 16 * k. Assumes nothing.
 ghost use mathlib.Core.Path.{_≡_};
 ghost use Prim.Native.Nat.{_+_, _*_};
-ghost use Rattle.book.specs.Records.{recordCount, firstStep, firstBlock, dayHours, edition};
-ghost use Rattle.book.specs.Records.{kind, sideByte, next, number, hourByte, portfolio};
-ghost use Rattle.book.specs.Records.{sideOf, stepAt, blockAt, recordAt, hourCount};
+ghost use Rattle.records.specs.Records.{recordCount, firstStep, firstBlock, dayHours, edition};
+ghost use Rattle.records.specs.Records.{kind, sideByte, next, number, hourByte, portfolio};
+ghost use Rattle.records.specs.Records.{sideOf, stepAt, blockAt, recordAt, hourCount};
 use crate::Block;
 use crate::Record;
 use crate::Side;

@@ -1,4 +1,4 @@
--- `book::records::hour_count` meets its contract. Before hour h + 1 the rest is the hours divided by 2 to the power h, and the count
+-- `records::records::hour_count` meets its contract. Before hour h + 1 the rest is the hours divided by 2 to the power h, and the count
 -- is that of the hours 1 to h. Assumes nothing.
 use Prim.Native.Nat.{_≤_, _-_, _/_, _^_}
 use mathlib.Core.Path.{_≡_, refl, sym}
@@ -7,11 +7,11 @@ use native.Mathlib.Nat.{div-one, div-div-eq-div-mul, pow-suc}
 use native.Mathlib.Numerals.{add-one}
 use native.Mathlib.Omega.{arith}
 use borrow.Author.Tests.{eq-eqb, ne-eqb}
-use Rattle.book.specs.Records.{hourCount}
-use Rattle.book.proofs.Laws.{hour-more}
+use Rattle.records.specs.Records.{hourCount}
+use Rattle.records.proofs.Laws.{hour-more}
 use borrow.Author.Needs.{needs}
-use Rattle.book.proofs.records.hour_count.Statement.{statement}
-use Rattle.book.proofs.records.hour_count.Tie as tie
+use Rattle.records.proofs.records.hour_count.Statement.{statement}
+use Rattle.records.proofs.records.hour_count.Tie as tie
 
 abbrev Inv-loop : tie.InvT-loop
 Inv-loop hours count₀ rest₀ h₀ count rest h = (h ≤ 24) × (rest ≡ hours / 2 ^ h) × (count ≡ hourCount h hours) × (count ≤ h)

@@ -1,7 +1,7 @@
--- `book::records::side_of` meets its contract, by the test that each answer has passed. Assumes nothing.
+-- `records::records::side_of` meets its contract, by the test that each answer has passed. Assumes nothing.
 use borrow.Author.Tests.{eq-eqb, ne-eqb}
-use Rattle.book.proofs.records.side_of.Statement.{statement}
-use Rattle.book.proofs.records.side_of.Tie as tie
+use Rattle.records.proofs.records.side_of.Statement.{statement}
+use Rattle.records.proofs.records.side_of.Tie as tie
 
 returns : tie.Need-returns
 returns c = simp (eq-eqb _ _ (c .if1 .taken))

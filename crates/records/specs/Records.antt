@@ -1,16 +1,16 @@
 -- The fields of a book's records, and a record as a step or a block (document 01, "The book in bytes").
--- Records have 16 bytes; record k starts at byte 16 × k. Whether a field is in its range is told in Refusals. Assumes nothing.
+-- Records have 16 bytes; record k starts at byte 16 × k. Whether a field is in its range is told in the crate book, Refusals. Assumes nothing.
 use Prim.Native.Nat.{ℕ, zero, suc, _+_, _-_, _*_, _/_, _%_, _^_}
 use mathlib.Core.List.{List}
 use mathlib.Core.Bool.{Bool, cond}
 use lib.Dec.{eqb}
-use Rattle.book.specs.Bytes.{byteAt, u16At, u24At, u32At}
-use Rattle.book.specs.declared.Side.{Side}
-use Rattle.book.specs.declared.Side.the-variants.{Buy, Sell}
-use Rattle.book.specs.declared.Step.{Step}
-use Rattle.book.specs.declared.Block.{Block}
-use Rattle.book.specs.declared.Record.{Record}
-use Rattle.book.specs.declared.Record.the-variants as record-of
+use Rattle.records.specs.Bytes.{byteAt, u16At, u24At, u32At}
+use Rattle.records.specs.declared.Side.{Side}
+use Rattle.records.specs.declared.Side.the-variants.{Buy, Sell}
+use Rattle.records.specs.declared.Step.{Step}
+use Rattle.records.specs.declared.Block.{Block}
+use Rattle.records.specs.declared.Record.{Record}
+use Rattle.records.specs.declared.Record.the-variants as record-of
 
 -- The head, bytes 0 and 1: the record count R, head included
 abbrev pub recordCount : List ℕ → ℕ

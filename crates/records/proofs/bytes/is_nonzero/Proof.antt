@@ -1,13 +1,13 @@
--- `book::bytes::is_nonzero` meets its contract: what is asked of all the bytes is asked of those that are left.
+-- `records::bytes::is_nonzero` meets its contract: what is asked of all the bytes is asked of those that are left.
 -- Assumes nothing.
 use Prim.Native.Nat.{_+_, _≤_}
 use mathlib.Core.Path.{_≡_, refl}
 use borrow.Author.Tests.{eq-eqb, ne-eqb}
-use Rattle.book.specs.Bytes.{nonzero}
-use Rattle.book.proofs.Laws.{nonzero-none, nonzero-more}
+use Rattle.records.specs.Bytes.{nonzero}
+use Rattle.records.proofs.Laws.{nonzero-none, nonzero-more}
 use borrow.Author.Needs.{needs}
-use Rattle.book.proofs.bytes.is_nonzero.Statement.{statement}
-use Rattle.book.proofs.bytes.is_nonzero.Tie as tie
+use Rattle.records.proofs.bytes.is_nonzero.Statement.{statement}
+use Rattle.records.proofs.bytes.is_nonzero.Tie as tie
 
 abbrev Inv-loop : tie.InvT-loop
 Inv-loop book at count i₀ left₀ i left = (i + left ≤ 131072) × (nonzero book at count ≡ nonzero book i left)

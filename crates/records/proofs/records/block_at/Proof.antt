@@ -1,8 +1,8 @@
--- `book::records::block_at` meets its contract, field by field. Assumes nothing.
-use Rattle.book.specs.Records.{blockAt}
+-- `records::records::block_at` meets its contract, field by field. Assumes nothing.
+use Rattle.records.specs.Records.{blockAt}
 use borrow.Author.Needs.{needs}
-use Rattle.book.proofs.records.block_at.Statement.{statement}
-use Rattle.book.proofs.records.block_at.Tie as tie
+use Rattle.records.proofs.records.block_at.Statement.{statement}
+use Rattle.records.proofs.records.block_at.Tie as tie
 
 mul-at : tie.Need-mul-at
 mul-at c = search needs

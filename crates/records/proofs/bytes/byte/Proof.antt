@@ -1,9 +1,9 @@
--- `book::bytes::byte` meets its contract: past the end `getD` gives its default. Assumes nothing.
+-- `records::bytes::byte` meets its contract: past the end `getD` gives its default. Assumes nothing.
 use mathlib.Core.Path.{sym}
 use lib.ListN.{List·getD-eq-default}
 use borrow.Author.Needs.{needs}
-use Rattle.book.proofs.bytes.byte.Statement.{statement}
-use Rattle.book.proofs.bytes.byte.Tie as tie
+use Rattle.records.proofs.bytes.byte.Statement.{statement}
+use Rattle.records.proofs.bytes.byte.Tie as tie
 
 shared-slice-read-result : tie.Need-shared-slice-read-result
 shared-slice-read-result c = search needs

@@ -1,8 +1,8 @@
--- `book::bytes::u24_at` meets its contract: the bytes are below 256, so that no sum wraps. Assumes nothing.
-use Rattle.book.specs.Bytes.{u24At}
+-- `records::bytes::u24_at` meets its contract: the bytes are below 256, so that no sum wraps. Assumes nothing.
+use Rattle.records.specs.Bytes.{u24At}
 use borrow.Author.Needs.{needs}
-use Rattle.book.proofs.bytes.u24_at.Statement.{statement}
-use Rattle.book.proofs.bytes.u24_at.Tie as tie
+use Rattle.records.proofs.bytes.u24_at.Statement.{statement}
+use Rattle.records.proofs.bytes.u24_at.Tie as tie
 
 byte-requires : tie.Need-byte-requires
 byte-requires c κs = search needs

@@ -1,0 +1,27 @@
+-- The laws that the functions' proofs cite: one byte more of a run, or none, and one hour more of a count. Assumes nothing.
+use Prim.Native.Nat.{ℕ, zero, suc, _+_, _-_, _/_, _%_, _^_, _≤_, _<_}
+use mathlib.Core.Path.{_≡_, refl}
+use mathlib.Core.List.{List}
+use mathlib.Core.Bool.{Bool, false, cond, not, _||_}
+use native.Mathlib.Omega.{arith}
+use native.Mathlib.Numerals.{sub-one, add-one}
+use lib.Dec.{eqb}
+use Rattle.records.specs.Bytes.{byteAt, nonzero}
+use Rattle.records.specs.Records.{hourCount}
+
+-- No byte is left to look at
+pub nonzero-none : (b : List ℕ) (i n : ℕ) → n ≤ 0 → nonzero b i n ≡ false
+unfolding nonzero
+nonzero-none b i zero h = refl
+nonzero-none b i (suc n) h = absurd (omega arith)
+
+-- The first byte, then those after it
+pub nonzero-more : (b : List ℕ) (i n : ℕ) → 0 < n → nonzero b i n ≡ (not (eqb (byteAt b i) 0) || nonzero b (i + 1) (n - 1))
+unfolding nonzero
+nonzero-more b i zero h = absurd (omega arith)
+nonzero-more b i (suc n) h = rw sub-one
+
+-- One hour more
+pub hour-more : (n x : ℕ) → hourCount (n + 1) x ≡ hourCount n x + cond (eqb (x / 2 ^ n % 2) 1) 1 0
+unfolding hourCount
+hour-more n x = rw (add-one, sub-one)

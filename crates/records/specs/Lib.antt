@@ -1,0 +1,3 @@
+-- What a reader of this crate must believe, beside document 01: definitions alone. The laws about them stand in proofs/.
+pub mod Bytes
+pub mod Records
