@@ -9,9 +9,9 @@ use lib.Dec.{eqb}
 use lib.ListN.{length, getD, length-append, length-map, List·getD-append}
 use lib.Seq.{getD-at}
 use borrow.Author.Tests.{eq-eqb, ne-eqb, eqb-true}
-use Rattle.book.specs.Bytes.{u32At}
+use Rattle.records.specs.Bytes.{u32At}
 use Rattle.book.specs.Tests.{someIn, member}
-use Rattle.book.specs.Records.{recordCount, blockAt}
+use Rattle.records.specs.Records.{recordCount, blockAt}
 use Rattle.book.specs.Chains.{stepChain, blockChain}
 use Rattle.book.specs.Refusals.{firstOf, refusal, Accepted}
 use Rattle.book.proofs.Members.{Each, each-member, Distinct}

@@ -8,7 +8,7 @@ use native.Mathlib.Omega.{arith}
 use lib.Dec.{eqb}
 use lib.ListN.{length, take, getD, length-map}
 use lib.Seq.{ext-getD, take-all, getD-take, length-take-le}
-use Rattle.book.specs.Records.{recordCount, blockAt}
+use Rattle.records.specs.Records.{recordCount, blockAt}
 use Rattle.book.specs.Chains.{blockChain}
 use Rattle.book.specs.Refusals.{Accepted}
 use Rattle.rules.specs.Orders.{Step, Block}

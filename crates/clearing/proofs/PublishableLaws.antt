@@ -4,7 +4,7 @@ use mathlib.Core.Path.{_≡_}
 use mathlib.Core.List.{List}
 use native.Mathlib.Omega.{arith}
 use lib.ListN.{length, getD}
-use Rattle.book.specs.Records.{recordCount}
+use Rattle.records.specs.Records.{recordCount}
 use Rattle.book.specs.Refusals.{Accepted}
 use Rattle.book.proofs.Accepted.{record-count}
 use Rattle.rules.specs.Hour.{Pricing, cleared, doesNotClear, pricing, priceIn}

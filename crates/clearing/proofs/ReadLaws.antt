@@ -6,7 +6,7 @@ use native.Mathlib.Omega.{arith}
 use native.Mathlib.Nat.{add-zero, add-assoc}
 use lib.ListN.{length, take, drop, getD, length-append}
 use lib.Seq.{getD-append-add}
-use Rattle.book.specs.Bytes.{u32At}
+use Rattle.records.specs.Bytes.{u32At}
 use Rattle.clearing.specs.Result.{bytesOf, hourRows, recordRows, welfareIn, priceIn, tradedIn}
 use Rattle.clearing.proofs.ByteLaws.{length-bytes, bytes-append, four-are, four-cut}
 use Rattle.clearing.proofs.RowLaws.{length-hours, length-first, length-records}

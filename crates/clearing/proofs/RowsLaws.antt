@@ -10,7 +10,7 @@ use lib.ListN.{length, drop, getD, length-append, length-map}
 use borrow.Author.Tests.{eq-eqb, ne-eqb, eqb-true, eqb-false, lt-leb}
 use Rattle.book.specs.Tests.{within, someIn, member}
 use Rattle.rules.specs.Orders.{limits}
-use Rattle.book.specs.Records.{hourByte, stepAt, blockAt}
+use Rattle.records.specs.Records.{hourByte, stepAt, blockAt}
 use Rattle.book.specs.Chains.{stepChain, blockChain}
 use Rattle.book.specs.Refusals.{Accepted}
 use Rattle.book.proofs.Laws.{or-left, or-right}

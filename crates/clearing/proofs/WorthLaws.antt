@@ -9,7 +9,7 @@ use lib.Dec.{eqb}
 use lib.ListN.{length, drop, getD, drop-of-length-le}
 use lib.Seq.{drop-cons}
 use borrow.Author.Tests.{eq-eqb, ne-eqb}
-use Rattle.book.specs.Records.{number, holdsHour, hourCount}
+use Rattle.records.specs.Records.{number, holdsHour, hourCount}
 use Rattle.rules.specs.Orders.{Side, buy, sell, Block}
 use Rattle.rules.specs.Hour.{bySide, when}
 use Rattle.rules.specs.Day.{taken, decisions, overBlocks, sells, buys, blocksValue, blocksCost}

@@ -5,7 +5,7 @@ use mathlib.Core.List.{List, [], _∷_, _++_}
 use mathlib.Core.Path.{_≡_}
 use lib.Dec.{eqb}
 use lib.ListN.{length}
-use Rattle.book.specs.Records.{recordCount, blockAt}
+use Rattle.records.specs.Records.{recordCount, blockAt}
 use Rattle.book.specs.Chains.{blockChain}
 use Rattle.book.specs.Refusals.{ownCauses, firstOf}
 use Rattle.rules.specs.Day.{Day}

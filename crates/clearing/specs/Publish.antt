@@ -7,7 +7,7 @@ use mathlib.Core.Path.{_≡_}
 use lib.Dec.{eqb}
 use lib.ListN.{length, take, getD}
 use lib.Seq.{slice}
-use Rattle.book.specs.Records.{recordCount}
+use Rattle.records.specs.Records.{recordCount}
 use Rattle.book.specs.Refusals.{Accepted}
 use Rattle.rules.specs.Orders.{Step}
 use Rattle.rules.specs.Execution.{execution, bought}

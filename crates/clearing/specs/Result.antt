@@ -3,8 +3,8 @@ use Prim.Native.Nat.{ℕ, zero, suc, _+_, _-_, _*_, _/_, _%_, _^_}
 use mathlib.Core.Bool.{Bool, true, false, cond}
 use mathlib.Core.List.{List, [], _∷_, _++_, map}
 use lib.Dec.{eqb}
-use Rattle.book.specs.Bytes.{byteAt, u32At}
-use Rattle.book.specs.Records.{recordCount, blockAt}
+use Rattle.records.specs.Bytes.{byteAt, u32At}
+use Rattle.records.specs.Records.{recordCount, blockAt}
 use Rattle.book.specs.Chains.{stepChain, blockChain}
 use Rattle.rules.specs.Outcome.{Published, published}
 use Rattle.orders.specs.Bridge.{ordersOf}

@@ -2,16 +2,16 @@
 ghost use mathlib.Core.Path.{_≡_};
 ghost use Prim.Native.Nat.{_+_, _*_};
 ghost use lib.ListN.{length};
-ghost use Rattle.book.specs.Records.{recordCount};
+ghost use Rattle.records.specs.Records.{recordCount};
 ghost use Rattle.book.specs.Refusals.{Accepted};
 ghost use Rattle.clearing.specs.Promise.{Promise};
 ghost use Rattle.clearing.specs.Result.{resultBytes};
 use crate::publish::publish;
 use book::Reading;
 use book::read;
-use book::record_count;
 use orders::blocks_of;
 use orders::steps_of;
+use records::record_count;
 use search::find;
 use setup::prepare;
 

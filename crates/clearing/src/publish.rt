@@ -4,7 +4,7 @@ ghost use mathlib.Core.Path.{_≡_};
 ghost use Prim.Native.Nat.{_+_, _-_, _*_, _^_, _≤_};
 ghost use lib.ListN.{length, getD};
 ghost use lib.Dec.{eqb};
-ghost use Rattle.book.specs.Records.{hourCount};
+ghost use Rattle.records.specs.Records.{hourCount};
 ghost use Rattle.rules.specs.Hour.{bySide, when};
 ghost use Rattle.orders.specs.Columns.{sideFor};
 ghost use Rattle.pricing.specs.Curves.{Columns};
@@ -14,11 +14,11 @@ ghost use Rattle.clearing.specs.Publish.{stepsAt, salesAt, buysAt, Buffe
 use crate::result::block_values;
 use crate::result::with_rows;
 use crate::result::write_result;
-use book::hour_count;
 use orders::Blocks;
 use pricing::blocks::trades_of;
 use pricing::execution::amounts_at;
 use pricing::execution::share_out;
+use records::hour_count;
 use search::Day;
 
 // What quantities of steps buy, and what they are worth: the value of the buys and the cost of the sells.

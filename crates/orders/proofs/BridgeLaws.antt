@@ -6,7 +6,7 @@ use mathlib.Core.Path.{_≡_, refl, ap, sym, _∙_}
 use mathlib.Core.List.{List, [], _∷_, map}
 use lib.ListN.{length, take, length-map}
 use Rattle.rules.specs.Orders.{limits}
-use Rattle.book.specs.Records.{sideByte, blockAt, holdsHour, hourCount}
+use Rattle.records.specs.Records.{sideByte, blockAt, holdsHour, hourCount}
 use Rattle.book.specs.Chains.{stepChain, blockChain}
 use Rattle.book.specs.Refusals.{Accepted}
 use Rattle.book.proofs.Members.{Each, each-map, each-image}

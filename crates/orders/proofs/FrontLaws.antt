@@ -3,7 +3,7 @@ use Prim.Native.Nat.{ℕ}
 use mathlib.Core.Path.{_≡_, refl, sym, _∙_}
 use mathlib.Core.List.{List, map}
 use lib.ListN.{length, take, length-map}
-use Rattle.book.specs.Records.{sideByte}
+use Rattle.records.specs.Records.{sideByte}
 use Rattle.orders.specs.Columns.{byHour, blockRecords, padded, StepColumns, BlockColumns}
 use Rattle.orders.specs.Columns.{priceAt, quantityAt, blockHoursAt, blockPriceAt, blockQuantityAt}
 use Rattle.orders.proofs.ColumnLaws.{padded-front, padded-whole}

@@ -8,7 +8,7 @@ use native.Mathlib.Numerals.{add-one, sub-one}
 use borrow.Author.Tests.{ne-eqb}
 use lib.ListN.{length, take, getD, length-map}
 use lib.Seq.{slice, take-take, drop-at}
-use Rattle.book.specs.Records.{hourByte, sideByte, sideOf, stepAt}
+use Rattle.records.specs.Records.{hourByte, sideByte, sideOf, stepAt}
 use Rattle.book.specs.Chains.{stepChain}
 use Rattle.book.specs.Refusals.{Accepted}
 use Rattle.rules.specs.Orders.{Step, stepsOf, canonical}

@@ -5,7 +5,7 @@ use mathlib.Core.List.{List, [], _∷_, map}
 use native.Mathlib.Omega.{arith}
 use lib.ListN.{length, take, getD}
 use lib.Seq.{getD-take}
-use Rattle.book.specs.Records.{sideByte, hourCount}
+use Rattle.records.specs.Records.{sideByte, hourCount}
 use Rattle.rules.specs.Orders.{limits}
 use Rattle.book.specs.Refusals.{Accepted}
 use Rattle.book.proofs.Members.{each-place}

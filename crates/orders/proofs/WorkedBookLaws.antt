@@ -3,10 +3,10 @@
 use Prim.Native.Nat.{ℕ}
 use mathlib.Core.Path.{_≡_, refl, ap, _∙_}
 use mathlib.Core.List.{List, [], _∷_}
-use Rattle.book.specs.Bytes.{u16At, u24At, u32At, nonzero}
+use Rattle.records.specs.Bytes.{u16At, u24At, u32At, nonzero}
 use Rattle.book.specs.Tests.{within, someBelow, someIn, countIn}
 use Rattle.rules.specs.Orders.{limits}
-use Rattle.book.specs.Records.{stepAt, blockAt, hourCount}
+use Rattle.records.specs.Records.{stepAt, blockAt, hourCount}
 use Rattle.book.specs.Chains.{chainFrom}
 use Rattle.book.specs.Refusals.{
   wrongSize,

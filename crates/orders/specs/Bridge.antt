@@ -2,10 +2,10 @@
 -- Assumes nothing.
 use Prim.Native.Nat.{ℕ}
 use mathlib.Core.List.{List, map}
-use Rattle.book.specs.Records.{dayHours, stepAt, blockAt, holdsHour}
+use Rattle.records.specs.Records.{dayHours, stepAt, blockAt, holdsHour}
 use Rattle.book.specs.Chains.{stepChain, blockChain}
-use Rattle.book.specs.declared.Side as read
-use Rattle.book.specs.declared.Side.the-variants as read-side
+use Rattle.records.specs.declared.Side as read
+use Rattle.records.specs.declared.Side.the-variants as read-side
 use Rattle.rules.specs.Orders.{Side, buy, sell, Step, Order, Block, Orders}
 use Rattle.rules.specs.Day.{Day, dayOf}
 

@@ -50,7 +50,7 @@ traders-same f e b (k ∷ records) (s ∷ sides) (x ∷ hours) (p ∷ prices) (q
 traders-same f e b (k ∷ records) (s ∷ sides) (x ∷ hours) (p ∷ prices) (q ∷ quantities) a c d g (true ∷ set) =
     omega (
       arith,
-      e (Rattle.book.specs.Records.number b k) s x p q,
+      e (Rattle.records.specs.Records.number b k) s x p q,
       traders-same f e b records sides hours prices quantities (omega arith) (omega arith) (omega arith) (omega arith) set,
     )
 traders-same f e b (k ∷ records) (s ∷ sides) (x ∷ hours) (p ∷ prices) (q ∷ quantities) a c d g (false ∷ set) =
@@ -92,14 +92,14 @@ module _ (b : List ℕ) (a : Accepted b) (count : ℕ) (records sides hours pric
           arith,
           trades .sold,
           columns .few,
-          traders-fit (sells h) (λ s x q. side-le (Rattle.book.specs.Records.holdsHour x h) (sideFor s) q .1) (take count sides) (take count hours) (take count quantities)
+          traders-fit (sells h) (λ s x q. side-le (Rattle.records.specs.Records.holdsHour x h) (sideFor s) q .1) (take count sides) (take count hours) (take count quantities)
               small (decisions (length (take count sides)) set),
         ),
         omega (
           arith,
           trades .bought,
           columns .few,
-          traders-fit (buys h) (λ s x q. side-le (Rattle.book.specs.Records.holdsHour x h) (sideFor s) q .0) (take count sides) (take count hours) (take count quantities)
+          traders-fit (buys h) (λ s x q. side-le (Rattle.records.specs.Records.holdsHour x h) (sideFor s) q .0) (take count sides) (take count hours) (take count quantities)
               small (decisions (length (take count sides)) set),
         ),
       )

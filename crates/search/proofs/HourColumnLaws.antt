@@ -14,7 +14,7 @@ use Rattle.rules.specs.Hour.{when}
 use Rattle.rules.specs.Day.{sumTo}
 use Rattle.rules.proofs.Tests.{by-eq}
 use Rattle.rules.proofs.CurveLaws.{when-le}
-use Rattle.book.specs.Records.{holdsHour}
+use Rattle.records.specs.Records.{holdsHour}
 use Rattle.search.specs.Search.{Small, sumOfHours}
 
 -- a bit times a number

@@ -6,7 +6,7 @@ use lib.Dec.{eqb}
 use mathlib.Core.List.{List, _∷_, _++_}
 use mathlib.Core.Path.{_≡_}
 use lib.ListN.{length, drop, getD}
-use Rattle.book.specs.Records.{holdsHour}
+use Rattle.records.specs.Records.{holdsHour}
 use Rattle.orders.specs.Columns.{sideFor}
 use Rattle.rules.specs.Orders.{Block}
 use Rattle.rules.specs.Day.{Day, daySum, taken, decisions, overBlocks, sells, buys, stepsIn, setPrices, hourCount, lawful}

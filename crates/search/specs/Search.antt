@@ -9,7 +9,7 @@ use Rattle.rules.specs.Execution.{testSide}
 use Rattle.orders.specs.Columns.{sideFor}
 use Rattle.rules.specs.Hour.{bySide, when}
 use Rattle.rules.specs.Day.{sumTo}
-use Rattle.book.specs.Records.{holdsHour}
+use Rattle.records.specs.Records.{holdsHour}
 
 -- Every number of a list is at most m.
 abbrev pub Small : ℕ → List ℕ → Type 0

@@ -4,7 +4,7 @@ ghost use mathlib.Core.Path.{_≡_};
 ghost use Prim.Native.Nat.{ℕ, _+_, _-_, _*_, _^_, _≤_, _<_};
 ghost use lib.ListN.{length, getD};
 ghost use Rattle.rules.specs.Hour.{when};
-ghost use Rattle.book.specs.Records.{holdsHour};
+ghost use Rattle.records.specs.Records.{holdsHour};
 ghost use mathlib.Core.Bool.{cond};
 ghost use Rattle.search.specs.Search.{Small, sumOfHours, ofHour, GapsOf, PricesOf, keepsAt, allKeep, isOut, isRuledOut, mustMove, mayMove, AddedTo, isBarred, isDue, rowAt, RestOf, ReachOf, ReachedBy, leastGaps, firstOf, lastOf, turnOf};
 ghost use Rattle.search.specs.Search as numbers;

@@ -9,7 +9,7 @@ use native.Mathlib.Nat.{lt-of-not-le, mul-le-mul}
 use native.Mathlib.Numerals.{add-one}
 use lib.ListN.{length, getD, set, replicate, length-set}
 use lib.Seq.{getD-set-same, getD-set-other}
-use Rattle.book.specs.Records.{holdsHour, hourCount}
+use Rattle.records.specs.Records.{holdsHour, hourCount}
 use Rattle.orders.specs.Columns.{sideFor}
 use Rattle.rules.specs.Orders.{Side, buy, sell}
 use Rattle.rules.specs.Hour.{bySide, when}

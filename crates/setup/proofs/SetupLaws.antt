@@ -9,7 +9,7 @@ use native.Mathlib.Decide.{decLe}
 use native.Mathlib.Nat.{lt-of-not-le}
 use lib.ListN.{length, take, drop, getD, length-map, drop-of-length-le}
 use lib.Seq.{getD-take, getD-drop, slice}
-use Rattle.book.specs.Records.{number, sideByte, hourCount, holdsHour}
+use Rattle.records.specs.Records.{number, sideByte, hourCount, holdsHour}
 use Rattle.book.specs.Refusals.{Accepted}
 use Rattle.book.proofs.Members.{Each}
 use Rattle.orders.specs.Bridge.{dayFrom}

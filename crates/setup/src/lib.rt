@@ -10,12 +10,12 @@ ghost use Rattle.setup.specs.Setup.{StepsHeld, PartHeld, BlocksHeld, Tab
 ghost use Rattle.setup.specs.Setup.{TradedBy, written, Written, ReadyFor};
 ghost use Rattle.setup.specs.Setup.{Widened, RowsEmpty, RowsWritten, TwinsAt, noWorse, TwinOf, TwinsEmpty, TwinsWritten};
 ghost use Rattle.search.specs.Meaning.{Sized};
-use book::hour_count;
 use orders::Blocks;
 use pricing::table::all_totals;
 use pricing::table::clear_range;
 use pricing::table::fill_gaps;
 use pricing::table::fill_prices;
+use records::hour_count;
 use search::moved;
 use search::price_sum;
 use search::prices_at;

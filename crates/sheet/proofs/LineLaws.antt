@@ -8,7 +8,7 @@ use native.Mathlib.Nat.{add-zero, add-suc}
 use native.Mathlib.Numerals.{add-one}
 use lib.ListN.{length, take, drop, getD, length-append, take-append-drop}
 use lib.Seq.{take-suc, getD-take}
-use Rattle.book.specs.Records.{number}
+use Rattle.records.specs.Records.{number}
 use Rattle.clearing.proofs.ByteLaws.{splice-none}
 use Rattle.orders.specs.Columns.{blockRecords}
 use Rattle.clearing.specs.Result.{welfareIn, priceIn, tradedIn}

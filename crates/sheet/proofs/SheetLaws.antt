@@ -7,8 +7,8 @@ use native.Mathlib.Omega.{arith}
 use lib.ListN.{length, take, drop, length-append}
 use lib.Seq.{length-take-le, take-at}
 use borrow.Author.Tests.{eq-eqb, ne-eqb}
-use Rattle.book.specs.Bytes.{byteAt, u16At}
-use Rattle.book.specs.Records.{recordCount, number, blockAt}
+use Rattle.records.specs.Bytes.{byteAt, u16At}
+use Rattle.records.specs.Records.{recordCount, number, blockAt}
 use Rattle.book.specs.Chains.{blockChain}
 use Rattle.book.specs.Refusals.{refusal, Accepted}
 use Rattle.book.proofs.Accepted.{accepted, accepted-zero, record-count}

@@ -3,8 +3,8 @@ use mathlib.Core.Path.{_≡_, refl}
 use mathlib.Core.Bool.{true}
 use mathlib.Core.List.{[], _∷_}
 use borrow.Author.Tests.{eq-eqb}
-use Rattle.book.specs.Bytes.{u16At, u24At}
-use Rattle.book.specs.Records.{blockAt}
+use Rattle.records.specs.Bytes.{u16At, u24At}
+use Rattle.records.specs.Records.{blockAt}
 use Rattle.book.specs.Chains.{chainFrom}
 use Rattle.book.specs.Refusals.{refusal}
 use Rattle.rules.specs.Orders.{canonical}

@@ -3,7 +3,7 @@ use Prim.Native.Nat.{ℕ}
 use mathlib.Core.Bool.{Bool}
 use mathlib.Core.List.{List, [], _∷_, _++_}
 use lib.Dec.{eqb}
-use Rattle.book.specs.Records.{number, blockAt}
+use Rattle.records.specs.Records.{number, blockAt}
 use Rattle.orders.specs.Columns.{blockRecords}
 use Rattle.clearing.specs.Result.{welfareIn, priceIn, tradedIn, rowIn}
 use Rattle.sheet.specs.Text.{text, field, lineFeed}

@@ -10,8 +10,8 @@ use crate::lines::put_lines;
 use crate::text::put_line;
 use book::Reading;
 use book::read;
-use book::record_count;
 use clearing::clear;
+use records::record_count;
 
 mod lines; // the lines of a sheet
 mod text; // words and numbers put into a buffer

@@ -8,10 +8,10 @@ ghost use Rattle.sheet.specs.Text.{HasRoom, Put};
 use crate::text::put_field;
 use crate::text::put_line;
 use crate::text::put_text;
-use book::block_at;
-use book::number_of;
-use book::u32_at;
 use orders::blocks_of;
+use records::block_at;
+use records::number_of;
+use records::u32_at;
 
 // The line of hour h.
 fn put_hour(out: &mut [u8], at: usize, h: u32, price: u32, traded: u32) -> usize

@@ -9,7 +9,7 @@ use Rattle.setup.proofs.block_columns.Statement.{statement}
 use Rattle.setup.proofs.block_columns.Tie as tie
 use Rattle.setup.proofs.block_columns.Reads as reads
 use Rattle.setup.proofs.block_columns.Lts as lts
-use Rattle.book.proofs.hour_count.Reads as hour-count-reads
+use Rattle.records.proofs.hour_count.Reads as hour-count-reads
 use Rattle.search.proofs.price_sum.Reads as price-sum-reads
 use Rattle.setup.proofs.with_block.Reads as with-block-reads
 

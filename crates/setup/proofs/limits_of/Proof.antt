@@ -12,7 +12,7 @@ use Rattle.setup.proofs.limits_of.Statement.{statement}
 use Rattle.setup.proofs.limits_of.Tie as tie
 use Rattle.setup.proofs.limits_of.Reads as reads
 use Rattle.setup.proofs.limits_of.Lts as lts
-use Rattle.book.proofs.hour_count.Reads as hour-count-reads
+use Rattle.records.proofs.hour_count.Reads as hour-count-reads
 
 abbrev Inv-loop : tie.InvT-loop
 Inv-loop count hours prices limits₀ i₀ limits i = (length limits ≡ 32) × Small 7200000 limits
