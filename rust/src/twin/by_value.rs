@@ -15,6 +15,9 @@ pub mod orders;
 pub mod pricing;
 #[allow(clippy::all, unused)]
 #[rustfmt::skip]
+pub mod records;
+#[allow(clippy::all, unused)]
+#[rustfmt::skip]
 pub mod search;
 #[allow(clippy::all, unused)]
 #[rustfmt::skip]

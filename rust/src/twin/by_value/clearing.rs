@@ -3,9 +3,9 @@
 use crate::twin::by_value::clearing::publish::publish;
 use crate::twin::by_value::book::Reading;
 use crate::twin::by_value::book::read;
-use crate::twin::by_value::book::record_count;
 use crate::twin::by_value::orders::blocks_of;
 use crate::twin::by_value::orders::steps_of;
+use crate::twin::by_value::records::record_count;
 use crate::twin::by_value::search::find;
 use crate::twin::by_value::setup::prepare;
 

@@ -1,20 +1,20 @@
 // Written by `twin_source` from crates/book/src/causes.rt.
 // The causes for which a book by itself is refused, 1 to 6 (document 01, "Refused books and calls"), each found in one pass over the
 // records, and the first of them that holds. Assumes nothing.
-use crate::twin::by_value::book::bytes::is_nonzero;
 use crate::twin::by_value::book::chains::chain_length;
 use crate::twin::by_value::book::chains::counts_by_portfolio;
 use crate::twin::by_value::book::chains::has_outside_field;
 use crate::twin::by_value::book::chains::is_broken;
 use crate::twin::by_value::book::ranges::is_within;
 use crate::twin::by_value::book::ranges::most_blocks_of_portfolio;
-use crate::twin::by_value::book::records::BLOCK;
-use crate::twin::by_value::book::records::STEP;
-use crate::twin::by_value::book::records::day_hours;
-use crate::twin::by_value::book::records::edition_of;
-use crate::twin::by_value::book::records::first_block;
-use crate::twin::by_value::book::records::first_step;
-use crate::twin::by_value::book::records::record_count;
+use crate::twin::by_value::records::BLOCK;
+use crate::twin::by_value::records::STEP;
+use crate::twin::by_value::records::day_hours;
+use crate::twin::by_value::records::edition_of;
+use crate::twin::by_value::records::first_block;
+use crate::twin::by_value::records::first_step;
+use crate::twin::by_value::records::is_nonzero;
+use crate::twin::by_value::records::record_count;
 
 // 1: the length, or the record count.
 fn has_wrong_size(book: &[u8]) -> bool

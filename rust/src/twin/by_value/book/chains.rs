@@ -2,11 +2,11 @@
 // The chains (document 01, "The book in bytes"): each is followed from its first record to the zero that ends it, for at most R records,
 // in one loop for each question asked of it. Assumes nothing.
 use crate::twin::by_value::book::ranges::is_out_of_range;
-use crate::twin::by_value::book::records::kind_of;
-use crate::twin::by_value::book::records::next_of;
-use crate::twin::by_value::book::records::number_of;
-use crate::twin::by_value::book::records::portfolio_of;
-use crate::twin::by_value::book::records::record_count;
+use crate::twin::by_value::records::kind_of;
+use crate::twin::by_value::records::next_of;
+use crate::twin::by_value::records::number_of;
+use crate::twin::by_value::records::portfolio_of;
+use crate::twin::by_value::records::record_count;
 
 // How many records the chain that starts at first has.
 pub fn chain_length(book: &[u8], first: u16) -> u16

@@ -1,14 +1,14 @@
 // Written by `twin_source` from crates/book/src/ranges.rt.
 // The ranges of a record's fields (document 01, "The book in bytes"): cause 4 at one record, and the limits of an edition. Assumes nothing.
-use crate::twin::by_value::book::Block;
-use crate::twin::by_value::book::Step;
-use crate::twin::by_value::book::records::STEP;
-use crate::twin::by_value::book::records::block_at;
-use crate::twin::by_value::book::records::edition_of;
-use crate::twin::by_value::book::records::hour_byte;
-use crate::twin::by_value::book::records::hour_count;
-use crate::twin::by_value::book::records::side_byte;
-use crate::twin::by_value::book::records::step_at;
+use crate::twin::by_value::records::Block;
+use crate::twin::by_value::records::STEP;
+use crate::twin::by_value::records::Step;
+use crate::twin::by_value::records::block_at;
+use crate::twin::by_value::records::edition_of;
+use crate::twin::by_value::records::hour_byte;
+use crate::twin::by_value::records::hour_count;
+use crate::twin::by_value::records::side_byte;
+use crate::twin::by_value::records::step_at;
 
 // Whether x is from low to high.
 pub fn is_within(low: u32, x: u32, high: u32) -> bool

@@ -4,11 +4,11 @@
 use crate::twin::by_value::clearing::result::block_values;
 use crate::twin::by_value::clearing::result::with_rows;
 use crate::twin::by_value::clearing::result::write_result;
-use crate::twin::by_value::book::hour_count;
 use crate::twin::by_value::orders::Blocks;
 use crate::twin::by_value::pricing::blocks::trades_of;
 use crate::twin::by_value::pricing::execution::amounts_at;
 use crate::twin::by_value::pricing::execution::share_out;
+use crate::twin::by_value::records::hour_count;
 use crate::twin::by_value::search::Day;
 
 // What quantities of steps buy, and what they are worth: the value of the buys and the cost of the sells.

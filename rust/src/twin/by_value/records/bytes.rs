@@ -1,4 +1,4 @@
-// Written by `twin_source` from crates/book/src/bytes.rt.
+// Written by `twin_source` from crates/records/src/bytes.rt.
 // The numbers in a book's bytes (document 01, "The book in bytes"): unsigned, high byte first. A missing byte reads as 0.
 // Assumes nothing.
 

@@ -1,14 +1,14 @@
-// Written by `twin_source` from crates/book/src/records.rt.
+// Written by `twin_source` from crates/records/src/records.rt.
 // The fields of the head and of record k, and a record as a step or a block (document 01, "The book in bytes").
 // Record k starts at byte 16 * k. Assumes nothing.
-use crate::twin::by_value::book::Block;
-use crate::twin::by_value::book::Record;
-use crate::twin::by_value::book::Side;
-use crate::twin::by_value::book::Step;
-use crate::twin::by_value::book::bytes::byte_at;
-use crate::twin::by_value::book::bytes::u16_at;
-use crate::twin::by_value::book::bytes::u24_at;
-use crate::twin::by_value::book::bytes::u32_at;
+use crate::twin::by_value::records::Block;
+use crate::twin::by_value::records::Record;
+use crate::twin::by_value::records::Side;
+use crate::twin::by_value::records::Step;
+use crate::twin::by_value::records::bytes::byte_at;
+use crate::twin::by_value::records::bytes::u16_at;
+use crate::twin::by_value::records::bytes::u24_at;
+use crate::twin::by_value::records::bytes::u32_at;
 
 // The kind of a step.
 pub const STEP: u8 = 1;

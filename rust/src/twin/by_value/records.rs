@@ -1,0 +1,61 @@
+// Written by `twin_source` from crates/records/src/lib.rt.
+// The records of a book, layer 1 of document 01: the head's fields and those of record k at their bytes, and a record as a step or a block.
+// Nothing is judged here: every call takes any bytes, ends, and has no `requires`; a missing byte reads as 0. Assumes nothing.
+mod bytes; // numbers in the bytes
+mod records; // the fields of the head and of a record
+
+pub use bytes::is_nonzero;
+pub use bytes::u32_at;
+pub use records::BLOCK;
+pub use records::STEP;
+pub use records::block_at;
+pub use records::day_hours;
+pub use records::edition_of;
+pub use records::first_block;
+pub use records::first_step;
+pub use records::hour_byte;
+pub use records::hour_count;
+pub use records::kind_of;
+pub use records::next_of;
+pub use records::number_of;
+pub use records::portfolio_of;
+pub use records::record_at;
+pub use records::record_count;
+pub use records::side_byte;
+pub use records::step_at;
+
+#[derive(Clone, Copy)]
+pub enum Side {
+    Buy,
+    Sell,
+}
+
+// An hourly step. Price in cents per MWh, quantity in tenths of a MW.
+#[derive(Clone, Copy)]
+pub struct Step {
+    pub side: Side,
+    pub number: u16,
+    pub hour: u8,
+    pub portfolio: u8,
+    pub price: u32,
+    pub quantity: u32,
+}
+
+// A block. Hour h has the weight 2 to the power h - 1 in `hours`; the quantity is that of each of them.
+#[derive(Clone, Copy)]
+pub struct Block {
+    pub side: Side,
+    pub number: u16,
+    pub portfolio: u8,
+    pub hours: u32,
+    pub price: u32,
+    pub quantity: u16,
+}
+
+// A record as its kind says.
+#[derive(Clone, Copy)]
+pub enum Record {
+    Step(Step),
+    Block(Block),
+    Other,
+}
