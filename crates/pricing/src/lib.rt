@@ -18,7 +18,6 @@ use orders::steps_of;
 pub mod blocks;
 pub mod execution;
 pub mod hour;
-pub mod table;
 
 // What pricing an hour gives: L, H and the price; that the hour does not clear; or a refusal with its number.
 pub enum HourAnswer {

@@ -33,9 +33,9 @@ use Rattle.rules.proofs.BoundLaws.{gain}
 use Rattle.rules.proofs.LossLaws.{against}
 use Rattle.rules.proofs.PlaceLaws.{hourAt}
 use Rattle.rules.proofs.TwinLaws.{limitOf, Ahead, ahead-by-limits}
-use Rattle.pricing.specs.Tables.{UnitPrices, NotRising}
-use Rattle.pricing.proofs.LevelLaws.{table-in-range, table-not-rising}
-use Rattle.pricing.proofs.GapLaws.{gap-table, gap-falls, gap-rises}
+use Rattle.tables.specs.Tables.{UnitPrices, NotRising}
+use Rattle.tables.proofs.LevelLaws.{table-in-range, table-not-rising}
+use Rattle.tables.proofs.GapLaws.{gap-table, gap-falls, gap-rises}
 use Rattle.search.specs.Search.{Small, cell, ofHour, sideAt, quantityAt, limitAt, aheadAt, behindAt, sumOfHours}
 use Rattle.search.specs.Meaning.{BlocksSized, Sized, Shown, Known, Turning}
 use Rattle.setup.specs.Setup.{

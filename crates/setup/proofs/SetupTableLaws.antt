@@ -10,8 +10,8 @@ use lib.Seq.{length-take-le, take-take, take-nil, drop-nil, drop-at, take-at, ge
 use borrow.Rule.Slice.PartMut.{putMid, midOf, take-put, same-len-mid}
 use Rattle.rules.specs.Orders.{Step, buy, sell}
 use Rattle.orders.specs.Columns.{stepsFrom}
-use Rattle.pricing.specs.Tables.{PriceTable, AllOf, ClearRange, NotRising, GapsFor, GapTable}
-use Rattle.pricing.proofs.LevelLaws.{table-not-rising, table-in-range}
+use Rattle.tables.specs.Tables.{PriceTable, AllOf, ClearRange, NotRising, GapsFor, GapTable}
+use Rattle.tables.proofs.LevelLaws.{table-not-rising, table-in-range}
 use Rattle.search.specs.Search.{Small}
 use Rattle.setup.specs.Setup.{StepsHeld, PartHeld, partOf, rowOf, RowIs, RowsAre, Ranged, RangedAt, RangesAre}
 use Rattle.search.proofs.LeafLaws.{zeros}

@@ -11,7 +11,7 @@ use Rattle.orders.specs.Bridge.{dayFrom}
 use Rattle.orders.specs.Columns.{StepColumns, BlockColumns, sideFor}
 use Rattle.rules.specs.Hour.{bySide, when}
 use Rattle.rules.specs.Execution.{testSide}
-use Rattle.pricing.specs.Tables.{PriceTable, AllOf, ClearRange, GapTable}
+use Rattle.tables.specs.Tables.{PriceTable, AllOf, ClearRange, GapTable}
 use Rattle.search.specs.Search.{Small, sideAt, hoursAt, quantityAt, limitAt, againstAt, gainAt, aheadAt, behindAt, rowAt, sumOfHours}
 use Rattle.search.specs.Meaning.{Known, Turning}
 

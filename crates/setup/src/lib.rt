@@ -11,14 +11,14 @@ ghost use Rattle.setup.specs.Setup.{TradedBy, written, Written, ReadyFor
 ghost use Rattle.setup.specs.Setup.{Widened, RowsEmpty, RowsWritten, TwinsAt, noWorse, TwinOf, TwinsEmpty, TwinsWritten};
 ghost use Rattle.search.specs.Meaning.{Sized};
 use orders::Blocks;
-use pricing::table::all_totals;
-use pricing::table::clear_range;
-use pricing::table::fill_gaps;
-use pricing::table::fill_prices;
 use records::hour_count;
 use search::moved;
 use search::price_sum;
 use search::prices_at;
+use tables::all_totals;
+use tables::clear_range;
+use tables::fill_gaps;
+use tables::fill_prices;
 
 // The first and the last place at which an hour clears, and the place of its least gap.
 pub struct Range {

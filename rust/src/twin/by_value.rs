@@ -22,3 +22,6 @@ pub mod search;
 #[allow(clippy::all, unused)]
 #[rustfmt::skip]
 pub mod setup;
+#[allow(clippy::all, unused)]
+#[rustfmt::skip]
+pub mod tables;

@@ -5,9 +5,9 @@ use Rattle.setup.proofs.fill_hour.Statement.{statement}
 use Rattle.setup.proofs.fill_hour.Tie as tie
 use Rattle.setup.proofs.fill_hour.Reads as reads
 use Rattle.setup.proofs.fill_hour.Lts as lts
-use Rattle.pricing.proofs.table.all_totals.Reads as all-totals-reads
-use Rattle.pricing.proofs.table.clear_range.Reads as clear-range-reads
-use Rattle.pricing.proofs.table.fill_gaps.Reads as fill-gaps-reads
+use Rattle.tables.proofs.all_totals.Reads as all-totals-reads
+use Rattle.tables.proofs.clear_range.Reads as clear-range-reads
+use Rattle.tables.proofs.fill_gaps.Reads as fill-gaps-reads
 
 sub-all-totals : tie.Need-sub-all-totals
 sub-all-totals c = search needs

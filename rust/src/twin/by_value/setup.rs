@@ -1,14 +1,14 @@
 // Written by `twin_source` from crates/setup/src/lib.rt.
 // The setup of the search: from a book's decoded columns to the tables of the hours and the columns of the blocks. Assumes nothing.
 use crate::twin::by_value::orders::Blocks;
-use crate::twin::by_value::pricing::table::all_totals;
-use crate::twin::by_value::pricing::table::clear_range;
-use crate::twin::by_value::pricing::table::fill_gaps;
-use crate::twin::by_value::pricing::table::fill_prices;
 use crate::twin::by_value::records::hour_count;
 use crate::twin::by_value::search::moved;
 use crate::twin::by_value::search::price_sum;
 use crate::twin::by_value::search::prices_at;
+use crate::twin::by_value::tables::all_totals;
+use crate::twin::by_value::tables::clear_range;
+use crate::twin::by_value::tables::fill_gaps;
+use crate::twin::by_value::tables::fill_prices;
 
 // The first and the last place at which an hour clears, and the place of its least gap.
 #[derive(Clone, Copy)]

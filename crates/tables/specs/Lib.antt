@@ -1,0 +1,2 @@
+-- The tables of an hour. Definitions only.
+pub mod Tables
