@@ -55,7 +55,7 @@ net-in-requires c κs =
     let e = call-bounds _ a _ _ (sym (tested n) ∙ c .if1 .left) in (a, e .0, e .1)
 
 answer-in-requires : tie.Need-answer-in-requires
-answer-in-requires c κs = net-in-requires (c .before) κs
+answer-in-requires c κs = let r = net-in-requires (c .before) κs in (r .0, omega (arith, r .1), omega (arith, r .2))
 
 returns : tie.Need-returns
 returns c =
