@@ -98,34 +98,34 @@ fill-hour-requires c κs =
     )
 
 cast-first : tie.Need-cast-first Inv-loop μ-loop
-cast-first c = search needs
+cast-first c = omega (arith, c .before .before .before .before .before .before .loop-test .taken)
 
 mul-first : tie.Need-mul-first Inv-loop μ-loop
-mul-first c = search needs
+mul-first c = omega (arith, c .before .before .before .before .before .before .loop-test .taken)
 
 array-write-first : tie.Need-array-write-first Inv-loop μ-loop
-array-write-first c = search needs
+array-write-first c = omega (arith, c .before .before .before .before .before .before .loop-test .taken)
 
 cast-last : tie.Need-cast-last Inv-loop μ-loop
-cast-last c = search needs
+cast-last c = omega (arith, c .before .before .before .before .before .before .before .loop-test .taken)
 
 mul-last : tie.Need-mul-last Inv-loop μ-loop
-mul-last c = search needs
+mul-last c = omega (arith, c .before .before .before .before .before .before .before .loop-test .taken)
 
 array-write-last : tie.Need-array-write-last Inv-loop μ-loop
-array-write-last c = search needs
+array-write-last c = omega (arith, c .before .before .before .before .before .before .before .loop-test .taken)
 
 cast-turn : tie.Need-cast-turn Inv-loop μ-loop
-cast-turn c = search needs
+cast-turn c = omega (arith, c .before .before .before .before .before .before .before .before .loop-test .taken)
 
 mul-turn : tie.Need-mul-turn Inv-loop μ-loop
-mul-turn c = search needs
+mul-turn c = omega (arith, c .before .before .before .before .before .before .before .before .loop-test .taken)
 
 array-write-turn : tie.Need-array-write-turn Inv-loop μ-loop
-array-write-turn c = search needs
+array-write-turn c = omega (arith, c .before .before .before .before .before .before .before .before .loop-test .taken)
 
 add-h : tie.Need-add-h Inv-loop μ-loop
-add-h c = search needs
+add-h c = omega (arith, c .before .before .before .before .before .before .before .before .loop-test .taken)
 
 loop-less : tie.Need-loop-less Inv-loop μ-loop
 loop-less c = omega (arith, c .before .before .before .before .before .before .before .before .loop-test .taken)
