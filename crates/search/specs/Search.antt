@@ -15,6 +15,10 @@ use Rattle.records.specs.Records.{holdsHour}
 abbrev pub Small : ℕ → List ℕ → Type 0
 Small m l = (i : ℕ) → getD l i 0 ≤ m
 
+-- A price of at most 300,000 for each of 24 hours.
+abbrev pub DayPrices : List ℕ → Type 0
+DayPrices l = (length l ≡ 24) × Small 300000 l
+
 -- The sum of a column of hours over the hours of a block, given as bits.
 unfoldable pub sumOfHours : List ℕ → ℕ → ℕ
 sumOfHours column hours = sumTo 24 (λ h. when (holdsHour hours h) (getD column (h - 1) 0))

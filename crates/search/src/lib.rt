@@ -6,7 +6,7 @@ ghost use lib.ListN.{length, getD};
 ghost use Rattle.rules.specs.Hour.{when};
 ghost use Rattle.records.specs.Records.{holdsHour};
 ghost use mathlib.Core.Bool.{cond};
-ghost use Rattle.search.specs.Search.{Small, sumOfHours, ofHour, GapsOf, PricesOf, keepsAt, allKeep, isOut, isRuledOut, mustMove, mayMove, AddedTo, isBarred, isDue, rowAt, RestOf, ReachOf, ReachedBy, leastGaps, firstOf, lastOf, turnOf};
+ghost use Rattle.search.specs.Search.{Small, DayPrices, sumOfHours, ofHour, GapsOf, PricesOf, keepsAt, allKeep, isOut, isRuledOut, mustMove, mayMove, AddedTo, isBarred, isDue, rowAt, RestOf, ReachOf, ReachedBy, leastGaps, firstOf, lastOf, turnOf};
 ghost use Rattle.search.specs.Search as numbers;
 ghost use Rattle.search.specs.Meaning.{BlocksSized, Sized, Fits, Decided, TakenTo, LeftTo, JudgedFrom, ExploredFrom, FoundIn};
 
@@ -47,9 +47,9 @@ pub fn moved(places: [u32; 24], hours: u32, quantity: u32) -> [u32; 24]
 }
 
 // The sum of prices over the hours of a block.
-pub fn price_sum(prices: [u32; 24], hours: u32) -> u32
-    requires { ⌜ Small 300000 prices ⌝ }
-    ensures { λ r. ⌜ (r ≡ sumOfHours prices hours) × (r ≤ 7200000) ⌝ }
+pub fn price_sum(prices: &[u32], hours: u32) -> u32
+    requires { ⌜ DayPrices (now prices) ⌝ }
+    ensures { λ r. ⌜ (r ≡ sumOfHours (now (prices .entry)) hours) × (r ≤ 7200000) ⌝ }
 {
     let mut sum: u32 = 0;
     let mut h: usize = 0;
@@ -109,9 +109,9 @@ pub fn prices_at(low: &[u32], places: [u32; 24]) -> [u32; 24]
 
 // Whether a block keeps its limit: the sum of the low prices over its hours is at most the limit for a buy, that of the high prices at least the limit
 // for a sell.
-fn keeps_limit(side: u32, hours: u32, limit: u32, high: [u32; 24], low: [u32; 24]) -> bool
-    requires { ⌜ Small 300000 high × Small 300000 low ⌝ }
-    ensures { λ r. ⌜ r ≡ keepsAt side hours limit high low ⌝ }
+fn keeps_limit(side: u32, hours: u32, limit: u32, high: &[u32], low: &[u32]) -> bool
+    requires { ⌜ DayPrices (now high) × DayPrices (now low) ⌝ }
+    ensures { λ r. ⌜ r ≡ keepsAt side hours limit (now (high .entry)) (now (low .entry)) ⌝ }
 {
     if side == 0 {
         price_sum(low, hours) <= limit
@@ -121,9 +121,9 @@ fn keeps_limit(side: u32, hours: u32, limit: u32, high: [u32; 24], low: [u32; 24
 }
 
 // Whether each of the first count blocks that the set holds keeps its limit: a buy at the low prices, a sell at the high ones.
-fn keeps_limits(blocks: &[u32], count: usize, set: u32, high: [u32; 24], low: [u32; 24]) -> bool
-    requires { ⌜ (length (now blocks) ≡ 1024) × (count ≤ 32) × Small 300000 high × Small 300000 low ⌝ }
-    ensures { λ r. ⌜ r ≡ allKeep (now (blocks .entry)) set high low count ⌝ }
+fn keeps_limits(blocks: &[u32], count: usize, set: u32, high: &[u32], low: &[u32]) -> bool
+    requires { ⌜ (length (now blocks) ≡ 1024) × (count ≤ 32) × DayPrices (now high) × DayPrices (now low) ⌝ }
+    ensures { λ r. ⌜ r ≡ allKeep (now (blocks .entry)) set (now (high .entry)) (now (low .entry)) count ⌝ }
 {
     let mut i = count;
     while 0 < i {
@@ -168,7 +168,7 @@ fn decide(
         return best;
     }
     let prices = prices_at(low, places);
-    if !keeps_limits(blocks, count as usize, node.set, prices, prices) {
+    if !keeps_limits(blocks, count as usize, node.set, &prices, &prices) {
         return best;
     }
     let day = Day {
@@ -258,9 +258,9 @@ fn is_out(out: u32, k: usize) -> bool
 }
 
 // Whether undecided block i is out: it was before, or it misses its limit at the best prices within reach.
-fn is_ruled_out(blocks: &[u32], i: usize, was: bool, high: [u32; 24], low: [u32; 24]) -> bool
-    requires { ⌜ (length (now blocks) ≡ 1024) × (i < 32) × Small 300000 high × Small 300000 low ⌝ }
-    ensures { λ r. ⌜ r ≡ isRuledOut (now (blocks .entry)) i was high low ⌝ }
+fn is_ruled_out(blocks: &[u32], i: usize, was: bool, high: &[u32], low: &[u32]) -> bool
+    requires { ⌜ (length (now blocks) ≡ 1024) × (i < 32) × DayPrices (now high) × DayPrices (now low) ⌝ }
+    ensures { λ r. ⌜ r ≡ isRuledOut (now (blocks .entry)) i was (now (high .entry)) (now (low .entry)) ⌝ }
 {
     if was {
         return true;
@@ -269,16 +269,9 @@ fn is_ruled_out(blocks: &[u32], i: usize, was: bool, high: [u32; 24], low: [u32;
 }
 
 // The undecided blocks that are out, from the last one on to the one at number at, whose bit is the lowest.
-fn ruled_out(
-    blocks: &[u32],
-    count: usize,
-    at: usize,
-    out: u32,
-    high: [u32; 24],
-    low: [u32; 24],
-) -> u32
-    requires { ⌜ (length (now blocks) ≡ 1024) × (count ≤ 32) × (at ≤ count) × Small 300000 high × Small 300000 low ⌝ }
-    ensures { λ r. ⌜ ((k : ℕ) → k < count - at → isOut r k ≡ isRuledOut (now (blocks .entry)) (at + k) (isOut out k) high low) ⌝ }
+fn ruled_out(blocks: &[u32], count: usize, at: usize, out: u32, high: &[u32], low: &[u32]) -> u32
+    requires { ⌜ (length (now blocks) ≡ 1024) × (count ≤ 32) × (at ≤ count) × DayPrices (now high) × DayPrices (now low) ⌝ }
+    ensures { λ r. ⌜ ((k : ℕ) → k < count - at → isOut r k ≡ isRuledOut (now (blocks .entry)) (at + k) (isOut out k) (now (high .entry)) (now (low .entry))) ⌝ }
 {
     let mut r: u32 = 0;
     let mut i = count;
@@ -491,12 +484,12 @@ fn judge(
     }
     let high = prices_at(low, from);
     let lowest = prices_at(low, to);
-    if !keeps_limits(blocks, at, node.set, high, lowest) {
+    if !keeps_limits(blocks, at, node.set, &high, &lowest) {
         return drop;
     }
     Judged {
         dropped: false,
-        out: ruled_out(blocks, count as usize, at, out, high, lowest),
+        out: ruled_out(blocks, count as usize, at, out, &high, &lowest),
     }
 }
 

@@ -57,21 +57,27 @@ prices-at-requires c κs =
           (g .inRange (not-false _ (c .before .before .before .before .if1 .left))) (a .pre .0 .lastFits) (size a),
     )
 
+slice-aggregate-keeps-limits : tie.Need-slice-aggregate-keeps-limits
+slice-aggregate-keeps-limits c = search needs
+
+slice-aggregate-keeps-limits-2 : tie.Need-slice-aggregate-keeps-limits-2
+slice-aggregate-keeps-limits-2 c = search needs
+
 keeps-limits-requires : tie.Need-keeps-limits-requires
 keeps-limits-requires c κs =
-    let a = c .before .before .before .before .before .before .before .before .before .before .before .before .before .before .before in
-    (a .pre .0 .blocksFit .columns, a .pre .2, c .prices-at .ensures .small, c .prices-at .ensures .small)
+    let a = c .before .before .before .before .before .before .before .before .before .before .before .before .before .before .before .before .before in
+    (a .pre .0 .blocksFit .columns, a .pre .2, search needs, search needs)
 
 returns-3 : tie.Need-returns-3
 returns-3 c =
-    decided-broken _ _ _ _ _ _ _ _ _ _ _ _ (c .before .before .before .before .before .before .before .before .before .gaps-at .ensures) (not-false _ (c .before .before .before .before .before .before .before .if1 .left)) _
-    (c .before .before .prices-at .ensures) (sym (c .before .keeps-limits .ensures) ∙ not-true _ (c .if3 .taken))
+    decided-broken _ _ _ _ _ _ _ _ _ _ _ _ (c .before .before .before .before .before .before .before .before .before .before .before .gaps-at .ensures) (not-false _ (c .before .before .before .before .before .before .before .before .before .if1 .left)) _
+    (c .before .before .before .before .prices-at .ensures) (sym (c .before .keeps-limits .ensures) ∙ not-true _ (c .if3 .taken))
 
 returns-4 : tie.Need-returns-4
 returns-4 c =
-    decided-better _ _ _ _ _ _ _ _ _ _ _ _ (c .before .before .before .before .before .before .before .before .before .gaps-at .ensures) (not-false _ (c .before .before .before .before .before .before .before .if1 .left)) _
-    (c .before .before .prices-at .ensures) (sym (c .before .keeps-limits .ensures) ∙ not-false _ (c .if3 .left))
-    (c .before .before .before .if2 .left)
+    decided-better _ _ _ _ _ _ _ _ _ _ _ _ (c .before .before .before .before .before .before .before .before .before .before .before .gaps-at .ensures) (not-false _ (c .before .before .before .before .before .before .before .before .before .if1 .left)) _
+    (c .before .before .before .before .prices-at .ensures) (sym (c .before .keeps-limits .ensures) ∙ not-false _ (c .if3 .left))
+    (c .before .before .before .before .before .if2 .left)
 
 pub decide-spec : {M : Type 1} → statement M
 decide-spec =
@@ -88,6 +94,8 @@ decide-spec =
     add-total
     returns-2
     prices-at-requires
+    slice-aggregate-keeps-limits
+    slice-aggregate-keeps-limits-2
     keeps-limits-requires
     returns-3
     returns-4)

@@ -94,28 +94,40 @@ prices-at-requires-2 c κs =
     let f = c .before .before .before .before .before .before .before .before .before in
     (s .pre .0 .lowRows, s .pre .0 .lowFits, to-small _ _ _ _ _ _ _ (f .reach-at .ensures .reach) (s .pre .0 .lastFits) (to-size f))
 
+slice-aggregate-keeps-limits : tie.Need-slice-aggregate-keeps-limits
+slice-aggregate-keeps-limits c = search needs
+
+slice-aggregate-keeps-limits-2 : tie.Need-slice-aggregate-keeps-limits-2
+slice-aggregate-keeps-limits-2 c = search needs
+
 keeps-limits-requires : tie.Need-keeps-limits-requires
 keeps-limits-requires c κs =
-    let s = c .before .before .before .before .before .before .before .before .before .before .before .before .before .before .before .before .before .before .before in
+    let s = c .before .before .before .before .before .before .before .before .before .before .before .before .before .before .before .before .before .before .before .before .before in
     (s .pre .0 .blocksFit .columns, omega (arith, s .pre .2), search needs, search needs)
 
 returns-5 : tie.Need-returns-5
 returns-5 c =
-    let s = c .before .before .before .before .before .before .before .before .before .before .before .before .before .before .before .before .before .before .before .before .before in
+    let s = c .before .before .before .before .before .before .before .before .before .before .before .before .before .before .before .before .before .before .before .before .before .before .before in
     judged-dropped _ _ _ _ _ _ _ _ _ _ _ _
-    (dropped-by-limit _ _ _ _ _ _ _ _ _ _ _ _ _ (c .before .before .before .before .before .before .before .before .before .before .before .before .reach-at .ensures .rest) _ _ _ (c .before .before .before .before .before .before .before .before .before .before .before .before .reach-at .ensures .reach) _ _ (c .before .before .before .prices-at .ensures) (c .before .before .prices-at2 .ensures)
-    (not-false _ (c .before .before .before .before .before .before .before .before .before .before .if3 .left)) (s .pre .0 .lastFits) (sym (c .before .keeps-limits .ensures) ∙ not-true _ (c .if5 .taken)))
+    (dropped-by-limit _ _ _ _ _ _ _ _ _ _ _ _ _ (c .before .before .before .before .before .before .before .before .before .before .before .before .before .before .reach-at .ensures .rest) _ _ _ (c .before .before .before .before .before .before .before .before .before .before .before .before .before .before .reach-at .ensures .reach) _ _ (c .before .before .before .before .before .prices-at .ensures) (c .before .before .before .before .prices-at2 .ensures)
+    (not-false _ (c .before .before .before .before .before .before .before .before .before .before .before .before .if3 .left)) (s .pre .0 .lastFits) (sym (c .before .keeps-limits .ensures) ∙ not-true _ (c .if5 .taken)))
+
+slice-aggregate-ruled-out : tie.Need-slice-aggregate-ruled-out
+slice-aggregate-ruled-out c = search needs
+
+slice-aggregate-ruled-out-2 : tie.Need-slice-aggregate-ruled-out-2
+slice-aggregate-ruled-out-2 c = search needs
 
 ruled-out-requires : tie.Need-ruled-out-requires
 ruled-out-requires c κs =
-    let s = c .before .before .before .before .before .before .before .before .before .before .before .before .before .before .before .before .before .before .before .before .before in
+    let s = c .before .before .before .before .before .before .before .before .before .before .before .before .before .before .before .before .before .before .before .before .before .before .before .before .before in
     (s .pre .0 .blocksFit .columns, s .pre .2, omega (arith, s .pre .3), search needs, search needs)
 
 returns-6 : tie.Need-returns-6
 returns-6 c =
-    let s = c .before .before .before .before .before .before .before .before .before .before .before .before .before .before .before .before .before .before .before .before .before .before in
-    judged-open _ _ _ _ _ _ _ _ _ _ _ _ _ (c .before .before .before .before .before .before .before .before .before .before .before .before .before .reach-at .ensures .rest) _ _ _ (c .before .before .before .before .before .before .before .before .before .before .before .before .before .reach-at .ensures .reach) _ _ (c .before .before .before .before .prices-at .ensures) (c .before .before .before .prices-at2 .ensures)
-    (not-false _ (c .before .before .before .before .before .before .before .before .before .before .before .if3 .left)) (s .pre .0 .lastFits) (s .pre .3) _ (c .ruled-out .ensures)
+    let s = c .before .before .before .before .before .before .before .before .before .before .before .before .before .before .before .before .before .before .before .before .before .before .before .before .before .before in
+    judged-open _ _ _ _ _ _ _ _ _ _ _ _ _ (c .before .before .before .before .before .before .before .before .before .before .before .before .before .before .before .before .before .reach-at .ensures .rest) _ _ _ (c .before .before .before .before .before .before .before .before .before .before .before .before .before .before .before .before .before .reach-at .ensures .reach) _ _ (c .before .before .before .before .before .before .before .before .prices-at .ensures) (c .before .before .before .before .before .before .before .prices-at2 .ensures)
+    (not-false _ (c .before .before .before .before .before .before .before .before .before .before .before .before .before .before .before .if3 .left)) (s .pre .0 .lastFits) (s .pre .3) _ (c .ruled-out .ensures)
 
 pub judge-spec : {M : Type 1} → statement M
 judge-spec =
@@ -136,7 +148,11 @@ judge-spec =
     returns-4
     prices-at-requires
     prices-at-requires-2
+    slice-aggregate-keeps-limits
+    slice-aggregate-keeps-limits-2
     keeps-limits-requires
     returns-5
+    slice-aggregate-ruled-out
+    slice-aggregate-ruled-out-2
     ruled-out-requires
     returns-6)

@@ -8,10 +8,10 @@ use Rattle.search.proofs.price_sum.Statement.{statement}
 use Rattle.search.proofs.price_sum.Tie as tie
 
 abbrev Inv-loop : tie.InvT-loop
-Inv-loop hours prices sum₀ h₀ rest₀ sum h rest = SummedTo prices hours h rest sum
+Inv-loop prices hours sum₀ h₀ rest₀ sum h rest = SummedTo prices hours h rest sum
 
 abbrev μ-loop : tie.MeasureT-loop
-μ-loop hours prices sum₀ h₀ rest₀ sum h rest = 24 - h
+μ-loop prices hours sum₀ h₀ rest₀ sum h rest = 24 - h
 
 loop-holds : tie.Need-loop-holds Inv-loop μ-loop
 loop-holds c = sum-start _ _
@@ -19,20 +19,20 @@ loop-holds c = sum-start _ _
 mul-sum : tie.Need-mul-sum Inv-loop μ-loop
 mul-sum c = omega arith
 
-array-read-sum : tie.Need-array-read-sum Inv-loop μ-loop
-array-read-sum c = search needs
+shared-slice-read-sum : tie.Need-shared-slice-read-sum Inv-loop μ-loop
+shared-slice-read-sum c = search needs
 
 mul-sum-2 : tie.Need-mul-sum-2 Inv-loop μ-loop
 mul-sum-2 c =
-    let v = c .before .loop in
-    let a = c .before .before in
-    omega (arith, bit-times-le (v .rest) (getD (a .args .t1) (v .h) 0), a .pre (v .h))
+    let v = c .before .before .loop in
+    let a = c .before .before .before in
+    omega (arith, bit-times-le (v .rest) (getD (a .args .prices .now) (v .h) 0), a .pre .1 (v .h))
 
 add-sum : tie.Need-add-sum Inv-loop μ-loop
 add-sum c =
-    let v = c .before .loop in
-    let a = c .before .before in
-    omega (arith, bit-times-le (v .rest) (getD (a .args .t1) (v .h) 0), a .pre (v .h), v .inv .fits)
+    let v = c .before .before .loop in
+    let a = c .before .before .before in
+    omega (arith, bit-times-le (v .rest) (getD (a .args .prices .now) (v .h) 0), a .pre .1 (v .h), v .inv .fits)
 
 add-h : tie.Need-add-h Inv-loop μ-loop
 add-h c = search needs
@@ -41,7 +41,7 @@ loop-less : tie.Need-loop-less Inv-loop μ-loop
 loop-less c = search needs
 
 loop-again : tie.Need-loop-again Inv-loop μ-loop
-loop-again c = sum-next _ _ _ _ _ (c .before .before .pre) (c .before .loop .inv) (c .loop-test .taken)
+loop-again c = sum-next _ _ _ _ _ (c .before .before .before .pre .1) (c .before .before .loop .inv) (c .before .loop-test .taken)
 
 returns : tie.Need-returns Inv-loop μ-loop
 returns c = sum-all _ _ _ _ _ (c .before .loop .inv) (c .loop-test .left)
@@ -54,7 +54,7 @@ price-sum-spec =
     μ-loop
     loop-holds
     mul-sum
-    array-read-sum
+    shared-slice-read-sum
     mul-sum-2
     add-sum
     add-h

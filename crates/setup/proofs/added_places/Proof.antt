@@ -14,10 +14,10 @@ use Rattle.search.proofs.price_sum.Reads as price-sum-reads
 use Rattle.setup.proofs.choose.Reads as choose-reads
 
 abbrev Inv-loop : tie.InvT-loop
-Inv-loop count root hours limits quantities places₀ i₀ places i = (i ≤ count) × ((j : ℕ) → getD places j 0 ≤ getD places₀ j 0 + i * 50)
+Inv-loop count hours limits quantities root places₀ i₀ places i = (i ≤ count) × ((j : ℕ) → getD places j 0 ≤ getD places₀ j 0 + i * 50)
 
 abbrev μ-loop : tie.MeasureT-loop
-μ-loop count root hours limits quantities places₀ i₀ places i = count - i
+μ-loop count hours limits quantities root places₀ i₀ places i = count - i
 
 loop-holds : tie.Need-loop-holds Inv-loop μ-loop
 loop-holds c = (omega arith, λ j. omega arith)
@@ -27,6 +27,9 @@ mul-moves c = search needs
 
 array-read-moves : tie.Need-array-read-moves Inv-loop μ-loop
 array-read-moves c = search needs
+
+slice-aggregate-price-sum : tie.Need-slice-aggregate-price-sum Inv-loop μ-loop
+slice-aggregate-price-sum c = search needs
 
 mul-price-sum : tie.Need-mul-price-sum Inv-loop μ-loop
 mul-price-sum c = search needs
@@ -54,9 +57,9 @@ choose-requires c κs = search needs
 
 moved-requires : tie.Need-moved-requires Inv-loop μ-loop
 moved-requires c κs =
-    let v = c .before .before .before .loop in
-    let s = c .before .before .before .before in
-    let few = s .pre .0 .1 (v .i) (c .before .before .loop-test .taken) in
+    let v = c .before .before .before .before .loop in
+    let s = c .before .before .before .before .before in
+    let few = s .pre .0 .1 (v .i) (c .before .before .before .loop-test .taken) in
     let fits : c .choose .result ≤ 50 = rw (c .choose .ensures) (chosen-le (leb (getD (s .args .t4) (v .i) 0) (c .before .price-sum .result)) _ 50 few) in
     (λ j. omega (arith, v .inv .1 j, v .inv .0, s .pre .0 .0, s .pre .1 .0 j), omega (arith, fits))
 
@@ -69,9 +72,9 @@ loop-less c = search needs
 loop-again : tie.Need-loop-again Inv-loop μ-loop
 loop-again c =
     let o = c .before in
-    let v = o .before .before .before .loop in
-    let s = o .before .before .before .before in
-    let k = o .before .before .loop-test .taken in
+    let v = o .before .before .before .before .loop in
+    let s = o .before .before .before .before .before in
+    let k = o .before .before .before .loop-test .taken in
     let fits : o .choose .result ≤ 50 = rw (o .choose .ensures) (chosen-le (leb (getD (s .args .t4) (v .i) 0) (o .before .price-sum .result)) _ 50 (s .pre .0 .1 (v .i) k)) in
     let m = moved-most _ _ (v .places) (c .moved .result) (c .moved .ensures .0) (c .moved .ensures .1) in
     (omega (arith, k), λ j. omega (arith, m j, fits, v .inv .1 j))
@@ -88,6 +91,7 @@ added-places-spec =
     loop-holds
     mul-moves
     array-read-moves
+    slice-aggregate-price-sum
     mul-price-sum
     array-read-price-sum
     price-sum-requires

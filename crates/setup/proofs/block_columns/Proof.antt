@@ -14,10 +14,10 @@ use Rattle.search.proofs.price_sum.Reads as price-sum-reads
 use Rattle.setup.proofs.with_block.Reads as with-block-reads
 
 abbrev Inv-loop : tie.InvT-loop
-Inv-loop count root sides hours prices quantities columns₀ i₀ columns i = WrittenTo sides hours prices quantities root count i columns
+Inv-loop count sides hours prices quantities root columns₀ i₀ columns i = WrittenTo sides hours prices quantities root count i columns
 
 abbrev μ-loop : tie.MeasureT-loop
-μ-loop count root sides hours prices quantities columns₀ i₀ columns i = count - i
+μ-loop count sides hours prices quantities root columns₀ i₀ columns i = count - i
 
 loop-holds : tie.Need-loop-holds Inv-loop μ-loop
 loop-holds c = written-start _ _ _ _ _ _
@@ -59,6 +59,9 @@ mul-with-block-2 c = search needs
 array-read-with-block-3 : tie.Need-array-read-with-block-3 Inv-loop μ-loop
 array-read-with-block-3 c = search needs
 
+slice-aggregate-price-sum : tie.Need-slice-aggregate-price-sum Inv-loop μ-loop
+slice-aggregate-price-sum c = search needs
+
 mul-price-sum : tie.Need-mul-price-sum Inv-loop μ-loop
 mul-price-sum c = search needs
 
@@ -70,7 +73,7 @@ price-sum-requires c κs = search needs
 
 with-block-requires : tie.Need-with-block-requires Inv-loop μ-loop
 with-block-requires c κs =
-    let b = c .before in
+    let b = c .before .before in
     let v = b .before .before .loop in
     let s = b .before .before .before in
     let k = b .before .loop-test .taken in
@@ -89,7 +92,7 @@ loop-less c = search needs
 
 loop-again : tie.Need-loop-again Inv-loop μ-loop
 loop-again c =
-    let b = c .before .before in
+    let b = c .before .before .before in
     let v = b .before .before .loop in
     let s = b .before .before .before in
     written-next _ _ _ _ _ _ _ (v .columns) _ _ _ _ _ _ (v .inv) (s .pre .0) (b .before .loop-test .taken) refl refl refl
@@ -116,6 +119,7 @@ block-columns-spec =
     array-read-with-block-2
     mul-with-block-2
     array-read-with-block-3
+    slice-aggregate-price-sum
     mul-price-sum
     array-read-price-sum
     price-sum-requires

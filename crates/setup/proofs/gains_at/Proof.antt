@@ -10,13 +10,16 @@ use Rattle.search.proofs.price_sum.Reads as price-sum-reads
 use Rattle.setup.proofs.gain_of.Reads as gain-of-reads
 
 abbrev Inv-loop : tie.InvT-loop
-Inv-loop count root sides hours limits quantities gains₀ i₀ gains i = (i ≤ count) × (gains ≤ i * 360000000)
+Inv-loop count sides hours limits quantities root gains₀ i₀ gains i = (i ≤ count) × (gains ≤ i * 360000000)
 
 abbrev μ-loop : tie.MeasureT-loop
-μ-loop count root sides hours limits quantities gains₀ i₀ gains i = count - i
+μ-loop count sides hours limits quantities root gains₀ i₀ gains i = count - i
 
 loop-holds : tie.Need-loop-holds Inv-loop μ-loop
 loop-holds c = (omega arith, omega arith)
+
+slice-aggregate-price-sum : tie.Need-slice-aggregate-price-sum Inv-loop μ-loop
+slice-aggregate-price-sum c = search needs
 
 mul-price-sum : tie.Need-mul-price-sum Inv-loop μ-loop
 mul-price-sum c = search needs
@@ -44,17 +47,17 @@ array-read-gain-of-3 c = search needs
 
 gain-of-requires : tie.Need-gain-of-requires Inv-loop μ-loop
 gain-of-requires c κs =
-    let v = c .before .before .loop in
-    let s = c .before .before .before in
-    (s .pre .0 .1 (v .i) (c .before .loop-test .taken), s .pre .1 .0 (v .i), c .price-sum .ensures .1)
+    let v = c .before .before .before .loop in
+    let s = c .before .before .before .before in
+    (s .pre .0 .1 (v .i) (c .before .before .loop-test .taken), s .pre .1 .0 (v .i), c .price-sum .ensures .1)
 
 cast-gains : tie.Need-cast-gains Inv-loop μ-loop
 cast-gains c = search needs
 
 add-gains : tie.Need-add-gains Inv-loop μ-loop
 add-gains c =
-    let v = c .before .before .before .loop in
-    let s = c .before .before .before .before in
+    let v = c .before .before .before .before .loop in
+    let s = c .before .before .before .before .before in
     omega (arith, v .inv .0, v .inv .1, s .pre .0 .0, c .gain-of .ensures)
 
 add-i : tie.Need-add-i Inv-loop μ-loop
@@ -65,8 +68,8 @@ loop-less c = search needs
 
 loop-again : tie.Need-loop-again Inv-loop μ-loop
 loop-again c =
-    let v = c .before .before .before .loop in
-    (omega (arith, c .before .before .loop-test .taken), omega (arith, v .inv .1, c .gain-of .ensures))
+    let v = c .before .before .before .before .loop in
+    (omega (arith, c .before .before .before .loop-test .taken), omega (arith, v .inv .1, c .gain-of .ensures))
 
 returns : tie.Need-returns Inv-loop μ-loop
 returns c = omega (arith, c .before .loop .inv .0, c .before .loop .inv .1, c .before .before .pre .0 .0)
@@ -78,6 +81,7 @@ gains-at-spec =
     Inv-loop
     μ-loop
     loop-holds
+    slice-aggregate-price-sum
     mul-price-sum
     array-read-price-sum
     price-sum-requires
