@@ -4,7 +4,7 @@ ghost use mathlib.Core.Path.{_≡_};
 ghost use Rattle.book.specs.Answers.{reading};
 use crate::chains::chain_length;
 use records::first_block;
-use records::first_step;
+use records::record_count;
 
 mod causes; // the causes 1 to 6, and the first of them that holds
 mod chains; // records that hang together by `next`
@@ -24,7 +24,8 @@ pub fn read(book: &[u8]) -> Reading
     if number != 0 {
         return Reading::Refused(number);
     }
-    let steps = chain_length(book, first_step(book));
+    // each record but the head is on one of the two chains
     let blocks = chain_length(book, first_block(book));
+    let steps = record_count(book) - 1 - blocks;
     Reading::Accepted { steps, blocks }
 }
