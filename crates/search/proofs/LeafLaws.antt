@@ -7,7 +7,7 @@ use mathlib.Core.Logic.{_⊎_, inl, inr}
 use native.Mathlib.Omega.{arith}
 use native.Mathlib.Nat.{le-suc-iff}
 use native.Mathlib.Numerals.{add-one, sub-one}
-use lib.Dec.{eqb, ltb}
+use lib.Dec.{eqb, leb, ltb}
 use lib.ListN.{length, getD, set, length-set, replicate}
 use lib.Seq.{getD-set-same, getD-set-other}
 use borrow.Author.Tests.{ltb-false, le-ltb, eq-eqb, ne-eqb}
@@ -17,7 +17,7 @@ use Rattle.rules.specs.Day.{sumTo}
 use Rattle.orders.specs.Columns.{sideFor}
 use Rattle.rules.proofs.Tests.{clash}
 use Rattle.book.proofs.Laws.{or-left, or-right}
-use Rattle.search.specs.Search.{Small, cell, ofHour, InRange, GapsOf, PricesOf, sideAt, hoursAt, limitAt, rowAt, aheadAt, behindAt, isBarred, isDue, keepsAt, allKeep}
+use Rattle.search.specs.Search.{Small, cell, ofHour, InRange, GapsOf, PricesOf, sideAt, hoursAt, limitAt, rowAt, aheadAt, behindAt, againstAt, gainAt, isBarred, isDue, isForced, keepsAt, allKeep}
 
 -- what holds below h and at h holds below h + 1
 pub below-next : (P : ℕ → Type 0) (h k : ℕ) → (k < h → P k) → P h → k < suc h → P k
@@ -226,3 +226,17 @@ module _ (blocks : List ℕ) (i chosen : ℕ) where
   pub due-some : (behindAt blocks i ≡ 0 → ⊥) → eqb (chosen / 2 ^ (behindAt blocks i - 1) % 2) 1 ≡ isDue blocks i chosen
   unfolding isDue
   due-some e = rw (ne-eqb (behindAt blocks i) 0 e)
+
+-- A DECISION that has no other
+module _ (blocks : List ℕ) (n chosen loss limit : ℕ) where
+  pub forced-none : n ≡ 0 → false ≡ isForced blocks n chosen loss limit
+  unfolding isForced
+  forced-none e = rw e
+
+  pub forced-taken : (n ≡ 0 → ⊥) → eqb (chosen / 2 ^ (n - 1) % 2) 1 ≡ true → leb limit (loss + gainAt blocks (n - 1)) ≡ isForced blocks n chosen loss limit
+  unfolding isForced
+  forced-taken e t = rw (ne-eqb n 0 e, t)
+
+  pub forced-left : (n ≡ 0 → ⊥) → eqb (chosen / 2 ^ (n - 1) % 2) 1 ≡ false → leb limit (loss + againstAt blocks (n - 1)) ≡ isForced blocks n chosen loss limit
+  unfolding isForced
+  forced-left e t = rw (ne-eqb n 0 e, t)

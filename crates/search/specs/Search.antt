@@ -95,6 +95,11 @@ isBarred blocks i set = not (eqb (aheadAt blocks i) 0) && eqb (set / 2 ^ (aheadA
 unfoldable pub isDue : (blocks : List ℕ) (i set : ℕ) → Bool
 isDue blocks i set = not (eqb (behindAt blocks i) 0) && eqb (set / 2 ^ (behindAt blocks i - 1) % 2) 1
 
+-- The last of the first n blocks is decided, and to decide it the other way would lose the limit or more.
+unfoldable pub isForced : (blocks : List ℕ) (n set loss limit : ℕ) → Bool
+isForced blocks n set loss limit =
+    not (eqb n 0) && leb limit (loss + cond (eqb (set / 2 ^ (n - 1) % 2) 1) (gainAt blocks (n - 1)) (againstAt blocks (n - 1)))
+
 -- A block keeps its limit, a buy at the low prices, a sell at the high ones.
 unfoldable pub keepsAt : (side hours limit : ℕ) (high low : List ℕ) → Bool
 keepsAt side hours limit high low = testSide (sideFor side) (leb (sumOfHours low hours) limit) (leb limit (sumOfHours high hours))

@@ -6,7 +6,7 @@ ghost use lib.ListN.{length, getD};
 ghost use Rattle.rules.specs.Hour.{when};
 ghost use Rattle.records.specs.Records.{holdsHour};
 ghost use mathlib.Core.Bool.{cond};
-ghost use Rattle.search.specs.Search.{Small, DayPrices, sumOfHours, ofHour, GapsOf, PricesOf, keepsAt, allKeep, isOut, isRuledOut, mustMove, mayMove, AddedTo, isBarred, isDue, rowAt, RestOf, ReachOf, ReachedBy, leastGaps, firstOf, lastOf, turnOf};
+ghost use Rattle.search.specs.Search.{Small, DayPrices, sumOfHours, ofHour, GapsOf, PricesOf, keepsAt, allKeep, isOut, isRuledOut, mustMove, mayMove, AddedTo, isBarred, isDue, isForced, rowAt, RestOf, ReachOf, ReachedBy, leastGaps, firstOf, lastOf, turnOf};
 ghost use Rattle.search.specs.Search as numbers;
 ghost use Rattle.search.specs.Meaning.{BlocksSized, Sized, Fits, Decided, TakenTo, LeftTo, JudgedFrom, ExploredFrom, FoundIn};
 
@@ -421,6 +421,7 @@ fn least_gaps(gap: &[u32], turn: &[u32], from: [u32; 24], to: [u32; 24]) -> u64
 // Whether the other way to decide the block that was decided last loses the limit or more: then what a branch can reach is as it was before that block.
 fn is_forced(blocks: &[u32], at: usize, set: u32, loss: u64, limit: u64) -> bool
     requires { ⌜ BlocksSized (now blocks) × (at ≤ 32) × (loss ≤ 32 * 2 ^ 32) ⌝ }
+    ensures { λ r. ⌜ r ≡ isForced (now (blocks .entry)) at set loss limit ⌝ }
 {
     if at == 0 {
         return false;
