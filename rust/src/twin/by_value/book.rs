@@ -3,7 +3,7 @@
 // Every call takes any bytes, ends, and has no `requires`; its result is what a definition of `specs/` gives. Assumes nothing.
 use crate::twin::by_value::book::chains::chain_length;
 use crate::twin::by_value::records::first_block;
-use crate::twin::by_value::records::first_step;
+use crate::twin::by_value::records::record_count;
 
 mod causes; // the causes 1 to 6, and the first of them that holds
 mod chains; // records that hang together by `next`
@@ -23,7 +23,8 @@ pub fn read(book: &[u8]) -> Reading
     if number != 0 {
         return Reading::Refused(number);
     }
-    let steps = chain_length(book, first_step(book));
+    // each record but the head is on one of the two chains
     let blocks = chain_length(book, first_block(book));
+    let steps = record_count(book) - 1 - blocks;
     Reading::Accepted { steps, blocks }
 }

@@ -37,7 +37,7 @@ pub fn moved(places: [u32; 24], hours: u32, quantity: u32) -> [u32; 24]
 }
 
 // The sum of prices over the hours of a block.
-pub fn price_sum(prices: [u32; 24], hours: u32) -> u32
+pub fn price_sum(prices: &[u32], hours: u32) -> u32
 {
     let mut sum: u32 = 0;
     let mut h: usize = 0;
@@ -94,7 +94,7 @@ pub fn prices_at(low: &[u32], places: [u32; 24]) -> [u32; 24]
 
 // Whether a block keeps its limit: the sum of the low prices over its hours is at most the limit for a buy, that of the high prices at least the limit
 // for a sell.
-fn keeps_limit(side: u32, hours: u32, limit: u32, high: [u32; 24], low: [u32; 24]) -> bool
+fn keeps_limit(side: u32, hours: u32, limit: u32, high: &[u32], low: &[u32]) -> bool
 {
     if side == 0 {
         price_sum(low, hours) <= limit
@@ -104,7 +104,7 @@ fn keeps_limit(side: u32, hours: u32, limit: u32, high: [u32; 24], low: [u32; 24
 }
 
 // Whether each of the first count blocks that the set holds keeps its limit: a buy at the low prices, a sell at the high ones.
-fn keeps_limits(blocks: &[u32], count: usize, set: u32, high: [u32; 24], low: [u32; 24]) -> bool
+fn keeps_limits(blocks: &[u32], count: usize, set: u32, high: &[u32], low: &[u32]) -> bool
 {
     let mut i = count;
     while 0 < i {
@@ -148,7 +148,7 @@ fn decide(
         return best;
     }
     let prices = prices_at(low, places);
-    if !keeps_limits(blocks, count as usize, node.set, prices, prices) {
+    if !keeps_limits(blocks, count as usize, node.set, &prices, &prices) {
         return best;
     }
     let day = Day {
@@ -227,7 +227,7 @@ fn is_out(out: u32, k: usize) -> bool
 }
 
 // Whether undecided block i is out: it was before, or it misses its limit at the best prices within reach.
-fn is_ruled_out(blocks: &[u32], i: usize, was: bool, high: [u32; 24], low: [u32; 24]) -> bool
+fn is_ruled_out(blocks: &[u32], i: usize, was: bool, high: &[u32], low: &[u32]) -> bool
 {
     if was {
         return true;
@@ -236,14 +236,7 @@ fn is_ruled_out(blocks: &[u32], i: usize, was: bool, high: [u32; 24], low: [u32;
 }
 
 // The undecided blocks that are out, from the last one on to the one at number at, whose bit is the lowest.
-fn ruled_out(
-    blocks: &[u32],
-    count: usize,
-    at: usize,
-    out: u32,
-    high: [u32; 24],
-    low: [u32; 24],
-) -> u32
+fn ruled_out(blocks: &[u32], count: usize, at: usize, out: u32, high: &[u32], low: &[u32]) -> u32
 {
     let mut r: u32 = 0;
     let mut i = count;
@@ -444,12 +437,12 @@ fn judge(
     }
     let high = prices_at(low, from);
     let lowest = prices_at(low, to);
-    if !keeps_limits(blocks, at, node.set, high, lowest) {
+    if !keeps_limits(blocks, at, node.set, &high, &lowest) {
         return drop;
     }
     Judged {
         dropped: false,
-        out: ruled_out(blocks, count as usize, at, out, high, lowest),
+        out: ruled_out(blocks, count as usize, at, out, &high, &lowest),
     }
 }
 

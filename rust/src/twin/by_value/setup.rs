@@ -216,7 +216,7 @@ fn block_columns(
             hours[i],
             quantities[i],
             limit,
-            price_sum(root, hours[i]),
+            price_sum(&root, hours[i]),
         );
         columns = more;
         i += 1;
@@ -350,7 +350,7 @@ fn added_places(
     let mut places = sum;
     let mut i: usize = 0;
     while i < count {
-        let moves = limits[i] <= price_sum(root, hours[i]);
+        let moves = limits[i] <= price_sum(&root, hours[i]);
         let more = moved(places, hours[i], choose(moves, quantities[i], 0));
         places = more;
         i += 1;
@@ -495,7 +495,7 @@ fn gains_at(
     let mut gains: u64 = 0;
     let mut i: usize = 0;
     while i < count {
-        let sum = price_sum(root, hours[i]);
+        let sum = price_sum(&root, hours[i]);
         let gain = gain_of(sides[i], quantities[i], limits[i], sum);
         gains += gain as u64;
         i += 1;
