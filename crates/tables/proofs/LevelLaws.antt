@@ -114,7 +114,7 @@ module _ (sides prices quantities keys : List ℕ) (off : ℕ) where
   module _ (sold : ℕ) (sorted : KeysOf sides prices quantities keys sold) where
     -- what is traded so far is met: on to the next level
     met-at : (q i traded : ℕ) → traded + off + 1 ≤ sold + i → aboveIn q keys count ≤ traded → (h : ℕ) → DemandMet (at h i) q
-    met-at q i traded enough within h = omega (arith, sorted .aboveIs h q)
+    met-at q i traded enough within h = omega (arith, sorted .keyed .aboveIs h q)
 
     module _ (table : List ℕ) (price traded taken i price′ traded′ taken′ : ℕ) (f : Filled table price traded taken i)
         (enough : traded + off + 1 ≤ sold + i) (few : taken ≤ count) (next : NextLevel keys count traded taken price′ traded′ taken′) where
@@ -177,7 +177,7 @@ module _ (sides prices quantities keys : List ℕ) (off : ℕ) where
         (price < maxPrice → DemandMet (at h i) price) → sold + i < traded + off + 1 → unitPrice (at h i) ≡ price
     price-here zero traded i pos top covers h met k = absurd (omega arith)
     price-here (suc p) traded i pos top covers h met k =
-        unit-is (at h i) p top met (λ a d. omega (arith, sorted .aboveIs h p, covers p a (omega arith)))
+        unit-is (at h i) p top met (λ a d. omega (arith, sorted .keyed .aboveIs h p, covers p a (omega arith)))
 
     pub filled-run : (table table′ : List ℕ) (price traded taken i end : ℕ) → Filled table price traded taken i → i ≤ end →
         ((j : ℕ) → j < end → sold + j < traded + off + 1) → RunFilled table i end price table′ → Filled table′ price traded taken end
@@ -202,7 +202,7 @@ module _ (sides prices quantities keys : List ℕ) (off : ℕ) where
         taken ≤ count
     not-the-last table price traded taken i f small enough = elim (decLe taken count) [
       | yes k ↦ k
-      | no k ↦ absurd (omega (arith, f .lastOne (lt-of-not-le k), sorted .soldFits))
+      | no k ↦ absurd (omega (arith, f .lastOne (lt-of-not-le k), sorted .keyed .soldFits))
     ]
 
 -- ONE PRICE over a run of places

@@ -49,19 +49,29 @@ amountIn keys (suc n) = amountIn keys n + keyQuantity (getD keys n 0)
 abbrev pub Falling : List ℕ → ℕ → Type 0
 Falling keys n = (a b : ℕ) → a < b → b < n → getD keys b 0 ≤ getD keys a 0
 
--- A key is put among the first n, which fall.
+-- A key is put among the first n, which fall; those behind stay.
 pub record InsertedTo (before : List ℕ) (n key : ℕ) (after : List ℕ) : Type 0 where
   pub sameLength : length after ≡ length before
   pub falling : Falling after (n + 1)
   pub aboveIs : (p : ℕ) → aboveIn p after (n + 1) ≡ aboveIn p before n + keyAbove p key
+  pub behind : (i : ℕ) → n < i → getD after i 0 ≡ getD before i 0
 
--- The keys of the columns' steps, and what the sells sell together: what both sides trade above a price is what the buys buy above it and the sells do not
--- sell up to it, whatever hour the columns are of.
-pub record KeysOf (sides prices quantities keys : List ℕ) (sold : ℕ) : Type 0 where
-  pub falling : Falling keys (length sides)
+-- The first n keys in some order: they trade above each price what they did.
+pub record Reordered (before : List ℕ) (n : ℕ) (after : List ℕ) : Type 0 where
+  pub sameLength : length after ≡ length before
+  pub aboveIs : (p : ℕ) → aboveIn p after n ≡ aboveIn p before n
+
+-- The keys of the columns' steps in any order, and what the sells sell together: what both sides trade above a price is what the buys buy above it and the
+-- sells do not sell up to it, whatever hour the columns are of.
+pub record Keyed (sides prices quantities keys : List ℕ) (sold : ℕ) : Type 0 where
   pub aboveIs : (h p : ℕ) → buysAbove p (stepsFrom h sides prices quantities) + sold
       ≡ aboveIn p keys (length sides) + sellsTo p (stepsFrom h sides prices quantities)
   pub soldFits : sold ≤ 2048 * 2 ^ 32
+
+-- The same in falling order.
+pub record KeysOf (sides prices quantities keys : List ℕ) (sold : ℕ) : Type 0 where
+  pub falling : Falling keys (length sides)
+  pub keyed : Keyed sides prices quantities keys sold
 
 -- The price from 1 to the highest that is nearest to a number.
 abbrev pub capped : ℕ → ℕ
