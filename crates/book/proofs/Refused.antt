@@ -8,10 +8,10 @@ use native.Mathlib.Omega.{arith}
 use borrow.Author.Tests.{eq-eqb, ne-eqb, eqb-true, leb-true, not-false}
 use lib.Dec.{eqb, leb, ltb}
 use lib.ListN.{length}
-use Rattle.book.specs.Tests.{within}
+use Rattle.book.specs.Tests.{within, someIn}
 use Rattle.records.specs.Records.{recordCount}
 use Rattle.book.specs.Chains.{stepChain, blockChain}
-use Rattle.book.specs.Refusals.{wrongSize, wrongHead, brokenChain, wrongField, strayRecord, tooManyBlocks}
+use Rattle.book.specs.Refusals.{wrongSize, wrongHead, brokenChain, outOfRange, wrongField, strayRecord, tooManyBlocks}
 use Rattle.book.specs.Refusals.{firstOf, ownCauses, refusal}
 use Rattle.book.specs.Answers.{reading, numberOf}
 use Rattle.book.specs.declared.Reading.the-variants as reading-of
@@ -52,6 +52,15 @@ refusal-sized b head broken wrong short many n6 n5 n4 n3 n2 e h2 h3 h4 h5 h6 e6 
         (cond broken 3 (cond (wrongField b) 4 (cond (strayRecord b) 5 (cond (tooManyBlocks b) 6 0))))
     at true q = refl
     at false q = rw (stray-short b (count-bounds b e .0) q)
+
+-- Causes 4 and 5 from what is found along the two chains
+pub field-found : (b : List ℕ) (s t : Bool) → s ≡ someIn (stepChain b) (outOfRange b 1) → t ≡ someIn (blockChain b) (outOfRange b 2) → (s || t) ≡ wrongField b
+unfolding wrongField
+field-found b s t p q = rw (p, q)
+
+pub short-found : (b : List ℕ) (short : Bool) (s t n : ℕ) → short ≡ ltb (s + t + 1) n → s ≡ length (stepChain b) → t ≡ length (blockChain b) → n ≡ recordCount b
+    → short ≡ ltb (length (stepChain b) + length (blockChain b) + 1) (recordCount b)
+short-found b short s t n e p q r = e ∙ rw (p, q, r)
 
 -- A book with number 0 is accepted, with the lengths of its chains ..
 pub reading-accepted : (b : List ℕ) (s t : ℕ) → refusal b ≡ 0 → s ≡ length (stepChain b) → t ≡ length (blockChain b)

@@ -1,5 +1,5 @@
 // The chains (document 01, "The book in bytes"): each is followed from its first record to the zero that ends it, for at most R records,
-// in one loop for each question asked of it. Assumes nothing.
+// in a loop for each question asked of it, or two. Assumes nothing.
 ghost use mathlib.Core.Path.{_≡_};
 ghost use Prim.Native.Nat.{ℕ, _<_};
 ghost use lib.ListN.{length, getD};
@@ -59,23 +59,31 @@ pub fn is_broken(book: &[u8], kind: u8, rising: bool, first: u16) -> bool
     false
 }
 
-// Cause 4 along the chain of this kind that starts at first: some record has a field outside its range.
-pub fn has_outside_field(book: &[u8], kind: u8, first: u16) -> bool
-    ensures { λ r. ⌜ r ≡ someIn (chain (now (book .entry)) first) (outOfRange (now (book .entry)) kind) ⌝ }
+// How many records a chain has, and cause 4 along it: some record has a field outside its range.
+pub struct Survey {
+    pub length: u16,
+    pub outside: bool,
+}
+
+// The survey of the chain of this kind that starts at first.
+pub fn survey_of(book: &[u8], kind: u8, first: u16) -> Survey
+    ensures length { λ r. ⌜ r .length ≡ length (chain (now (book .entry)) first) ⌝ }
+    ensures outside { λ r. ⌜ r .outside ≡ someIn (chain (now (book .entry)) first) (outOfRange (now (book .entry)) kind) ⌝ }
 {
     let mut left = record_count(book);
     let mut i = first;
+    let mut length = 0;
+    let mut outside = false;
     while 0 < left {
         if i == 0 {
-            return false;
+            return Survey { length, outside };
         }
-        if is_out_of_range(book, kind, i) {
-            return true;
-        }
+        length += 1;
+        outside = outside | is_out_of_range(book, kind, i);
         i = next_of(book, i);
         left -= 1;
     }
-    false
+    Survey { length, outside }
 }
 
 // How many records of the chain that starts at first each portfolio has.

@@ -1,6 +1,6 @@
 -- `book::causes::refusal_of` meets its contract, by the law that cause 5 is a matter of lengths where 3 does not hold. Assumes nothing.
 use mathlib.Core.Path.{sym, _∙_}
-use Rattle.book.proofs.Refused.{refusal-size, refusal-sized}
+use Rattle.book.proofs.Refused.{refusal-size, refusal-sized, field-found, short-found}
 use borrow.Author.Needs.{needs}
 use Rattle.book.proofs.causes.refusal_of.Statement.{statement}
 use Rattle.book.proofs.causes.refusal_of.Tie as tie
@@ -17,11 +17,23 @@ has-wrong-head-requires c κs = search needs
 has-broken-chain-requires : tie.Need-has-broken-chain-requires
 has-broken-chain-requires c κs = search needs
 
-has-wrong-field-requires : tie.Need-has-wrong-field-requires
-has-wrong-field-requires c κs = search needs
+first-step-requires : tie.Need-first-step-requires
+first-step-requires c κs = search needs
 
-has-short-chains-requires : tie.Need-has-short-chains-requires
-has-short-chains-requires c κs = search needs
+survey-of-requires : tie.Need-survey-of-requires
+survey-of-requires c κs = search needs
+
+first-block-requires : tie.Need-first-block-requires
+first-block-requires c κs = search needs
+
+survey-of-requires-2 : tie.Need-survey-of-requires-2
+survey-of-requires-2 c κs = search needs
+
+record-count-requires : tie.Need-record-count-requires
+record-count-requires c κs = search needs
+
+are-short-requires : tie.Need-are-short-requires
+are-short-requires c κs = search needs
 
 has-too-many-blocks-requires : tie.Need-has-too-many-blocks-requires
 has-too-many-blocks-requires c κs = search needs
@@ -43,20 +55,18 @@ first-of-requires-5 c κs = search needs
 
 returns-2 : tie.Need-returns-2
 returns-2 c =
-    let broken = c .before in
-    let wrong = broken .before in
-    let short = wrong .before in
-    let many = short .before in
-    let h6 = many .before in
-    let h5 = h6 .before in
-    let h4 = h5 .before in
-    let h3 = h4 .before in
-    let h2 = h3 .before in
-    let sized = h2 .before in
+    let sized = c .before .before .before .before .before .before .before .before .before .before .before .before .before .before .before .before in
+    let step = c .before .before .before .before .before .before .before .before .before .before .before .before .before .first-step .ensures in
+    let block = c .before .before .before .before .before .before .before .before .before .before .before .first-block .ensures in
+    let steps = c .before .before .before .before .before .before .before .before .before .before .before .before .survey-of .ensures in
+    let blocks = c .before .before .before .before .before .before .before .before .before .before .survey-of2 .ensures in
     refusal-sized _ _ _ _ _ _ _ _ _ _ _ (sym (sized .before .has-wrong-size .ensures) ∙ sized .if1 .left)
-    (h2 .has-wrong-head .ensures) (h3 .has-broken-chain .ensures) (h4 .has-wrong-field .ensures)
-    (h5 .has-short-chains .ensures) (h6 .has-too-many-blocks .ensures)
-    (many .first-of .ensures) (short .first-of2 .ensures) (wrong .first-of3 .ensures) (broken .first-of4 .ensures) (c .first-of5 .ensures)
+    (c .before .before .before .before .before .before .before .before .before .before .before .before .before .before .before .has-wrong-head .ensures) (c .before .before .before .before .before .before .before .before .before .before .before .before .before .before .has-broken-chain .ensures)
+    (field-found _ _ _ (steps .1 ∙ rw step) (blocks .1 ∙ rw block))
+    (short-found _ _ _ _ _ (c .before .before .before .before .before .before .are-short .ensures) (steps .0 ∙ rw step) (blocks .0 ∙ rw block) (c .before .before .before .before .before .before .before .record-count .ensures))
+    (c .before .before .before .before .before .has-too-many-blocks .ensures)
+    (c .before .before .before .before .first-of .ensures) (c .before .before .before .first-of2 .ensures) (c .before .before .first-of3 .ensures) (c .before .first-of4 .ensures)
+    (c .first-of5 .ensures)
 
 pub refusal-of-spec : {M : Type 1} → statement M
 refusal-of-spec =
@@ -66,8 +76,12 @@ refusal-of-spec =
     returns
     has-wrong-head-requires
     has-broken-chain-requires
-    has-wrong-field-requires
-    has-short-chains-requires
+    first-step-requires
+    survey-of-requires
+    first-block-requires
+    survey-of-requires-2
+    record-count-requires
+    are-short-requires
     has-too-many-blocks-requires
     first-of-requires
     first-of-requires-2
