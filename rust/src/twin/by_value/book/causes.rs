@@ -3,8 +3,8 @@
 // records, and the first of them that holds. Assumes nothing.
 use crate::twin::by_value::book::chains::chain_length;
 use crate::twin::by_value::book::chains::counts_by_portfolio;
-use crate::twin::by_value::book::chains::has_outside_field;
 use crate::twin::by_value::book::chains::is_broken;
+use crate::twin::by_value::book::chains::survey_of;
 use crate::twin::by_value::book::ranges::is_within;
 use crate::twin::by_value::book::ranges::most_blocks_of_portfolio;
 use crate::twin::by_value::records::BLOCK;
@@ -40,22 +40,9 @@ fn has_broken_chain(book: &[u8]) -> bool
     broken_steps | broken_blocks
 }
 
-// 4: any other field, on either chain.
-fn has_wrong_field(book: &[u8]) -> bool
-{
-    let step = first_step(book);
-    let block = first_block(book);
-    let wrong_steps = has_outside_field(book, STEP, step);
-    let wrong_blocks = has_outside_field(book, BLOCK, block);
-    wrong_steps | wrong_blocks
-}
-
 // 5, where 3 does not hold: the records of the chains are then distinct, so one is missing just where head and chains are fewer than R.
-fn has_short_chains(book: &[u8]) -> bool
+fn are_short(steps: u16, blocks: u16, count: u16) -> bool
 {
-    let steps = chain_length(book, first_step(book));
-    let blocks = chain_length(book, first_block(book));
-    let count = record_count(book);
     (steps as u32) + (blocks as u32) + 1 < (count as u32)
 }
 
@@ -95,8 +82,10 @@ pub fn refusal_of(book: &[u8]) -> u8
     }
     let head = has_wrong_head(book);
     let broken = has_broken_chain(book);
-    let wrong = has_wrong_field(book);
-    let short = has_short_chains(book);
+    let steps = survey_of(book, STEP, first_step(book));
+    let blocks = survey_of(book, BLOCK, first_block(book));
+    let wrong = steps.outside | blocks.outside;
+    let short = are_short(steps.length, blocks.length, record_count(book));
     let many = has_too_many_blocks(book);
     let after = first_of(short, 5, first_of(many, 6, 0));
     first_of(head, 2, first_of(broken, 3, first_of(wrong, 4, after)))

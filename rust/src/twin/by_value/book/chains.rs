@@ -1,6 +1,6 @@
 // Written by `twin_source` from crates/book/src/chains.rt.
 // The chains (document 01, "The book in bytes"): each is followed from its first record to the zero that ends it, for at most R records,
-// in one loop for each question asked of it. Assumes nothing.
+// in a loop for each question asked of it, or two. Assumes nothing.
 use crate::twin::by_value::book::ranges::is_out_of_range;
 use crate::twin::by_value::records::kind_of;
 use crate::twin::by_value::records::next_of;
@@ -51,22 +51,30 @@ pub fn is_broken(book: &[u8], kind: u8, rising: bool, first: u16) -> bool
     false
 }
 
-// Cause 4 along the chain of this kind that starts at first: some record has a field outside its range.
-pub fn has_outside_field(book: &[u8], kind: u8, first: u16) -> bool
+// How many records a chain has, and cause 4 along it: some record has a field outside its range.
+#[derive(Clone, Copy)]
+pub struct Survey {
+    pub length: u16,
+    pub outside: bool,
+}
+
+// The survey of the chain of this kind that starts at first.
+pub fn survey_of(book: &[u8], kind: u8, first: u16) -> Survey
 {
     let mut left = record_count(book);
     let mut i = first;
+    let mut length = 0;
+    let mut outside = false;
     while 0 < left {
         if i == 0 {
-            return false;
+            return Survey { length, outside };
         }
-        if is_out_of_range(book, kind, i) {
-            return true;
-        }
+        length += 1;
+        outside = outside | is_out_of_range(book, kind, i);
         i = next_of(book, i);
         left -= 1;
     }
-    false
+    Survey { length, outside }
 }
 
 // How many records of the chain that starts at first each portfolio has.
