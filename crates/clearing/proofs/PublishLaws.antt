@@ -28,13 +28,13 @@ use Rattle.orders.proofs.PlaceLaws.{block-place}
 use Rattle.orders.proofs.BridgeLaws.{blocks-from-columns, block-count, day-blocks, prices-in-range, hours-in-range}
 use Rattle.pricing.specs.Curves.{tradersFrom}
 use Rattle.search.specs.Search.{ofHour}
-use Rattle.clearing.specs.Rows.{rowAt}
-use Rattle.clearing.specs.Result.{bytesOf, hourRows, recordRows, beside, blockRows, rowOf, resultBytes}
+use Rattle.result.specs.Rows.{rowAt}
+use Rattle.result.specs.Result.{bytesOf, hourRows, recordRows, beside, blockRows, rowOf, resultBytes}
 use Rattle.clearing.specs.Publish.{FirstSmall, TradersSized, HoursDone, WorthOf, RowsOf, stepsAt, salesAt, buysAt, inTurn, getsAt}
-use Rattle.clearing.proofs.RowLaws.{records-same}
+use Rattle.result.proofs.RowLaws.{records-same}
 use Rattle.clearing.proofs.HoursLaws.{small-take}
 use Rattle.search.proofs.BranchLaws.{sumTo-in, daySum-plain}
-use Rattle.clearing.proofs.RowsLaws.{
+use Rattle.result.proofs.RowsLaws.{
   hourAfterHour,
   publishedBlocks,
   chosen-is,
@@ -44,7 +44,7 @@ use Rattle.clearing.proofs.RowsLaws.{
   blockRows-length,
   blockRows-at,
 }
-use Rattle.clearing.proofs.PromiseLaws.{hours-length, hour-at, bytes-are}
+use Rattle.result.proofs.PromiseLaws.{hours-length, hour-at, bytes-are}
 
 -- THE BLOCKS' TRADES go by their sides, hours and quantities alone
 traders-same : (b : List ℕ) (h : ℕ) (records sides hours prices quantities : List ℕ) (set : List Bool) → length records ≡ length sides →

@@ -24,7 +24,7 @@ use Rattle.search.specs.Meaning.{DayOf}
 use Rattle.clearing.specs.Publish.{StepsSized, Publishable}
 use Rattle.search.specs.declared.Day as code-day
 use Rattle.search.proofs.BranchLaws.{counts}
-use Rattle.clearing.proofs.RowsLaws.{publishedBlocks}
+use Rattle.result.proofs.RowsLaws.{publishedBlocks}
 
 module _ (b : List ℕ) (a : Accepted b) where
   -- every hour of the outcome has a price

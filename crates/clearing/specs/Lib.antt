@@ -1,5 +1,2 @@
--- The clearing call: what is written, and what it promises. Definitions only.
-pub mod Result
-pub mod Promise
-pub mod Rows
+-- The publication out of columns. Definitions only. The result's bytes and the promise of the clearing are definitions of the crate `result`.
 pub mod Publish

@@ -21,7 +21,7 @@ use Rattle.orders.specs.declared.Blocks.{Blocks}
 use Rattle.pricing.specs.Curves.{tradersFrom}
 use Rattle.search.specs.Search.{Small, ofHour}
 use Rattle.search.specs.Meaning.{DayOf}
-use Rattle.clearing.specs.Result.{beside, resultBytes}
+use Rattle.result.specs.Result.{beside, resultBytes}
 use Rattle.search.specs.declared.Day as code-day
 
 -- Every one of the first n numbers of a list is at most m.

@@ -4,25 +4,19 @@ ghost use Prim.Native.Nat.{_+_, _*_};
 ghost use lib.ListN.{length};
 ghost use Rattle.records.specs.Records.{recordCount};
 ghost use Rattle.book.specs.Refusals.{Accepted};
-ghost use Rattle.clearing.specs.Promise.{Promise};
-ghost use Rattle.clearing.specs.Result.{resultBytes};
+ghost use Rattle.result.specs.Promise.{Promise};
+ghost use Rattle.result.specs.Result.{resultBytes};
 use crate::publish::publish;
 use book::Reading;
 use book::read;
 use orders::blocks_of;
 use orders::steps_of;
 use records::record_count;
+use result::Clearing;
 use search::find;
 use setup::prepare;
 
 mod publish; // the published set as the result
-mod result; // the result's bytes
-
-// What a clearing answers: the outcome is published, or refused with its number.
-pub enum Clearing {
-    Published,
-    Refused(u8),
-}
 
 // The outcome of an accepted book into a result of the right size.
 fn clear_accepted(book: &[u8], result: &mut [u8])

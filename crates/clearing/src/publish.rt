@@ -11,14 +11,14 @@ ghost use Rattle.pricing.specs.Curves.{Columns};
 ghost use Rattle.search.specs.Search.{Small, ofHour};
 ghost use Rattle.clearing.specs.Publish.{HourDone, HourPut, PartSized, SumsOf, WorthOf, HoursDone, StepsSized, TradersSized, Priced};
 ghost use Rattle.clearing.specs.Publish.{stepsAt, salesAt, buysAt, Buffer, RowsOf, PublishedFrom, PublishedIn, Publishable};
-use crate::result::block_values;
-use crate::result::with_rows;
-use crate::result::write_result;
 use orders::Blocks;
 use pricing::blocks::trades_of;
 use pricing::execution::amounts_at;
 use pricing::execution::share_out;
 use records::hour_count;
+use result::block_values;
+use result::with_rows;
+use result::write_result;
 use search::Day;
 
 // What quantities of steps buy, and what they are worth: the value of the buys and the cost of the sells.

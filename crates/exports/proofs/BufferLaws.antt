@@ -4,7 +4,7 @@ use mathlib.Core.Path.{_≡_}
 use mathlib.Core.List.{List}
 use lib.ListN.{length}
 use borrow.Author.Tests.{le-leb, lt-leb}
-use Rattle.clearing.specs.Rows.{splice}
+use Rattle.text.specs.Buffer.{splice}
 use Rattle.exports.specs.Parts.{bufferAfter}
 
 pub with-room : (bytes before after : List ℕ) → length bytes ≤ length before → after ≡ splice before 0 bytes → after ≡ bufferAfter bytes before

@@ -4,7 +4,7 @@ use mathlib.Core.Bool.{cond}
 use mathlib.Core.List.{List}
 use lib.Dec.{eqb, leb}
 use lib.ListN.{length}
-use Rattle.clearing.specs.Rows.{splice}
+use Rattle.text.specs.Buffer.{splice}
 use Rattle.pricing.specs.declared.HourAnswer.{HourAnswer}
 use Rattle.pricing.specs.declared.HourAnswer.the-variants.{Cleared, NotClearing, Refused}
 

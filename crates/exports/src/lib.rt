@@ -1,20 +1,19 @@
 // The public calls for programs in other languages: numbers and byte slices only. Assumes nothing.
 ghost use mathlib.Core.Path.{_≡_};
-ghost use Prim.Native.Nat.{_≤_};
 ghost use lib.ListN.{length};
 ghost use Rattle.book.specs.Refusals.{refusal};
-ghost use Rattle.clearing.specs.Promise.{clearRefusal, resultAfter};
-ghost use Rattle.clearing.specs.Rows.{splice};
+ghost use Rattle.result.specs.Promise.{clearRefusal, resultAfter, Demands};
 ghost use Rattle.pricing.specs.Answers.{hourAnswer};
 ghost use Rattle.sheet.specs.Sheet.{sheetOf};
 ghost use Rattle.exports.specs.Parts.{answerPart, bufferAfter};
 use book::Reading;
 use book::read;
-use clearing::Clearing;
 use clearing::clear;
 use pricing::HourAnswer;
 use pricing::price;
+use result::Clearing;
 use sheet::sheet;
+use text::put_text;
 
 // The book's refusal, 0 for an accepted book.
 #[no_mangle]
@@ -54,28 +53,17 @@ pub extern "C" fn auction_price(book: &[u8], set: u32, hour: u32, part: u32) -> 
     }
 }
 
-// The clearing's refusal, 0 where the outcome is published into the result.
+// The clearing's refusal, 0 where the outcome is published into the result. What is published meets demands 2 and 3.
 #[no_mangle]
 pub extern "C" fn auction_clear(book: &[u8], result: &mut [u8]) -> u32
     ensures answer { λ r. ⌜ r ≡ clearRefusal (now (book .entry)) (now (result .entry)) ⌝ }
     ensures bytes { λ _. ⌜ now (result .exit) ≡ resultAfter (now (book .entry)) (now (result .entry)) ⌝ }
+    ensures demands { λ r. ⌜ (r ≡ 0 → Demands (now (book .entry)) (now (result .exit))) ⌝ }
 {
     let answer = clear(book, result);
     match answer {
         Clearing::Refused(number) => number as u32,
         Clearing::Published => 0,
-    }
-}
-
-// Copies the bytes to the start of a buffer.
-fn copy(bytes: &[u8], out: &mut [u8])
-    requires { ⌜ length (now bytes) ≤ length (now out) ⌝ }
-    ensures { λ _. ⌜ now (out .exit) ≡ splice (now (out .entry)) 0 (now (bytes .entry)) ⌝ }
-{
-    let mut i: usize = 0;
-    while i < bytes.len() {
-        out[i] = bytes[i];
-        i += 1;
     }
 }
 
@@ -90,6 +78,6 @@ pub extern "C" fn auction_sheet(book: &[u8], out: &mut [u8]) -> u32
     if out.len() < count {
         return count as u32;
     }
-    copy(&bytes[..count], out);
+    put_text(out, 0, &bytes[..count]);
     count as u32
 }

@@ -16,10 +16,10 @@ use Rattle.book.specs.Refusals.{Accepted, refusal, firstOf, ownCauses}
 use Rattle.book.proofs.Accepted.{accepted-zero}
 use Rattle.book.proofs.Refused.{bounds, refusal-then}
 use Rattle.rules.specs.Orders.{Side, buy, sell, Block}
-use Rattle.rules.specs.Hour.{bySide, when, pricing}
+use Rattle.rules.specs.Hour.{bySide, when, Pricing, cleared, doesNotClear, pricing}
 use Rattle.rules.specs.Day.{stepsIn, taken, decisions, overBlocks, sells, buys}
 use Rattle.rules.specs.Contender.{PricesInRange}
-use Rattle.rules.proofs.Tests.{by-le, by-lt}
+use Rattle.rules.proofs.Tests.{by-le, by-lt, by-eq}
 use Rattle.rules.proofs.CurveLaws.{when-zero, when-le}
 use Rattle.rules.proofs.PricingLaws.{pricing-net}
 use Rattle.rules.proofs.ChainLaws.{prices-in}
@@ -29,7 +29,7 @@ use Rattle.orders.proofs.HourLaws.{hour-from-columns}
 use Rattle.orders.proofs.BridgeLaws.{prices-in-range, blocks-from-columns, block-count}
 use Rattle.orders.proofs.PlaceLaws.{block-place}
 use Rattle.pricing.specs.Curves.{bias, tradersFrom, TradesOf}
-use Rattle.pricing.specs.Answers.{answerFor, AnswerOf, blocksOf, NetOf, hourAnswered, wrongCall, priceCauses, hourAnswer}
+use Rattle.pricing.specs.Answers.{answerFor, AnswerOf, blocksOf, NetOf, hourAnswered, wrongCall, priceCauses, hourAnswer, numberOf}
 use Rattle.pricing.specs.declared.HourAnswer.{HourAnswer}
 use Rattle.pricing.specs.declared.HourAnswer.the-variants.{Refused}
 
@@ -215,3 +215,15 @@ module _ (b : List ℕ) (a : Accepted b) (set hour : ℕ) where
     where
       x : Bool
       x = leb (2 ^ length (blockChain b)) set
+
+-- THE NUMBER of an answer is that of the first cause that holds, 0 where the hour is answered
+pub number-answered : (b : List ℕ) (set hour : ℕ) → numberOf (hourAnswer b set hour) ≡ firstOf (priceCauses b set hour)
+unfolding hourAnswer
+number-answered b set hour =
+    let first = firstOf (priceCauses b set hour) in
+    by-eq (λ t. numberOf (cond t (answerFor (hourAnswered b set hour)) (Refused first)) ≡ first) first 0
+    (λ none. answered (hourAnswered b set hour) ∙ sym none) (λ _. refl)
+  where
+    answered : (p : Pricing) → numberOf (answerFor p) ≡ 0
+    answered (cleared low high price) = refl
+    answered doesNotClear = refl

@@ -1,5 +1,4 @@
 -- The laws that the functions' proofs cite; each function's own proof stands in its folder.
-pub mod TextLaws
 pub mod LineLaws
 pub mod SheetLaws
 pub mod WorkedSheetLaws

@@ -9,13 +9,13 @@ use native.Mathlib.Numerals.{add-one}
 use lib.ListN.{length, take, drop, getD, length-append, take-append-drop}
 use lib.Seq.{take-suc, getD-take}
 use Rattle.records.specs.Records.{number}
-use Rattle.clearing.proofs.ByteLaws.{splice-none}
+use Rattle.text.proofs.BufferLaws.{splice-none}
 use Rattle.orders.specs.Columns.{blockRecords}
-use Rattle.clearing.specs.Result.{welfareIn, priceIn, tradedIn}
-use Rattle.sheet.specs.Text.{text, field, semicolon, lineFeed, HasRoom, Put}
+use Rattle.result.specs.Result.{welfareIn, priceIn, tradedIn}
+use Rattle.text.specs.Text.{text, field, semicolon, lineFeed, HasRoom, Put}
 use Rattle.sheet.specs.Sheet.{hourLine, hourLines, blockLine}
 use Rattle.sheet.specs.Lines.{takenAt, blockLinesIn, linesIn}
-use Rattle.sheet.proofs.TextLaws.{room-is, room-first, room-then, put-then}
+use Rattle.text.proofs.TextLaws.{room-is, room-first, room-then, put-then}
 
 -- nothing is put
 pub put-none : (l : List ℕ) (at : ℕ) → Put l at [] l at

@@ -20,16 +20,16 @@ use Rattle.orders.specs.Bridge.{blockFrom, ordersOf, dayFrom}
 use Rattle.orders.specs.Columns.{blockRecords}
 use Rattle.orders.proofs.BridgeLaws.{day-blocks, prices-in-range}
 use Rattle.orders.proofs.RecordLaws.{blocks-all, block-records-fit}
-use Rattle.clearing.specs.Result.{resultBytes, welfareIn, priceIn, tradedIn, takenIn}
-use Rattle.clearing.specs.Promise.{resultAfter, Promise}
-use Rattle.clearing.specs.declared.Clearing.{Clearing}
-use Rattle.clearing.proofs.PromiseLaws.{hour-at, not-refused, result-says, result-welfare, result-length, taken-is}
-use Rattle.clearing.proofs.RowsLaws.{publishedBlocks, chosen-is}
-use Rattle.clearing.proofs.SizeLaws.{small-day}
-use Rattle.sheet.specs.Text.{text, decimalIn, decimal, field, lineFeed, HasRoom, Put}
+use Rattle.result.specs.Result.{resultBytes, welfareIn, priceIn, tradedIn, takenIn}
+use Rattle.result.specs.Promise.{resultAfter, Promise}
+use Rattle.result.specs.declared.Clearing.{Clearing}
+use Rattle.result.proofs.PromiseLaws.{hour-at, not-refused, result-says, result-welfare, result-length, taken-is}
+use Rattle.result.proofs.RowsLaws.{publishedBlocks, chosen-is}
+use Rattle.result.proofs.SizeLaws.{small-day}
+use Rattle.text.specs.Text.{text, decimalIn, decimal, field, lineFeed, HasRoom, Put}
 use Rattle.sheet.specs.Sheet.{hourLine, hourLines, ofHour, blockLine, blockLines, outcomeSheet, refusedLine, sheetOf}
 use Rattle.sheet.specs.Lines.{takenAt, blockLinesIn, linesIn}
-use Rattle.sheet.proofs.TextLaws.{few-digits, any-digits}
+use Rattle.text.proofs.TextLaws.{few-digits, any-digits}
 
 -- THE SAME LINES
 -- of hours with the same numbers

@@ -13,7 +13,7 @@ use Rattle.rules.specs.WorkedDays.{block12, baseDay, workedDays}
 use Rattle.orders.specs.Bridge.{blockFrom, ordersOf, dayFrom}
 use Rattle.orders.specs.WorkedBooks.{chained, bookOf, workedBooks, Worked}
 use Rattle.orders.proofs.WorkedBookLaws.{worked-books-hold}
-use Rattle.sheet.specs.Text.{text, decimalIn, decimal, field}
+use Rattle.text.specs.Text.{text, decimalIn, decimal, field}
 use Rattle.sheet.specs.Sheet.{hourLine, hourLines, ofHour, blockLine, blockLines, outcomeSheet, sheetOf}
 use Rattle.sheet.specs.WorkedSheet.{s5Book, s5Sheet}
 

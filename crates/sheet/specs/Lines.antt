@@ -5,8 +5,8 @@ use mathlib.Core.List.{List, [], _∷_, _++_}
 use lib.Dec.{eqb}
 use Rattle.records.specs.Records.{number, blockAt}
 use Rattle.orders.specs.Columns.{blockRecords}
-use Rattle.clearing.specs.Result.{welfareIn, priceIn, tradedIn, rowIn}
-use Rattle.sheet.specs.Text.{text, field, lineFeed}
+use Rattle.result.specs.Result.{welfareIn, priceIn, tradedIn, rowIn}
+use Rattle.text.specs.Text.{text, field, lineFeed}
 use Rattle.sheet.specs.Sheet.{hourLines, blockLine}
 
 -- The lines of the hours, with the numbers in a result.

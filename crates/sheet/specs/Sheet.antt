@@ -9,7 +9,7 @@ use Rattle.book.specs.Refusals.{refusal}
 use Rattle.rules.specs.Orders.{Block}
 use Rattle.rules.specs.Outcome.{Published, published}
 use Rattle.orders.specs.Bridge.{ordersOf, dayFrom}
-use Rattle.sheet.specs.Text.{text, field, semicolon, lineFeed}
+use Rattle.text.specs.Text.{text, field, semicolon, lineFeed}
 
 -- A line of an hour: hour, price, traded quantity.
 unfoldable pub hourLine : ℕ → ℕ → ℕ → List ℕ

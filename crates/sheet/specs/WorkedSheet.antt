@@ -3,7 +3,7 @@
 use Prim.Native.Nat.{ℕ}
 use mathlib.Core.List.{List, [], _∷_, _++_}
 use Rattle.orders.specs.WorkedBooks.{sellBlock, baseBook}
-use Rattle.sheet.specs.Text.{text}
+use Rattle.text.specs.Text.{text}
 
 -- The base book with block number 1 at 2900.
 abbrev pub s5Book : List ℕ

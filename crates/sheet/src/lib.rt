@@ -5,16 +5,15 @@ ghost use lib.ListN.{length};
 ghost use Rattle.book.specs.Answers.{numberOf};
 ghost use Rattle.book.specs.Refusals.{Accepted};
 ghost use Rattle.sheet.specs.Sheet.{sheetOf};
-ghost use Rattle.sheet.specs.Text.{Put};
+ghost use Rattle.text.specs.Text.{Put};
 use crate::lines::put_lines;
-use crate::text::put_line;
 use book::Reading;
 use book::read;
 use clearing::clear;
 use records::record_count;
+use text::put_line;
 
 mod lines; // the lines of a sheet
-mod text; // words and numbers put into a buffer
 
 // The sheet of an accepted book, from the start of the buffer. The result is cleared into the front of `space`.
 fn put_outcome(out: &mut [u8], book: &[u8], space: &mut [u8]) -> usize

@@ -1,17 +1,19 @@
 // The lines of a sheet, out of a book and the bytes of its result.
 ghost use mathlib.Core.Bool.{cond};
 ghost use mathlib.Core.Path.{_≡_};
-ghost use Rattle.clearing.specs.Result.{welfareIn};
 ghost use Rattle.sheet.specs.Lines.{takenAt, hourLinesIn, allBlockLines, linesIn};
 ghost use Rattle.sheet.specs.Sheet.{hourLine, blockLine};
-ghost use Rattle.sheet.specs.Text.{HasRoom, Put};
-use crate::text::put_field;
-use crate::text::put_line;
-use crate::text::put_text;
+ghost use Rattle.text.specs.Text.{HasRoom, Put};
 use orders::blocks_of;
 use records::block_at;
 use records::number_of;
-use records::u32_at;
+use result::price_in;
+use result::row_in;
+use result::traded_in;
+use result::welfare_in;
+use text::put_field;
+use text::put_line;
+use text::put_text;
 
 // The line of hour h.
 fn put_hour(out: &mut [u8], at: usize, h: u32, price: u32, traded: u32) -> usize
@@ -29,12 +31,12 @@ fn put_hours(out: &mut [u8], at: usize, result: &[u8]) -> usize
     ensures { λ r. ⌜ Put (now (out .entry)) at (hourLinesIn (now (result .entry))) (now (out .exit)) r ⌝ }
 {
     let mut end = at;
-    let mut h: u32 = 0;
+    let mut h: u8 = 0;
     while h < 24 {
         h += 1;
-        let price = u32_at(result, 8 * h);
-        let traded = u32_at(result, 8 * h + 4);
-        end = put_hour(out, end, h, price, traded);
+        let price = price_in(result, h);
+        let traded = traded_in(result, h);
+        end = put_hour(out, end, h as u32, price, traded);
     }
     end
 }
@@ -44,8 +46,7 @@ fn is_taken(book: &[u8], result: &[u8], k: u16) -> bool
     ensures { λ r. ⌜ r ≡ takenAt (now (book .entry)) (now (result .entry)) k ⌝ }
 {
     let block = block_at(book, k);
-    let row = u32_at(result, 196 + 4 * (k as u32));
-    row == block.quantity as u32
+    row_in(result, k) == block.quantity as u32
 }
 
 // 1 for true, 0 for false.
@@ -83,15 +84,6 @@ fn put_blocks(out: &mut [u8], at: usize, book: &[u8], result: &[u8]) -> usize
     end
 }
 
-// The welfare in a result.
-fn welfare_of(result: &[u8]) -> u64
-    ensures { λ r. ⌜ r ≡ welfareIn (now (result .entry)) ⌝ }
-{
-    let high = u32_at(result, 0);
-    let low = u32_at(result, 4);
-    (high as u64) * 4294967296 + (low as u64)
-}
-
 // All lines, from the start of the buffer.
 pub fn put_lines(out: &mut [u8], book: &[u8], result: &[u8]) -> usize
     requires { ⌜ HasRoom (now out) 0 (linesIn (now book) (now result)) ⌝ }
@@ -101,5 +93,5 @@ pub fn put_lines(out: &mut [u8], book: &[u8], result: &[u8]) -> usize
     let title_at = put_hours(out, hours_at, result);
     let blocks_at = put_text(out, title_at, b"block;taken\n");
     let welfare_at = put_blocks(out, blocks_at, book, result);
-    put_line(out, welfare_at, b"welfare;", welfare_of(result))
+    put_line(out, welfare_at, b"welfare;", welfare_in(result))
 }

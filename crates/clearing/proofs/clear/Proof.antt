@@ -4,7 +4,7 @@ use mathlib.Core.Path.{refl, sym, _∙_}
 use Rattle.book.specs.Refusals.{Accepted}
 use Rattle.book.proofs.Accepted.{accepted}
 use Rattle.book.proofs.Refused.{answer-accepted, answer-refused}
-use Rattle.clearing.proofs.PromiseLaws.{refused-book, refused-buffer, promise-refused, promise-published}
+use Rattle.result.proofs.PromiseLaws.{refused-book, refused-buffer, promise-refused, promise-published}
 use borrow.Author.Needs.{needs}
 use Rattle.clearing.proofs.clear.Statement.{statement}
 use Rattle.clearing.proofs.clear.Tie as tie

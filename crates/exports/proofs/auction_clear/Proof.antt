@@ -1,7 +1,7 @@
 -- `exports::auction_clear` meets its contract. Assumes nothing.
 use mathlib.Core.Path.{sym, ap, _∙_}
-use Rattle.clearing.specs.Promise.{numberOf}
-use Rattle.exports.proofs.NumberLaws.{number-clearing}
+use Rattle.result.specs.Promise.{numberOf}
+use Rattle.exports.proofs.NumberLaws.{number-clearing, refused-not-0}
 use borrow.Author.Needs.{needs}
 use Rattle.exports.proofs.auction_clear.Statement.{statement}
 use Rattle.exports.proofs.auction_clear.Tie as tie
@@ -24,16 +24,20 @@ same-length c = search needs
 returns : tie.Need-returns
 returns c =
     let k = c .before in
-    let p = k .before .before .before .before .clear .ensures in
-    (sym (ap numberOf (k .answer .given .1)) ∙ ap numberOf (p .answers) ∙ number-clearing _ _, p .bytes)
+    let p = k .before .before .before .before .clear .ensures in (
+      sym (ap numberOf (k .answer .given .1)) ∙ ap numberOf (p .answers) ∙ number-clearing _ _,
+      (p .bytes, λ none. absurd (refused-not-0 _ _ _ (sym (k .answer .given .1) ∙ p .answers) none)),
+    )
 
 same-length-2 : tie.Need-same-length-2
 same-length-2 c = search needs
 
 returns-2 : tie.Need-returns-2
 returns-2 c =
-    let p = c .before .before .before .before .clear .ensures in
-    (sym (ap numberOf (c .enum-told .given .1)) ∙ ap numberOf (p .answers) ∙ number-clearing _ _, p .bytes)
+    let p = c .before .before .before .before .clear .ensures in (
+      sym (ap numberOf (c .enum-told .given .1)) ∙ ap numberOf (p .answers) ∙ number-clearing _ _,
+      (p .bytes, λ _. p .demands (c .enum-told .given .1)),
+    )
 
 pub auction-clear-spec : {M : Type 1} → statement M
 auction-clear-spec =

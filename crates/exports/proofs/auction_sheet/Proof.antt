@@ -2,9 +2,9 @@
 use mathlib.Core.Path.{_≡_, _∙_}
 use native.Mathlib.Omega.{arith}
 use lib.ListN.{length}
-use Rattle.clearing.specs.Rows.{splice}
+use Rattle.text.specs.Buffer.{splice}
 use Rattle.sheet.specs.Sheet.{sheetOf}
-use Rattle.sheet.proofs.TextLaws.{put-counts, put-front}
+use Rattle.text.proofs.TextLaws.{room-from, put-counts, put-front}
 use Rattle.exports.proofs.BufferLaws.{with-room, without-room}
 use borrow.Author.Needs.{needs}
 use Rattle.exports.proofs.auction_sheet.Statement.{statement}
@@ -25,14 +25,14 @@ returns c =
 array-share-prefix-bytes : tie.Need-array-share-prefix-bytes
 array-share-prefix-bytes c = put-counts _ 0 _ _ _ (c .before .sheet .ensures .0) (c .before .sheet .ensures .1) .0
 
-slice-aggregate-copy : tie.Need-slice-aggregate-copy
-slice-aggregate-copy c =
+slice-aggregate-put-text : tie.Need-slice-aggregate-put-text
+slice-aggregate-put-text c =
     put-counts _ 0 _ _ _ (c .before .before .sheet .ensures .0) (c .before .before .sheet .ensures .1) .1
 
-copy-requires : tie.Need-copy-requires
-copy-requires c κs =
+put-text-requires : tie.Need-put-text-requires
+put-text-requires c κs =
     let sheet = c .before .before .before .sheet in
-    omega (arith, put-counts _ 0 _ _ _ (sheet .ensures .0) (sheet .ensures .1) .1, c .before .before .if1 .left)
+    room-from _ 0 _ (omega (arith, put-counts _ 0 _ _ _ (sheet .ensures .0) (sheet .ensures .1) .1, c .before .before .if1 .left))
 
 cast-result-2 : tie.Need-cast-result-2
 cast-result-2 c = search needs
@@ -46,8 +46,8 @@ returns-2 c =
     let start = sheet .before .before .before .before in
     let written = sheet .sheet .ensures .0 in
     let count : sheet .sheet .result ≡ length (sheetOf (start .args .book .now)) = omega (arith, written .ends) in
-    let copied : c .before .before .copy .last .1 .0 ≡ splice (start .args .out .now) 0 (sheetOf (start .args .book .now)) =
-    c .before .before .copy .ensures ∙ rw (put-front _ _ _ _ written) in
+    let copied : c .before .before .put-text .last .1 .0 ≡ splice (start .args .out .now) 0 (sheetOf (start .args .book .now)) =
+    c .before .before .put-text .ensures .written ∙ rw (put-front _ _ _ _ written) in
     (count, with-room _ _ _ (omega (arith, c .before .before .before .before .before .if1 .left)) copied)
 
 pub auction-sheet-spec : {M : Type 1} → statement M
@@ -58,8 +58,8 @@ auction-sheet-spec =
     cast-result
     returns
     array-share-prefix-bytes
-    slice-aggregate-copy
-    copy-requires
+    slice-aggregate-put-text
+    put-text-requires
     cast-result-2
     same-length
     returns-2)

@@ -6,9 +6,9 @@ use Rattle.book.specs.Answers.{numberOf}
 use Rattle.book.specs.Refusals.{refusal}
 use Rattle.book.proofs.Accepted.{accepted}
 use Rattle.book.proofs.Refused.{number-reading}
-use Rattle.sheet.specs.Text.{text}
+use Rattle.text.specs.Text.{text}
 use Rattle.sheet.specs.Sheet.{refusedLine}
-use Rattle.sheet.proofs.TextLaws.{put-as}
+use Rattle.text.proofs.TextLaws.{put-as}
 use Rattle.sheet.proofs.SheetLaws.{refused-room, sheet-refused, put-short}
 use borrow.Author.Needs.{needs}
 use Rattle.sheet.proofs.sheet.Statement.{statement}

@@ -7,7 +7,7 @@ use lib.Seq.{take-length}
 use Rattle.orders.specs.Columns.{blockRecords}
 use Rattle.orders.proofs.FrontLaws.{block-records-front}
 use Rattle.sheet.specs.Lines.{blockLinesIn}
-use Rattle.sheet.specs.Text.{Put}
+use Rattle.text.specs.Text.{Put}
 use Rattle.sheet.proofs.LineLaws.{put-none, no-blocks, block-room, block-put}
 use borrow.Author.Needs.{needs}
 use Rattle.sheet.proofs.lines.put_blocks.Statement.{statement}

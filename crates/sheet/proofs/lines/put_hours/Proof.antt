@@ -3,9 +3,9 @@ use Prim.Native.Nat.{_-_, _≤_}
 use mathlib.Core.Path.{_≡_, _∙_}
 use native.Mathlib.Omega.{arith}
 use lib.ListN.{length}
-use Rattle.clearing.specs.Result.{priceIn, tradedIn}
+use Rattle.result.specs.Result.{priceIn, tradedIn}
 use Rattle.sheet.specs.Sheet.{hourLines}
-use Rattle.sheet.specs.Text.{Put}
+use Rattle.text.specs.Text.{Put}
 use Rattle.sheet.proofs.LineLaws.{put-none, no-hours, hour-room, hour-put}
 use borrow.Author.Needs.{needs}
 use Rattle.sheet.proofs.lines.put_hours.Statement.{statement}
@@ -24,33 +24,25 @@ loop-holds c = (search needs, search needs, rw (no-hours _ _) (put-none _ _))
 add-h : tie.Need-add-h Inv-loop μ-loop
 add-h c = search needs
 
-mul-u32-at : tie.Need-mul-u32-at Inv-loop μ-loop
-mul-u32-at c = search needs
+price-in-requires : tie.Need-price-in-requires Inv-loop μ-loop
+price-in-requires c κs = search needs
 
-u32-at-requires : tie.Need-u32-at-requires Inv-loop μ-loop
-u32-at-requires c κs = search needs
+traded-in-requires : tie.Need-traded-in-requires Inv-loop μ-loop
+traded-in-requires c κs = search needs
 
-mul-u32-at-2 : tie.Need-mul-u32-at-2 Inv-loop μ-loop
-mul-u32-at-2 c = search needs
-
-add-u32-at : tie.Need-add-u32-at Inv-loop μ-loop
-add-u32-at c = search needs
-
-u32-at-requires-2 : tie.Need-u32-at-requires-2 Inv-loop μ-loop
-u32-at-requires-2 c κs = search needs
+cast-put-hour : tie.Need-cast-put-hour Inv-loop μ-loop
+cast-put-hour c = search needs
 
 put-hour-requires : tie.Need-put-hour-requires Inv-loop μ-loop
-unfolding priceIn tradedIn
 put-hour-requires c κs =
     let start = c .before .before .before .before .before .before .before in
     let loop = c .before .before .before .before .loop in
-    rw (c .before .before .u32-at .ensures, c .before .u32-at2 .ensures) (hour-room _ _ _ _ (loop .h) (search needs) (start .pre) _ _ (loop .inv .2))
+    rw (c .before .before .price-in .ensures, c .before .traded-in .ensures) (hour-room _ _ _ _ (loop .h) (search needs) (start .pre) _ _ (loop .inv .2))
 
 loop-less : tie.Need-loop-less Inv-loop μ-loop
 loop-less c = search needs
 
 loop-again : tie.Need-loop-again Inv-loop μ-loop
-unfolding priceIn tradedIn
 loop-again c =
     let line = c .before .before in
     let traded = line .before .before in
@@ -60,7 +52,7 @@ loop-again c =
       search needs,
       line .put-hour .kept .0 ∙ loop .loop .inv .1,
       hour-put _ _ _ _ (loop .loop .h) (search needs) (start .pre) _ _ (loop .loop .inv .2) _ _
-          (rw (price .u32-at .ensures, traded .u32-at2 .ensures) at (line .put-hour .ensures)),
+          (rw (price .price-in .ensures, traded .traded-in .ensures) at (line .put-hour .ensures)),
     )
 
 same-length : tie.Need-same-length Inv-loop μ-loop
@@ -79,11 +71,9 @@ put-hours-spec =
     μ-loop
     loop-holds
     add-h
-    mul-u32-at
-    u32-at-requires
-    mul-u32-at-2
-    add-u32-at
-    u32-at-requires-2
+    price-in-requires
+    traded-in-requires
+    cast-put-hour
     put-hour-requires
     loop-less
     loop-again

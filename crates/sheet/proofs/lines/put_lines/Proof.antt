@@ -1,5 +1,5 @@
 -- `put_lines` meets its contract: five parts, one after another. Assumes nothing.
-use Rattle.sheet.specs.Text.{text}
+use Rattle.text.specs.Text.{text}
 use Rattle.sheet.proofs.LineLaws.{room-heading, room-hours, room-title, room-blocks, room-welfare, put-all}
 use borrow.Author.Needs.{needs}
 use Rattle.sheet.proofs.lines.put_lines.Statement.{statement}
@@ -42,8 +42,8 @@ put-blocks-requires c κs =
 slice-aggregate-put-line : tie.Need-slice-aggregate-put-line
 slice-aggregate-put-line c = search needs
 
-welfare-of-requires : tie.Need-welfare-of-requires
-welfare-of-requires c κs = search needs
+welfare-in-requires : tie.Need-welfare-in-requires
+welfare-in-requires c κs = search needs
 
 put-line-requires : tie.Need-put-line-requires
 unfolding text
@@ -53,7 +53,7 @@ put-line-requires c κs =
     let hours = title .before .before .before .before .before in
     let heading = hours .before .before .before .before in
     let start = heading .before .before .before .before .before .before in
-    rw (c .welfare-of .ensures)
+    rw (c .welfare-in .ensures)
     (room-welfare _ _ _ (start .pre) _ _ (heading .put-text .ensures) _ _ (hours .put-hours .ensures) _ _ (title .put-text2 .ensures)
     _ _ (blocks .put-blocks .ensures))
 
@@ -70,7 +70,7 @@ returns c =
     let heading = hours .before .before .before .before in
     let start = heading .before .before .before .before .before .before in
     put-all _ _ _ (start .pre) _ _ (heading .put-text .ensures) _ _ (hours .put-hours .ensures) _ _ (title .put-text2 .ensures)
-    _ _ (blocks .put-blocks .ensures) _ _ (rw (line .before .welfare-of .ensures) at (line .put-line .ensures))
+    _ _ (blocks .put-blocks .ensures) _ _ (rw (line .before .welfare-in .ensures) at (line .put-line .ensures))
 
 pub put-lines-spec : {M : Type 1} → statement M
 put-lines-spec =
@@ -83,7 +83,7 @@ put-lines-spec =
     put-text-requires-2
     put-blocks-requires
     slice-aggregate-put-line
-    welfare-of-requires
+    welfare-in-requires
     put-line-requires
     same-length
     returns)

@@ -1,0 +1,8 @@
+-- Laws of the result: its bytes, and the promise read off them.
+pub mod ByteLaws
+pub mod RowLaws
+pub mod ReadLaws
+pub mod SizeLaws
+pub mod RowsLaws
+pub mod PromiseLaws
+pub mod WorkedResultLaws

@@ -1,0 +1,119 @@
+// The result of a clearing: the answer, and the result's bytes: 8 bytes welfare, the price and the traded quantity of each hour, the row of each record.
+// Numbers stand high byte first. What a clearing promises of them is in specs/Promise. Assumes nothing.
+ghost use mathlib.Core.Bool.{cond};
+ghost use mathlib.Core.List.{_++_};
+ghost use mathlib.Core.Path.{_≡_};
+ghost use Prim.Native.Nat.{ℕ, _+_, _-_, _*_, _/_, _%_, _^_, _<_, _≤_};
+ghost use lib.Dec.{eqb};
+ghost use lib.ListN.{length, getD};
+ghost use Rattle.result.specs.Result.{bytesOf, hourRows, recordRows, beside};
+ghost use Rattle.result.specs.Rows.{rowAt};
+ghost use Rattle.text.specs.Buffer.{splice};
+
+mod numbers; // the numbers of a result read again
+
+pub use numbers::price_in;
+pub use numbers::row_in;
+pub use numbers::traded_in;
+pub use numbers::welfare_in;
+
+// What a clearing answers: the outcome is published, or refused with its number.
+pub enum Clearing {
+    Published,
+    Refused(u8),
+}
+
+// Four bytes from `at` on.
+fn put32(result: &mut [u8], at: usize, value: u32)
+    requires { ⌜ at + 4 ≤ length (now result) ⌝ }
+    ensures { λ _. ⌜ now (result .exit) ≡ splice (now (result .entry)) at (bytesOf 4 value) ⌝ }
+{
+    result[at] = (value / 16777216 % 256) as u8;
+    result[at + 1] = (value / 65536 % 256) as u8;
+    result[at + 2] = (value / 256 % 256) as u8;
+    result[at + 3] = (value % 256) as u8;
+}
+
+// Eight bytes from `at` on.
+fn put64(result: &mut [u8], at: usize, value: u64)
+    requires { ⌜ at + 8 ≤ length (now result) ⌝ }
+    ensures { λ _. ⌜ now (result .exit) ≡ splice (now (result .entry)) at (bytesOf 8 value) ⌝ }
+{
+    put32(result, at, (value / 4294967296) as u32);
+    put32(result, at + 4, (value % 4294967296) as u32);
+}
+
+// The rows of the hours: hour h + 1 from byte 8 + 8 * h on.
+fn put_hours(result: &mut [u8], prices: [u32; 24], quantities: [u32; 24])
+    requires { ⌜ 200 ≤ length (now result) ⌝ }
+    ensures { λ _. ⌜ now (result .exit) ≡ splice (now (result .entry)) 8 (hourRows prices quantities) ⌝ }
+{
+    let mut h: usize = 0;
+    while h < 24 {
+        put32(result, 8 + 8 * h, prices[h]);
+        put32(result, 8 + 8 * h + 4, quantities[h]);
+        h += 1;
+    }
+}
+
+// The rows of the records 1 to count - 1: record k from byte 196 + 4 * k on.
+fn put_records(result: &mut [u8], count: usize, rows: &[u32; 2048])
+    requires { ⌜ (1 ≤ count) × (count ≤ 2048) × (length (now result) ≡ 196 + 4 * count) ⌝ }
+    ensures { λ _. ⌜ now (result .exit) ≡ splice (now (result .entry)) 200 (recordRows (rowAt (now (rows .entry))) (count - 1) 1) ⌝ }
+{
+    let mut k: usize = 1;
+    while k < count {
+        put32(result, 196 + 4 * k, rows[k]);
+        k += 1;
+    }
+}
+
+// The whole result of a book of `count` records, the head's among them.
+pub fn write_result(
+    result: &mut [u8],
+    count: usize,
+    welfare: u64,
+    prices: [u32; 24],
+    quantities: [u32; 24],
+    rows: &[u32; 2048],
+)
+    requires { ⌜ (1 ≤ count) × (count ≤ 2048) × (length (now result) ≡ 196 + 4 * count) ⌝ }
+    ensures { λ _. ⌜ now (result .exit) ≡ bytesOf 8 welfare ++ (hourRows prices quantities ++ recordRows (rowAt (now (rows .entry))) (count - 1) 1) ⌝ }
+{
+    put64(result, 0, welfare);
+    put_hours(result, prices, quantities);
+    put_records(result, count, rows);
+}
+
+// The rows with each value at its record, from the last to the first, so that a record's first value stays.
+pub fn with_rows(rows: [u32; 2048], records: &[u16], values: &[u32]) -> [u32; 2048]
+    requires { ⌜ length (now records) ≡ length (now values) ⌝ }
+    ensures { λ r. ⌜ ((k : ℕ) → k < 2048 → getD r k 0 ≡ beside k (now (records .entry)) (now (values .entry)) (getD rows k 0)) ⌝ }
+{
+    let mut filled = rows;
+    let mut i = records.len();
+    while 0 < i {
+        i -= 1;
+        let k = records[i] as usize;
+        if k < 2048 {
+            filled[k] = values[i];
+        }
+    }
+    filled
+}
+
+// The row of each block: its quantity if its bit of the set is 1, else 0.
+pub fn block_values(count: usize, quantities: &[u32], set: u32) -> [u32; 32]
+    requires { ⌜ (count ≤ length (now quantities)) × (count ≤ 32) ⌝ }
+    ensures { λ r. ⌜ ((i : ℕ) → i < count → getD r i 0 ≡ cond (eqb (set / 2 ^ i % 2) 1) (getD (now (quantities .entry)) i 0) 0) ⌝ }
+{
+    let mut values = [0u32; 32];
+    let mut i: usize = 0;
+    while i < count {
+        if (set >> i) % 2 == 1 {
+            values[i] = quantities[i];
+        }
+        i += 1;
+    }
+    values
+}
