@@ -1,5 +1,5 @@
 -- M9, the definition's side: the best of all sets is lawful, no lawful set has more welfare, and against one of equal welfare it holds the
--- lowest-numbered block in which they differ. These facts determine it. Assumes nothing.
+-- lowest-numbered block in which they differ. These facts determine it, and so does the statement of demand 3: `best-unique`. Assumes nothing.
 use Prim.Native.Nat.{ℕ, zero, suc, _≤_, _<_}
 use mathlib.Core.Bool.{Bool, true, false, cond, _&&_}
 use mathlib.Core.Path.{_≡_, refl, ap, sym, _∙_}
@@ -10,7 +10,7 @@ use lib.Dec.{leb}
 use lib.ListN.{length, replicate, length-replicate}
 use Rattle.rules.specs.Day.{Day, lawful, welfare}
 use Rattle.rules.specs.Outcome.{allSets, prefer, bestOf, outcome}
-use Rattle.rules.specs.Contender.{HoldsLowest}
+use Rattle.rules.specs.Contender.{HoldsLowest, BeatsAll}
 use Rattle.rules.proofs.Tests.{by-test, by-le, clash}
 
 pub holds-same : (a : List Bool) → HoldsLowest a a
@@ -169,3 +169,11 @@ module _ (day : Day) (empty : lawful day (replicate (length (day .blocks)) false
 
   pub outcome-is : (set : List Bool) → FirstBest day set → outcome day ≡ set
   outcome-is set f = first-unique day (outcome day) set outcome-first f
+
+-- DEMAND 3 SETTLES WHAT IS PUBLISHED: two outcomes that beat all have one set and one welfare
+pub best-unique : (day : Day) (a b : List Bool) (qa qb : List ℕ) (wa wb : ℕ) → BeatsAll day a qa wa → BeatsAll day b qb wb → (a ≡ b) × (wa ≡ wb)
+best-unique day a b qa qb wa wb f g =
+    let same : wa ≡ wb = omega (arith, f .counted, g .counted, f .noneAbove b qb (g .contends), g .noneAbove a qa (f .contends)) in
+    let ab = f .onTie b qb (g .contends) (omega (arith, g .counted)) in
+    let ba = g .onTie a qa (f .contends) (omega (arith, f .counted)) in
+    (holds-both a b (f .contends .ofBlocks ∙ sym (g .contends .ofBlocks)) ab ba, same)

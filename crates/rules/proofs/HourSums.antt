@@ -123,3 +123,19 @@ module _ (hours : ℕ) where
   everyHour-all t f =
       allTo-all 24 _ (λ h a b. by-eq (λ u. (u || t h) ≡ true) (weight hours h) 0 (λ z. refl)
       (λ z. f h record { first = a; last = b; counted = omega arith }))
+
+-- A FACT OF EACH HOUR, hour by hour: it is computed where it stands
+abbrev pub HourByHour : ℕ → (ℕ → Type 0) → Type 0
+HourByHour zero P = Unit {0}
+HourByHour (suc n) P = HourByHour n P × P (suc n)
+
+hour-of : (n : ℕ) (P : ℕ → Type 0) → HourByHour n P → (h : ℕ) → 1 ≤ h → h ≤ n → P h
+hour-of zero P a h f l = absurd (omega arith)
+hour-of (suc n) P a h f l = go (le-suc-iff .0 l) (λ k. hour-of n P (a .0) h f k)
+  where
+    go : (h ≤ n) ⊎ (h ≡ suc n) → (h ≤ n → P h) → P h
+    go (inl k) before = before k
+    go (inr k) before = rw k (a .1)
+
+pub each-hour : {hours : ℕ} (P : ℕ → Type 0) → HourByHour 24 P → (h : ℕ) → Counts hours h → P h
+each-hour P a h c = hour-of 24 P a h (c .first) (c .last)

@@ -3,9 +3,13 @@ pub mod Edges
 pub mod Tests
 pub mod CurveLaws
 pub mod PricingLaws
+pub mod CertifiedHours
+pub mod HourSums
+pub mod ContenderCases
+pub mod NotBest
+pub mod OutcomeRulesCases
 pub mod ExecutionLaws
 pub mod DualityLaws
-pub mod HourSums
 pub mod ChainLaws
 pub mod DayLaws
 pub mod BestLaws

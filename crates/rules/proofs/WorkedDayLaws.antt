@@ -1,5 +1,4 @@
--- THE WORKED DAYS HOLD, from the rules alone. The rules' pricing walks 300000 prices, which the checker never does: a guess by bisection is tested
--- by M4's certificate, and the rule itself stands where the test fails. So the guess needs no proof, and the rest computes. Assumes nothing.
+-- THE WORKED DAYS HOLD, from the rules alone: hours are priced by certificate, and the rest computes. Assumes nothing.
 use Prim.Native.Nat.{ℕ, zero, suc, _+_, _-_, _/_}
 use mathlib.Core.Bool.{Bool, true, false, cond, _&&_, _||_, not, false≢true}
 use mathlib.Core.Path.{_≡_, refl, ap, _∙_, fun-ext}
@@ -61,89 +60,8 @@ use Rattle.rules.specs.Day.{
 }
 use Rattle.rules.specs.Outcome.{allSets, bestOf, outcome, forHours, Published, published}
 use Rattle.rules.specs.Contender.{PricesInRange}
-use Rattle.rules.specs.WorkedDays.{PriceFact, WorkedDay, workedDays, Answered, Hold}
-use Rattle.rules.proofs.Tests.{by-test}
-use Rattle.rules.proofs.PricingLaws.{Clearable, pricing-certified, not-clearing}
-
--- THE GUESS: the least of lo to hi at which the test passes, if it passes from there on
-bisect : (ℕ → Bool) → ℕ → ℕ → ℕ → ℕ
-bisect t zero lo hi = hi
-bisect t (suc n) lo hi =
-    let mid = (lo + hi) / 2 in
-    elim (t mid) [ true ↦ bisect t n lo mid | false ↦ bisect t n (suc mid) hi ]
-
-low : Hour → ℕ
-low h = bisect (λ p. leb (buysAbove p (h .steps) + h .blockBuys) (sellsTo p (h .steps) + h .blockSales)) 19 1 maxPrice
-
-high : Hour → ℕ
-high h = bisect (λ p. leb (buysAbove p (h .steps) + h .blockBuys + 1) (sellsTo p (h .steps) + h .blockSales)) 19 1 maxPrice
-
--- THE TESTS: several at once
-abbrev all : List Bool → Bool
-all [] = true
-all (t ∷ l) = t && all l
-
-abbrev AllTrue : List Bool → Type 0
-AllTrue [] = Unit {0}
-AllTrue (t ∷ l) = (t ≡ true) × AllTrue l
-
-all-true : (l : List Bool) → all l ≡ true → AllTrue l
-all-true [] e = tt
-all-true (true ∷ l) e = (refl, all-true l e)
-all-true (false ∷ l) e = absurd (false≢true e)
-
-inRange : List Step → List Bool
-inRange [] = []
-inRange (s ∷ l) = leb 1 (s .price) ∷ leb (s .price) maxPrice ∷ inRange l
-
-in-range : (l : List Step) → AllTrue (inRange l) → PricesInRange l
-unfolding inRange
-in-range [] t = tt
-in-range (s ∷ l) t = (leb-true _ _ (t .0), leb-true _ _ (t .1 .0), in-range l (t .1 .1))
-
--- of a certificate l, u
-abbrev certified : Hour → ℕ → ℕ → List Bool
-certified h l u =
-    all (inRange (h .steps)) ∷ leb 1 l ∷ leb l u ∷ leb u maxPrice ∷ clears h l ∷ clears h u
-    ∷ (eqb l 1 || not (clears h (l - 1))) ∷ (eqb u maxPrice || not (clears h (u + 1))) ∷ []
-
--- of an hour that does not clear
-abbrev unclearable : Hour → List Bool
-unclearable h =
-    all (inRange (h .steps))
-    ∷ not (leb (h .blockSales) (allBuys (h .steps) + h .blockBuys) && leb (h .blockBuys) (allSells (h .steps) + h .blockSales)) ∷ []
-
--- the tested guess
-tested : Hour → Pricing
-tested h =
-    let l = low h in
-    let u = high h in
-    elim (all (certified h l u)) [
-      | true ↦ cleared l u (middle l u)
-      | false ↦ elim (all (unclearable h)) [ true ↦ doesNotClear | false ↦ pricing h ]
-    ]
-
-not-clearable : (h : Hour) →
-    not (leb (h .blockSales) (allBuys (h .steps) + h .blockBuys) && leb (h .blockBuys) (allSells (h .steps) + h .blockSales)) ≡ true → ¬ Clearable h
-not-clearable h e c = false≢true (rw (le-leb _ _ (c .buysSuffice), le-leb _ _ (c .sellsSuffice)) at e)
-
-tested-is : (h : Hour) → pricing h ≡ tested h
-unfolding tested
-tested-is h =
-    by-test
-    (λ t. pricing h ≡ (elim t as (λ _. Pricing) [
-      | true ↦ cleared (low h) (high h) (middle (low h) (high h))
-      | false ↦ elim (all (unclearable h)) [ true ↦ doesNotClear | false ↦ pricing h ]
-    ]))
-    (all (certified h (low h) (high h)))
-    (λ e. let f = all-true (certified h (low h) (high h)) e in
-    pricing-certified h (in-range (h .steps) (all-true (inRange (h .steps)) (f .0))) (low h) (high h)
-    (leb-true _ _ (f .1 .0)) (leb-true _ _ (f .1 .1 .0)) (leb-true _ _ (f .1 .1 .1 .0))
-    (f .1 .1 .1 .1 .0) (f .1 .1 .1 .1 .1 .0) (f .1 .1 .1 .1 .1 .1 .0) (f .1 .1 .1 .1 .1 .1 .1 .0))
-    (λ _. by-test (λ t. pricing h ≡ (elim t as (λ _. Pricing) [ true ↦ doesNotClear | false ↦ pricing h ])) (all (unclearable h))
-    (λ e. let f = all-true (unclearable h) e in
-    not-clearing h (in-range (h .steps) (all-true (inRange (h .steps)) (f .0))) .1 (not-clearable h (f .1 .0)))
-    (λ _. refl))
+use Rattle.rules.specs.WorkedDays.{PriceFact, WorkedDay, workedDays, furtherDays, Answered, Hold}
+use Rattle.rules.proofs.CertifiedHours.{tested, tested-is, computed}
 
 -- WHAT IS PUBLISHED, with the pricing of an hour as an argument: the text of the definitions
 module _ (answer : Hour → Pricing) where
@@ -215,11 +133,15 @@ hold : (l : List WorkedDay) → HoldTested l → Hold l
 hold [] h = tt
 hold (d ∷ l) h = (published-tested (d .orders) ∙ h .0, answered (d .orders) (d .prices) (h .1), hold l (h .2))
 
+-- all that the table computes through
+unfoldable rowsCompute : Unit {0}
+unfolding computed publishedAt bestAt lawfulAt welfareAt executedAt pricesAt executedOf allSets forHours execution buyAmount sellAmount shares
+    inStepOrder
+rowsCompute = tt
+
 -- S1 TO S10
 pub worked-days-hold : Hold workedDays
-unfolding workedDays publishedAt bestAt lawfulAt welfareAt executedAt pricesAt tested low high bisect inRange dayOf canonical stepsOf executedOf
-    allSets forHours allowed everyHour allTo weight sumTo daySum keepsLimit priceSum hourCount clears buysAbove buysFrom sellsTo sellsBelow
-    execution buyAmount sellAmount shares inStepOrder dayValue dayCost stepsValue stepsCost blocksValue blocksCost bought
+unfolding rowsCompute workedDays
 worked-days-hold =
     hold workedDays (
       refl,
@@ -244,5 +166,19 @@ worked-days-hold =
             ),
           ),
         ),
+      ),
+    )
+
+-- THE FURTHER DAYS
+pub further-days-hold : Hold furtherDays
+unfolding rowsCompute furtherDays
+further-days-hold =
+    hold furtherDays (
+      refl,
+      (refl, (refl, tt)),
+      (
+        refl,
+        (refl, (refl, tt)),
+        (refl, (refl, tt), (refl, (refl, (refl, (refl, tt))), (refl, tt, (refl, (refl, (refl, (refl, tt))), tt)))),
       ),
     )

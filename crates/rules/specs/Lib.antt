@@ -7,3 +7,4 @@ pub mod Outcome
 pub mod Contender
 pub mod OutcomeRules
 pub mod WorkedDays
+pub mod Cases

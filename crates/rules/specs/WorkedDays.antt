@@ -1,5 +1,5 @@
 -- THE WORKED DAYS S1 to S10 (document 01, "Days to check by hand") as one table: each day's orders, all that is published of them, and the pricing
--- facts told of S2 and S6. `proofs/WorkedDayLaws.antt` proves the whole table. Definitions only. Assumes nothing.
+-- facts told of S2 and S6; and a second table of further days. `proofs/WorkedDayLaws.antt` proves both. Definitions only. Assumes nothing.
 use Prim.Native.Nat.{ℕ, _-_, _/_, _%_, _^_}
 use mathlib.Core.Bool.{Bool, true, false}
 use mathlib.Core.Path.{_≡_}
@@ -7,7 +7,7 @@ use mathlib.Core.List.{List, [], _∷_, _++_}
 use lib.Dec.{eqb}
 use lib.ListN.{replicate}
 use Rattle.rules.specs.Orders.{Side, buy, sell, Step, Order, Block, Orders}
-use Rattle.rules.specs.Hour.{Pricing, cleared, pricing}
+use Rattle.rules.specs.Hour.{Pricing, cleared, doesNotClear, pricing}
 use Rattle.rules.specs.Day.{dayOf, taken, hourOf}
 use Rattle.rules.specs.Outcome.{Published, published}
 
@@ -19,6 +19,10 @@ step number side hour quantity price =
 -- Hour h is among hours given as bits, hour h with the weight 2 to the power h − 1.
 abbrev pub hoursAs : ℕ → ℕ → Bool
 hoursAs bits h = eqb (bits / 2 ^ (h - 1) % 2) 1
+
+-- A block: number, side, hours as bits, quantity, price.
+abbrev pub block : ℕ → Side → ℕ → ℕ → ℕ → Block
+block number side bits quantity price = record { number = number; side = side; price = price; quantity = quantity; runs = hoursAs bits }
 
 -- A sell block of 50 over hours 1 and 2 (bits 3): number, price.
 abbrev pub block12 : ℕ → ℕ → Block
@@ -110,6 +114,84 @@ workedDays =
     ∷ hourDay (step 1 buy 1 100 300000 ∷ step 2 sell 1 60 2000 ∷ []) 300000 60 (60 ∷ 60 ∷ []) 17880000
     ∷ hourDay (step 1 sell 1 100 1 ∷ []) 1 0 (0 ∷ []) 0
     ∷ hourDay (step 1 sell 1 60 3000 ∷ step 2 sell 1 60 3000 ∷ step 3 buy 1 100 5000 ∷ []) 3000 100 (60 ∷ 40 ∷ 100 ∷ []) 200000
+    ∷ []
+
+-- FURTHER DAYS: more buy blocks than sell blocks (N below zero), the last hours, hours that do not clear.
+-- A number for each of hours 23 and 24, the other for the hours before.
+abbrev pub last2 : ℕ → ℕ → ℕ → List ℕ
+last2 other before last = replicate 22 other ++ (before ∷ last ∷ [])
+
+abbrev pub noAnswer : List Bool → ℕ → PriceFact
+noAnswer set hour = record { set = set; hour = hour; answer = doesNotClear }
+
+-- In hours 1 and 2 each, buy 50 at 5000 and sell 100 at 3000, with a buy block of 50 at a price; what is published, and the answers of hour 1 with
+-- the block and without.
+abbrev pub buyBlockDay : (limit price traded : ℕ) → List Bool → List ℕ → ℕ → WorkedDay
+buyBlockDay limit price traded chosen rows welfare =
+    record {
+      orders = record {
+        hours = 24;
+        steps = step 1 buy 1 50 5000 ∷ step 2 sell 1 100 3000 ∷ step 3 buy 2 50 5000 ∷ step 4 sell 2 100 3000 ∷ [];
+        blocks = block 1 buy 3 50 limit ∷ [];
+      };
+      publishes = record {
+        welfare = welfare;
+        prices = rest22 price price 150000;
+        traded = rest22 traded traded 0;
+        chosen = chosen;
+        executed = rows;
+      };
+      prices = fact (true ∷ []) 1 3000 5000 4000 ∷ fact (false ∷ []) 1 3000 3000 3000 ∷ [];
+    }
+
+unfoldable pub furtherDays : List WorkedDay
+furtherDays =
+    -- a buy block at 4000 is taken: with it both prices are 4000, N is −50
+    buyBlockDay 4000 4000 100 (true ∷ []) (50 ∷ 100 ∷ 50 ∷ 100 ∷ []) 300000
+    -- at 3999 it is left out, though without it both prices are 3000
+    ∷ buyBlockDay 3999 3000 50 (false ∷ []) (50 ∷ 50 ∷ 50 ∷ 50 ∷ []) 200000
+    -- a buy block over hours 23 and 24 at 2500 is taken at prices 2000 and 3000: the sum decides; and by the equal rule, for it brings nothing
+    ∷ record {
+      orders = record { hours = 24; steps = step 1 sell 23 60 2000 ∷ step 2 sell 24 60 3000 ∷ []; blocks = block 1 buy 12582912 50 2500 ∷ [] };
+      publishes = record {
+        welfare = 0;
+        prices = last2 150000 2000 3000;
+        traded = last2 0 50 50;
+        chosen = true ∷ [];
+        executed = 50 ∷ 50 ∷ [];
+      };
+      prices = fact (false ∷ []) 24 1 3000 1500 ∷ [];
+    }
+    -- a sell block of 20 and a buy block of 50 over hours 1 and 24, in hour 24 with steps on both sides: N is −30 in both hours
+    ∷ record {
+      orders = record {
+        hours = 24;
+        steps = step 1 sell 1 40 2000 ∷ step 2 sell 24 100 3000 ∷ step 3 buy 24 60 4000 ∷ [];
+        blocks = block 1 sell 8388609 20 2500 ∷ block 2 buy 8388609 50 2500 ∷ [];
+      };
+      publishes = record {
+        welfare = 60000;
+        prices = 2000 ∷ replicate 22 150000 ++ (3000 ∷ []);
+        traded = 50 ∷ replicate 22 0 ++ (110 ∷ []);
+        chosen = true ∷ true ∷ [];
+        executed = 30 ∷ 90 ∷ 60 ∷ [];
+      };
+      prices = fact (true ∷ true ∷ []) 1 2000 2000 2000 ∷ noAnswer (true ∷ false ∷ []) 1 ∷ noAnswer (false ∷ true ∷ []) 1 ∷ [];
+    }
+    -- a book of the head alone
+    ∷ hourDay [] 150000 0 [] 0
+    -- a sell block at 3000 and a buy block at 5000 alone: together they meet the price 150000, which the buy's limit forbids; neither clears alone
+    ∷ record {
+      orders = record { hours = 24; steps = []; blocks = block 1 sell 3 50 3000 ∷ block 2 buy 3 50 5000 ∷ [] };
+      publishes = record {
+        welfare = 0;
+        prices = replicate 24 150000;
+        traded = replicate 24 0;
+        chosen = false ∷ false ∷ [];
+        executed = [];
+      };
+      prices = fact (true ∷ true ∷ []) 1 1 300000 150000 ∷ noAnswer (true ∷ false ∷ []) 1 ∷ noAnswer (false ∷ true ∷ []) 1 ∷ [];
+    }
     ∷ []
 
 -- The hour is answered so.

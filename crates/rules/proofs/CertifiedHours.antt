@@ -1,0 +1,151 @@
+-- PRICES THAT COMPUTE. The rules' pricing walks 300000 prices, which the checker never does: a guess by bisection is tested by M4's certificate, and
+-- the rule itself stands where the test fails. So the guess needs no proof, and the rest computes. Assumes nothing.
+use Prim.Native.Nat.{ℕ, zero, suc, _+_, _-_, _/_, _≤_}
+use mathlib.Core.Bool.{Bool, true, false, _&&_, _||_, not, false≢true}
+use mathlib.Core.Path.{_≡_, refl, ap, fun-ext}
+use mathlib.Core.List.{List, [], _∷_}
+use native.Mathlib.Omega.{arith}
+use lib.Dec.{leb, eqb}
+use borrow.Author.Tests.{leb-true, le-leb}
+use Rattle.rules.specs.Orders.{Step, Block, maxPrice, stepsOf, canonical}
+use Rattle.rules.specs.Hour.{
+  Hour,
+  buysAbove,
+  buysFrom,
+  sellsTo,
+  sellsBelow,
+  allBuys,
+  allSells,
+  clears,
+  middle,
+  Pricing,
+  cleared,
+  doesNotClear,
+  pricing,
+  priceIn,
+}
+use Rattle.rules.specs.Execution.{bought, sold}
+use Rattle.rules.specs.Day.{
+  Day,
+  dayOf,
+  weight,
+  sumTo,
+  daySum,
+  allTo,
+  everyHour,
+  hourOf,
+  setPrices,
+  hourCount,
+  priceSum,
+  keepsLimit,
+  keepsLimits,
+  allowed,
+  stepsValue,
+  stepsCost,
+  blocksValue,
+  blocksCost,
+  dayValue,
+  dayCost,
+}
+use Rattle.rules.specs.Contender.{Counts, PricesInRange}
+use Rattle.rules.proofs.Tests.{by-test}
+use Rattle.rules.proofs.PricingLaws.{Clearable, pricing-certified, not-clearing}
+
+-- THE GUESS: the least of lo to hi at which the test passes, if it passes from there on
+unfoldable pub bisect : (ℕ → Bool) → ℕ → ℕ → ℕ → ℕ
+bisect t zero lo hi = hi
+bisect t (suc n) lo hi =
+    let mid = (lo + hi) / 2 in
+    elim (t mid) [ true ↦ bisect t n lo mid | false ↦ bisect t n (suc mid) hi ]
+
+unfoldable pub low : Hour → ℕ
+low h = bisect (λ p. leb (buysAbove p (h .steps) + h .blockBuys) (sellsTo p (h .steps) + h .blockSales)) 19 1 maxPrice
+
+unfoldable pub high : Hour → ℕ
+high h = bisect (λ p. leb (buysAbove p (h .steps) + h .blockBuys + 1) (sellsTo p (h .steps) + h .blockSales)) 19 1 maxPrice
+
+-- THE TESTS: several at once
+abbrev pub all : List Bool → Bool
+all [] = true
+all (t ∷ l) = t && all l
+
+abbrev AllTrue : List Bool → Type 0
+AllTrue [] = Unit {0}
+AllTrue (t ∷ l) = (t ≡ true) × AllTrue l
+
+all-true : (l : List Bool) → all l ≡ true → AllTrue l
+all-true [] e = tt
+all-true (true ∷ l) e = (refl, all-true l e)
+all-true (false ∷ l) e = absurd (false≢true e)
+
+unfoldable pub inRange : List Step → List Bool
+inRange [] = []
+inRange (s ∷ l) = leb 1 (s .price) ∷ leb (s .price) maxPrice ∷ inRange l
+
+in-range : (l : List Step) → AllTrue (inRange l) → PricesInRange l
+unfolding inRange
+in-range [] t = tt
+in-range (s ∷ l) t = (leb-true _ _ (t .0), leb-true _ _ (t .1 .0), in-range l (t .1 .1))
+
+-- of a certificate l, u
+abbrev pub certified : Hour → ℕ → ℕ → List Bool
+certified h l u =
+    all (inRange (h .steps)) ∷ leb 1 l ∷ leb l u ∷ leb u maxPrice ∷ clears h l ∷ clears h u
+    ∷ (eqb l 1 || not (clears h (l - 1))) ∷ (eqb u maxPrice || not (clears h (u + 1))) ∷ []
+
+-- of an hour that does not clear
+abbrev pub unclearable : Hour → List Bool
+unclearable h =
+    all (inRange (h .steps))
+    ∷ not (leb (h .blockSales) (allBuys (h .steps) + h .blockBuys) && leb (h .blockBuys) (allSells (h .steps) + h .blockSales)) ∷ []
+
+-- the tested guess
+unfoldable pub tested : Hour → Pricing
+tested h =
+    let l = low h in
+    let u = high h in
+    elim (all (certified h l u)) [
+      | true ↦ cleared l u (middle l u)
+      | false ↦ elim (all (unclearable h)) [ true ↦ doesNotClear | false ↦ pricing h ]
+    ]
+
+not-clearable : (h : Hour) →
+    not (leb (h .blockSales) (allBuys (h .steps) + h .blockBuys) && leb (h .blockBuys) (allSells (h .steps) + h .blockSales)) ≡ true → ¬ Clearable h
+not-clearable h e c = false≢true (rw (le-leb _ _ (c .buysSuffice), le-leb _ _ (c .sellsSuffice)) at e)
+
+pub tested-is : (h : Hour) → pricing h ≡ tested h
+unfolding tested
+tested-is h =
+    by-test
+    (λ t. pricing h ≡ (elim t as (λ _. Pricing) [
+      | true ↦ cleared (low h) (high h) (middle (low h) (high h))
+      | false ↦ elim (all (unclearable h)) [ true ↦ doesNotClear | false ↦ pricing h ]
+    ]))
+    (all (certified h (low h) (high h)))
+    (λ e. let f = all-true (certified h (low h) (high h)) e in
+    pricing-certified h (in-range (h .steps) (all-true (inRange (h .steps)) (f .0))) (low h) (high h)
+    (leb-true _ _ (f .1 .0)) (leb-true _ _ (f .1 .1 .0)) (leb-true _ _ (f .1 .1 .1 .0))
+    (f .1 .1 .1 .1 .0) (f .1 .1 .1 .1 .1 .0) (f .1 .1 .1 .1 .1 .1 .0) (f .1 .1 .1 .1 .1 .1 .1 .0))
+    (λ _. by-test (λ t. pricing h ≡ (elim t as (λ _. Pricing) [ true ↦ doesNotClear | false ↦ pricing h ])) (all (unclearable h))
+    (λ e. let f = all-true (unclearable h) e in
+    not-clearing h (in-range (h .steps) (all-true (inRange (h .steps)) (f .0))) .1 (not-clearable h (f .1 .0)))
+    (λ _. refl))
+
+-- the prices under a set
+unfoldable pub testedPrices : Day → List Block → ℕ → ℕ
+testedPrices day set h = priceIn (tested (hourOf day set h))
+
+pub prices-tested : (day : Day) (set : List Block) → setPrices day set ≡ testedPrices day set
+unfolding setPrices testedPrices
+prices-tested day set = fun-ext (λ h. ap priceIn (tested-is (hourOf day set h)))
+
+-- THE DAY COMPUTES: a proof that says `unfolding computed` opens the definitions through which a day's tested prices, limits, sums and welfare compute
+unfoldable pub computed : Unit {0}
+unfolding tested testedPrices low high bisect inRange clears buysAbove buysFrom sellsTo sellsBelow dayOf canonical stepsOf weight sumTo daySum
+    allTo everyHour hourCount priceSum keepsLimit keepsLimits allowed bought sold stepsValue stepsCost blocksValue blocksCost dayValue dayCost
+computed = tt
+
+-- THE LAW OF `weight`, today: every hour of 1 to 24 counts
+pub counts : (hours h : ℕ) → 1 ≤ h → h ≤ 24 → Counts hours h
+unfolding weight
+counts hours h f l = record { first = f; last = l; counted = omega arith }

@@ -1,0 +1,141 @@
+-- WHAT IS NOT BEST, from the statement of demand 3 alone: leaving out the block of S5, of S3, or of a day where it brings one tenth of a cent, beats
+-- not all, at whatever quantities and welfare; nor does taking both blocks of S6, or the second alone. Assumes nothing.
+use Prim.Native.Nat.{ℕ, _≤_}
+use mathlib.Core.Bool.{Bool, true, false, false≢true}
+use mathlib.Core.Path.{_≡_, refl}
+use mathlib.Core.List.{List, [], _∷_}
+use native.Mathlib.Omega.{arith}
+use Rattle.rules.specs.Orders.{Step, Block}
+use Rattle.rules.specs.Day.{Day}
+use Rattle.rules.specs.Contender.{Each, Within, Counts, Contender, HasWelfare, WelfareAtMost, HoldsLowest, BeatsAll}
+use Rattle.rules.specs.Cases.{baseDayOf, s3, s5, s6, narrow}
+use Rattle.rules.proofs.HourSums.{each-hour}
+use Rattle.rules.proofs.CertifiedHours.{computed, prices-tested, counts}
+
+hour1 : Counts 24 1
+hour1 = counts 24 1 (omega arith) (omega arith)
+
+hour2 : Counts 24 2
+hour2 = counts 24 2 (omega arith) (omega arith)
+
+-- four steps have four quantities
+by-four : (P : List ℕ → Type 0) (a b c d : Step) → ((p q r s : ℕ) → P (p ∷ q ∷ r ∷ s ∷ [])) →
+    (qs : List ℕ) → Each Within (a ∷ b ∷ c ∷ d ∷ []) qs → P qs
+by-four P a b c d f [] e = absurd e
+by-four P a b c d f (p ∷ []) e = absurd (e .1)
+by-four P a b c d f (p ∷ q ∷ []) e = absurd (e .1 .1)
+by-four P a b c d f (p ∷ q ∷ r ∷ []) e = absurd (e .1 .1 .1)
+by-four P a b c d f (p ∷ q ∷ r ∷ s ∷ []) e = f p q r s
+by-four P a b c d f (p ∷ q ∷ r ∷ s ∷ t ∷ l) e = absurd (e .1 .1 .1 .1)
+
+-- what a set of the day brings at most, whatever the quantities
+abbrev AtMost : Day → List Bool → ℕ → Type 0
+AtMost day set most = (qs : List ℕ) (w : ℕ) → Contender day set qs → HasWelfare day set qs w → w ≤ most
+
+-- THE BASE BOOK with a block left out: in each hour at most 100 are traded, at 2000 each
+left-out-most : (b : Block) → AtMost (baseDayOf (b ∷ [])) (false ∷ []) 400000
+unfolding computed
+left-out-most b qs w c =
+    by-four (λ l. Contender (baseDayOf (b ∷ [])) (false ∷ []) l → HasWelfare (baseDayOf (b ∷ [])) (false ∷ []) l w → w ≤ 400000) _ _ _ _
+    (λ p q r s c e. omega (arith, c .within, c .balanced 1 hour1, c .balanced 2 hour2)) qs (c .within) c
+
+-- S5: with its block, which takes the place of 50 of each sell step, the welfare is 410000
+s5-taken-contends : Contender s5 (true ∷ []) (100 ∷ 50 ∷ 100 ∷ 50 ∷ [])
+unfolding computed
+s5-taken-contends = record {
+  ofBlocks = refl;
+  permitted = refl;
+  within = omega arith;
+  balanced = each-hour _ (omega arith);
+  limits = rw prices-tested refl;
+}
+
+s5-taken-welfare : HasWelfare s5 (true ∷ []) (100 ∷ 50 ∷ 100 ∷ 50 ∷ []) 410000
+unfolding computed
+s5-taken-welfare = refl
+
+pub s5-left-out-not-best : (quantities : List ℕ) (w : ℕ) → ¬ BeatsAll s5 (false ∷ []) quantities w
+s5-left-out-not-best quantities w b =
+    let most : w ≤ 400000 = left-out-most _ quantities w (b .contends) (b .counted) in
+    let least : WelfareAtMost s5 (true ∷ []) (100 ∷ 50 ∷ 100 ∷ 50 ∷ []) w = b .noneAbove _ _ s5-taken-contends in
+    omega (arith, s5-taken-welfare)
+
+-- S3: with its block the welfare is the same, 400000, and the tie is the block's
+s3-taken-contends : Contender s3 (true ∷ []) (100 ∷ 50 ∷ 100 ∷ 50 ∷ [])
+unfolding computed
+s3-taken-contends = record {
+  ofBlocks = refl;
+  permitted = refl;
+  within = omega arith;
+  balanced = each-hour _ (omega arith);
+  limits = rw prices-tested refl;
+}
+
+s3-taken-welfare : HasWelfare s3 (true ∷ []) (100 ∷ 50 ∷ 100 ∷ 50 ∷ []) 400000
+unfolding computed
+s3-taken-welfare = refl
+
+pub s3-left-out-not-best : (quantities : List ℕ) (w : ℕ) → ¬ BeatsAll s3 (false ∷ []) quantities w
+s3-left-out-not-best quantities w b =
+    let most : w ≤ 400000 = left-out-most _ quantities w (b .contends) (b .counted) in
+    let least : WelfareAtMost s3 (true ∷ []) (100 ∷ 50 ∷ 100 ∷ 50 ∷ []) w = b .noneAbove _ _ s3-taken-contends in
+    b .onTie _ _ s3-taken-contends (omega (arith, s3-taken-welfare))
+
+-- BY ONE TENTH OF A CENT: 7999 with the block, 7998 without
+narrow-taken-contends : Contender narrow (true ∷ []) (2 ∷ 1 ∷ 2 ∷ 1 ∷ [])
+unfolding computed
+narrow-taken-contends = record {
+  ofBlocks = refl;
+  permitted = refl;
+  within = omega arith;
+  balanced = each-hour _ (omega arith);
+  limits = rw prices-tested refl;
+}
+
+narrow-taken-welfare : HasWelfare narrow (true ∷ []) (2 ∷ 1 ∷ 2 ∷ 1 ∷ []) 7999
+unfolding computed
+narrow-taken-welfare = refl
+
+narrow-left-out-most : AtMost narrow (false ∷ []) 7998
+unfolding computed
+narrow-left-out-most qs w c =
+    by-four (λ l. Contender narrow (false ∷ []) l → HasWelfare narrow (false ∷ []) l w → w ≤ 7998) _ _ _ _
+    (λ p q r s c e. omega (arith, c .within, c .balanced 1 hour1, c .balanced 2 hour2)) qs (c .within) c
+
+pub narrow-left-out-not-best : (quantities : List ℕ) (w : ℕ) → ¬ BeatsAll narrow (false ∷ []) quantities w
+narrow-left-out-not-best quantities w b =
+    let most : w ≤ 7998 = narrow-left-out-most quantities w (b .contends) (b .counted) in
+    let least : WelfareAtMost narrow (true ∷ []) (2 ∷ 1 ∷ 2 ∷ 1 ∷ []) w = b .noneAbove _ _ narrow-taken-contends in
+    omega (arith, narrow-taken-welfare)
+
+-- S6: with both blocks the prices are 1500, outside their limits
+pub s6-both-not-best : (quantities : List ℕ) (w : ℕ) → ¬ BeatsAll s6 (true ∷ true ∷ []) quantities w
+unfolding computed
+s6-both-not-best quantities w b = false≢true (rw prices-tested at (b .contends .limits))
+
+-- of the two alone, which bring the same, the first
+s6-first-contends : Contender s6 (true ∷ false ∷ []) (100 ∷ 50 ∷ 100 ∷ 50 ∷ [])
+unfolding computed
+s6-first-contends = record {
+  ofBlocks = refl;
+  permitted = refl;
+  within = omega arith;
+  balanced = each-hour _ (omega arith);
+  limits = rw prices-tested refl;
+}
+
+s6-first-welfare : HasWelfare s6 (true ∷ false ∷ []) (100 ∷ 50 ∷ 100 ∷ 50 ∷ []) 410000
+unfolding computed
+s6-first-welfare = refl
+
+s6-second-most : AtMost s6 (false ∷ true ∷ []) 410000
+unfolding computed
+s6-second-most qs w c =
+    by-four (λ l. Contender s6 (false ∷ true ∷ []) l → HasWelfare s6 (false ∷ true ∷ []) l w → w ≤ 410000) _ _ _ _
+    (λ p q r s c e. omega (arith, c .within, c .balanced 1 hour1, c .balanced 2 hour2)) qs (c .within) c
+
+pub s6-second-not-best : (quantities : List ℕ) (w : ℕ) → ¬ BeatsAll s6 (false ∷ true ∷ []) quantities w
+s6-second-not-best quantities w b =
+    let most : w ≤ 410000 = s6-second-most quantities w (b .contends) (b .counted) in
+    let least : WelfareAtMost s6 (true ∷ false ∷ []) (100 ∷ 50 ∷ 100 ∷ 50 ∷ []) w = b .noneAbove _ _ s6-first-contends in
+    b .onTie _ _ s6-first-contends (omega (arith, s6-first-welfare))
