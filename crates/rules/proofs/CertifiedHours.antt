@@ -22,6 +22,7 @@ use Rattle.rules.specs.Hour.{
   cleared,
   doesNotClear,
   pricing,
+  isCleared,
   priceIn,
 }
 use Rattle.rules.specs.Execution.{bought, sold}
@@ -34,6 +35,7 @@ use Rattle.rules.specs.Day.{
   allTo,
   everyHour,
   hourOf,
+  hourClears,
   setPrices,
   hourCount,
   priceSum,
@@ -131,17 +133,27 @@ tested-is h =
     not-clearing h (in-range (h .steps) (all-true (inRange (h .steps)) (f .0))) .1 (not-clearable h (f .1 .0)))
     (λ _. refl))
 
--- the prices under a set
+-- which hours clear under a set, and their prices
+unfoldable pub testedClears : Day → List Block → ℕ → Bool
+testedClears day set h = isCleared (tested (hourOf day set h))
+
 unfoldable pub testedPrices : Day → List Block → ℕ → ℕ
 testedPrices day set h = priceIn (tested (hourOf day set h))
 
-pub prices-tested : (day : Day) (set : List Block) → setPrices day set ≡ testedPrices day set
+pub clears-tested : (day : Day) (set : List Block) → hourClears day set ≡ testedClears day set
+unfolding hourClears testedClears
+clears-tested day set = fun-ext (λ h. ap isCleared (tested-is (hourOf day set h)))
+
+pub price-tested : (day : Day) (set : List Block) (h : ℕ) → setPrices day set h ≡ testedPrices day set h
 unfolding setPrices testedPrices
-prices-tested day set = fun-ext (λ h. ap priceIn (tested-is (hourOf day set h)))
+price-tested day set h = ap priceIn (tested-is (hourOf day set h))
+
+pub prices-tested : (day : Day) (set : List Block) → setPrices day set ≡ testedPrices day set
+prices-tested day set = fun-ext (price-tested day set)
 
 -- THE DAY COMPUTES: a proof that says `unfolding computed` opens the definitions through which a day's tested prices, limits, sums and welfare compute
 unfoldable pub computed : Unit {0}
-unfolding tested testedPrices low high bisect inRange clears buysAbove buysFrom sellsTo sellsBelow dayOf canonical stepsOf weight sumTo daySum
+unfolding tested testedClears testedPrices low high bisect inRange clears buysAbove buysFrom sellsTo sellsBelow dayOf canonical stepsOf weight sumTo daySum
     allTo everyHour hourCount priceSum keepsLimit keepsLimits allowed bought sold stepsValue stepsCost blocksValue blocksCost dayValue dayCost
 computed = tt
 

@@ -1,120 +1,56 @@
--- THE WORKED DAYS HOLD, from the rules alone: hours are priced by certificate, and the rest computes. Assumes nothing.
-use Prim.Native.Nat.{ℕ, zero, suc, _+_, _-_, _/_}
-use mathlib.Core.Bool.{Bool, true, false, cond, _&&_, _||_, not, false≢true}
-use mathlib.Core.Path.{_≡_, refl, ap, _∙_, fun-ext}
+-- THE WORKED DAYS HOLD, from the rules alone. Prices are put in by certificate, where each definition names them; what is left computes. Assumes nothing.
+use Prim.Native.Nat.{ℕ}
+use mathlib.Core.Bool.{Bool}
+use mathlib.Core.Path.{_≡_, refl, _∙_, fun-ext}
 use mathlib.Core.List.{List, [], _∷_}
-use lib.Dec.{leb, eqb}
-use lib.ListN.{length, replicate}
-use borrow.Author.Tests.{leb-true, le-leb}
-use Rattle.rules.specs.Orders.{Step, Block, Orders, maxPrice, stepsOf, canonical, executedOf}
-use Rattle.rules.specs.Hour.{
-  Hour,
-  buysAbove,
-  buysFrom,
-  sellsTo,
-  sellsBelow,
-  allBuys,
-  allSells,
-  clears,
-  middle,
-  Pricing,
-  cleared,
-  doesNotClear,
-  pricing,
-  isCleared,
-  priceIn,
-}
-use Rattle.rules.specs.Execution.{execution, buyAmount, sellAmount, shares, bought}
-use Rattle.rules.specs.Day.{
-  Day,
-  dayOf,
-  weight,
-  sumTo,
-  daySum,
-  allTo,
-  everyHour,
-  stepsIn,
-  taken,
-  overBlocks,
-  buys,
-  hourOf,
-  hourClears,
-  setPrices,
-  hourCount,
-  priceSum,
-  keepsLimit,
-  everyBlock,
-  keepsLimits,
-  allowed,
-  lawful,
-  stepsValue,
-  stepsCost,
-  blocksValue,
-  blocksCost,
-  dayValue,
-  dayCost,
-  inStepOrder,
-  executed,
-  welfare,
-  traded,
-}
+use Rattle.rules.specs.Orders.{Block, Orders, executedOf}
+use Rattle.rules.specs.Execution.{execution, buyAmount, sellAmount, shares}
+use Rattle.rules.specs.Day.{Day, dayOf, taken, hourOf, keepsLimits, lawful, inStepOrder, executed, welfare, traded}
 use Rattle.rules.specs.Outcome.{allSets, bestOf, outcome, forHours, Published, published}
-use Rattle.rules.specs.Contender.{PricesInRange}
 use Rattle.rules.specs.WorkedDays.{PriceFact, WorkedDay, workedDays, furtherDays, Answered, Hold}
-use Rattle.rules.proofs.CertifiedHours.{tested, tested-is, computed}
+use Rattle.rules.proofs.CertifiedHours.{tested, tested-is, clears-tested, price-tested, prices-tested, computed}
 
--- WHAT IS PUBLISHED, with the pricing of an hour as an argument: the text of the definitions
-module _ (answer : Hour → Pricing) where
-  pricesAt : Day → List Block → ℕ → ℕ
-  pricesAt day set h = priceIn (answer (hourOf day set h))
+-- A VALUE THAT COMPUTES, and that it is the one asked for
+abbrev Computed : {A : Type 0} → A → Type 0
+Computed {A} asked = (value : A) × (asked ≡ value)
 
-  lawfulAt : Day → List Bool → Bool
-  unfolding pricesAt
-  lawfulAt day set =
-      allowed day set
-      && (everyHour (day .hours) (λ h. isCleared (answer (hourOf day (taken (day .blocks) set) h)))
-      && everyBlock (keepsLimit (day .hours) (pricesAt day (taken (day .blocks) set))) (taken (day .blocks) set))
+-- Each definition with the tested prices in it. The value asked for has a name of its own, so that only its definition is rewritten.
+lawful-as : (day : Day) (set : List Bool) (asked : Bool) → asked ≡ lawful day set → Computed asked
+unfolding lawful keepsLimits
+lawful-as day set asked e = (_, rw (lawful, keepsLimits, prices-tested, clears-tested) at e)
 
-  executedAt : Day → List Block → List ℕ
-  unfolding pricesAt
-  executedAt day set = inStepOrder (λ h. execution (hourOf day set h) (pricesAt day set h)) (day .steps)
+executed-as : (day : Day) (set : List Block) (asked : List ℕ) → asked ≡ executed day set → Computed asked
+unfolding executed
+executed-as day set asked e = (_, simp (executed, price-tested) at e)
 
-  welfareAt : Day → List Bool → ℕ
-  unfolding executedAt
-  welfareAt day set =
-      dayValue day (taken (day .blocks) set) (executedAt day (taken (day .blocks) set))
-      - dayCost day (taken (day .blocks) set) (executedAt day (taken (day .blocks) set))
+traded-as : (day : Day) (set : List Block) (h asked : ℕ) → asked ≡ traded day set h → Computed asked
+unfolding traded
+traded-as day set h asked e = (_, rw (traded, price-tested) at e)
 
-  bestAt : Day → List (List Bool) → List Bool
-  unfolding lawfulAt welfareAt
-  bestAt day [] = replicate (length (day .blocks)) false
-  bestAt day (set ∷ l) = cond (lawfulAt day set && leb (welfareAt day (bestAt day l)) (welfareAt day set)) set (bestAt day l)
+welfare-as : (day : Day) (set : List Bool) (asked : ℕ) → asked ≡ welfare day set → Computed asked
+unfolding welfare
+welfare-as day set asked e = (_, rw (welfare, executed-as day (taken (day .blocks) set) _ refl .1) at e)
 
-  publishedAt : Orders → Published
-  unfolding bestAt welfareAt executedAt pricesAt
-  publishedAt orders =
-      let day = dayOf orders in
-      let chosen = bestAt day (allSets (length (day .blocks))) in
-      let set = taken (day .blocks) chosen in
-      record {
-        welfare = welfareAt day chosen;
-        prices = forHours 24 (pricesAt day set);
-        traded = forHours 24 (λ h. bought (stepsIn h (day .steps)) (execution (hourOf day set h) (pricesAt day set h)) + overBlocks (buys h) set);
-        chosen = chosen;
-        executed = executedOf (canonical orders .steps) (executedAt day set);
-      }
+best-as : (day : Day) (l : List (List Bool)) (asked : List Bool) → asked ≡ bestOf day l → Computed asked
+unfolding bestOf
+best-as day [] asked e = (_, e)
+best-as day (set ∷ l) asked e =
+    let later = best-as day l _ refl in
+    (_, rw (later .1, lawful-as day set _ refl .1, welfare-as day (later .0) _ refl .1, welfare-as day set _ refl .1) at e)
 
-best-at : (day : Day) (l : List (List Bool)) → bestOf day l ≡ bestAt pricing day l
-unfolding bestOf bestAt lawful hourClears keepsLimits setPrices welfare executed lawfulAt welfareAt executedAt pricesAt
-best-at day [] = refl
-best-at day (set ∷ l) = rw (best-at day l)
+outcome-as : (day : Day) (asked : List Bool) → asked ≡ outcome day → Computed asked
+unfolding outcome
+outcome-as day asked e = best-as day _ asked e
 
-published-at : (orders : Orders) → published orders ≡ publishedAt pricing orders
-unfolding published outcome publishedAt welfare executed setPrices traded welfareAt executedAt pricesAt
-published-at orders = rw (best-at (dayOf orders) (allSets (length (dayOf orders .blocks))))
-
-published-tested : (orders : Orders) → published orders ≡ publishedAt tested orders
-published-tested orders = published-at orders ∙ ap (λ f. publishedAt f orders) (fun-ext tested-is)
+-- what is published, once the outcome is known
+published-as : (orders : Orders) (chosen : List Bool) → outcome (dayOf orders) ≡ chosen →
+    (asked : Published) → asked ≡ published orders → Computed asked
+unfolding published
+published-as orders chosen best asked e =
+    let day = dayOf orders in
+    let set = taken (day .blocks) chosen in
+    let trade = fun-ext (λ h. traded-as day set h _ refl .1) in
+    (_, rw (published, best, welfare-as day chosen _ refl .1, prices-tested day set, trade, executed-as day set _ refl .1) at e)
 
 -- THE TABLE, as it computes
 abbrev AnsweredTested : Orders → List PriceFact → Type 0
@@ -123,7 +59,10 @@ AnsweredTested orders (f ∷ l) = (tested (hourOf (dayOf orders) (taken (orders 
 
 abbrev HoldTested : List WorkedDay → Type 0
 HoldTested [] = Unit {0}
-HoldTested (d ∷ l) = (publishedAt tested (d .orders) ≡ d .publishes) × AnsweredTested (d .orders) (d .prices) × HoldTested l
+HoldTested (d ∷ l) =
+    (same : outcome-as (dayOf (d .orders)) _ refl .0 ≡ d .publishes .chosen)
+    × (published-as (d .orders) (d .publishes .chosen) (outcome-as (dayOf (d .orders)) _ refl .1 ∙ same) _ refl .0 ≡ d .publishes)
+    × AnsweredTested (d .orders) (d .prices) × HoldTested l
 
 answered : (orders : Orders) (l : List PriceFact) → AnsweredTested orders l → Answered orders l
 answered orders [] h = tt
@@ -131,12 +70,12 @@ answered orders (f ∷ l) h = (tested-is _ ∙ h .0, answered orders l (h .1))
 
 hold : (l : List WorkedDay) → HoldTested l → Hold l
 hold [] h = tt
-hold (d ∷ l) h = (published-tested (d .orders) ∙ h .0, answered (d .orders) (d .prices) (h .1), hold l (h .2))
+hold (d ∷ l) h = (published-as (d .orders) _ _ _ refl .1 ∙ h .1, answered (d .orders) (d .prices) (h .2), hold l (h .3))
 
--- all that the table computes through
+-- all that a row computes through
 unfoldable rowsCompute : Unit {0}
-unfolding computed publishedAt bestAt lawfulAt welfareAt executedAt pricesAt executedOf allSets forHours execution buyAmount sellAmount shares
-    inStepOrder
+unfolding computed executedOf allSets forHours execution buyAmount sellAmount shares inStepOrder
+    lawful-as executed-as traded-as welfare-as best-as outcome-as published-as
 rowsCompute = tt
 
 -- S1 TO S10
@@ -145,24 +84,25 @@ unfolding rowsCompute workedDays
 worked-days-hold =
     hold workedDays (
       refl,
+      refl,
       tt,
       (
+        refl,
         refl,
         (refl, (refl, (refl, (refl, tt)))),
         (
           refl,
+          refl,
           tt,
           (
+            refl,
             refl,
             tt,
             (
               refl,
+              refl,
               tt,
-              (
-                refl,
-                (refl, (refl, tt)),
-                (refl, tt, (refl, tt, (refl, tt, (refl, tt, tt)))),
-              ),
+              (refl, refl, (refl, (refl, tt)), (refl, refl, tt, (refl, refl, tt, (refl, refl, tt, (refl, refl, tt, tt))))),
             ),
           ),
         ),
@@ -175,10 +115,17 @@ unfolding rowsCompute furtherDays
 further-days-hold =
     hold furtherDays (
       refl,
+      refl,
       (refl, (refl, tt)),
       (
         refl,
+        refl,
         (refl, (refl, tt)),
-        (refl, (refl, tt), (refl, (refl, (refl, (refl, tt))), (refl, tt, (refl, (refl, (refl, (refl, tt))), tt)))),
+        (
+          refl,
+          refl,
+          (refl, tt),
+          (refl, refl, (refl, (refl, (refl, tt))), (refl, refl, tt, (refl, refl, (refl, (refl, (refl, tt))), tt))),
+        ),
       ),
     )
