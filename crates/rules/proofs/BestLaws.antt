@@ -12,6 +12,7 @@ use Rattle.rules.specs.Day.{Day, lawful, welfare}
 use Rattle.rules.specs.Outcome.{allSets, prefer, bestOf, outcome}
 use Rattle.rules.specs.Contender.{HoldsLowest, BeatsAll}
 use Rattle.rules.proofs.Tests.{by-test, by-le, clash}
+use Rattle.rules.proofs.NotBest
 
 pub holds-same : (a : List Bool) → HoldsLowest a a
 holds-same [] = tt

@@ -1,11 +1,11 @@
--- PRICES THAT COMPUTE. The rules' pricing walks 300000 prices, which the checker never does: a guess by bisection is tested by M4's certificate, and
--- the rule itself stands where the test fails. So the guess needs no proof, and the rest computes. Assumes nothing.
-use Prim.Native.Nat.{ℕ, zero, suc, _+_, _-_, _/_, _≤_}
-use mathlib.Core.Bool.{Bool, true, false, _&&_, _||_, not, false≢true}
+-- PRICES THAT COMPUTE. The rules' pricing walks 300000 prices, which the checker never does: a guess is tested by M4's certificate, and the rule
+-- itself stands where the test fails. So the guess needs no proof, and the rest computes. Assumes nothing.
+use Prim.Native.Nat.{ℕ, _+_, _-_, _≤_}
+use mathlib.Core.Bool.{Bool, true, false, cond, _&&_, _||_, not, false≢true}
 use mathlib.Core.Path.{_≡_, refl, ap, fun-ext}
 use mathlib.Core.List.{List, [], _∷_}
 use native.Mathlib.Omega.{arith}
-use lib.Dec.{leb, eqb}
+use lib.Dec.{ltb, leb, eqb}
 use borrow.Author.Tests.{leb-true, le-leb}
 use Rattle.rules.specs.Orders.{Step, Block, maxPrice, stepsOf, canonical}
 use Rattle.rules.specs.Hour.{
@@ -25,7 +25,7 @@ use Rattle.rules.specs.Hour.{
   isCleared,
   priceIn,
 }
-use Rattle.rules.specs.Execution.{bought, sold}
+use Rattle.rules.specs.Execution.{buyAmount, sellAmount, shares, execution, bought, sold}
 use Rattle.rules.specs.Day.{
   Day,
   dayOf,
@@ -48,23 +48,30 @@ use Rattle.rules.specs.Day.{
   blocksCost,
   dayValue,
   dayCost,
+  inStepOrder,
 }
 use Rattle.rules.specs.Contender.{Counts, PricesInRange}
 use Rattle.rules.proofs.Tests.{by-test}
 use Rattle.rules.proofs.PricingLaws.{Clearable, pricing-certified, not-clearing}
 
--- THE GUESS: the least of lo to hi at which the test passes, if it passes from there on
-unfoldable pub bisect : (ℕ → Bool) → ℕ → ℕ → ℕ → ℕ
-bisect t zero lo hi = hi
-bisect t (suc n) lo hi =
-    let mid = (lo + hi) / 2 in
-    elim (t mid) [ true ↦ bisect t n lo mid | false ↦ bisect t n (suc mid) hi ]
+-- THE GUESS: L is 1 or the price of a step, the least that meets the demand; H is 300000 or the price of a step, the greatest that meets the supply
+unfoldable pub leastOf : (ℕ → Bool) → ℕ → List Step → ℕ
+leastOf t n [] = n
+leastOf t n (s ∷ l) = leastOf t (cond (ltb (s .price) n && t (s .price)) (s .price) n) l
+
+unfoldable pub greatestOf : (ℕ → Bool) → ℕ → List Step → ℕ
+greatestOf t n [] = n
+greatestOf t n (s ∷ l) = greatestOf t (cond (ltb n (s .price) && t (s .price)) (s .price) n) l
 
 unfoldable pub low : Hour → ℕ
-low h = bisect (λ p. leb (buysAbove p (h .steps) + h .blockBuys) (sellsTo p (h .steps) + h .blockSales)) 19 1 maxPrice
+low h =
+    let met : ℕ → Bool = λ p. leb (buysAbove p (h .steps) + h .blockBuys) (sellsTo p (h .steps) + h .blockSales) in
+    cond (met 1) 1 (leastOf met maxPrice (h .steps))
 
 unfoldable pub high : Hour → ℕ
-high h = bisect (λ p. leb (buysAbove p (h .steps) + h .blockBuys + 1) (sellsTo p (h .steps) + h .blockSales)) 19 1 maxPrice
+high h =
+    let met : ℕ → Bool = λ p. leb (sellsBelow p (h .steps) + h .blockSales) (buysFrom p (h .steps) + h .blockBuys) in
+    cond (met maxPrice) maxPrice (greatestOf met 1 (h .steps))
 
 -- THE TESTS: several at once
 abbrev pub all : List Bool → Bool
@@ -151,10 +158,11 @@ price-tested day set h = ap priceIn (tested-is (hourOf day set h))
 pub prices-tested : (day : Day) (set : List Block) → setPrices day set ≡ testedPrices day set
 prices-tested day set = fun-ext (price-tested day set)
 
--- THE DAY COMPUTES: a proof that says `unfolding computed` opens the definitions through which a day's tested prices, limits, sums and welfare compute
+-- THE DAY COMPUTES: `unfolding computed` opens all that a day's tested prices, limits, executed quantities and welfare compute through
 unfoldable pub computed : Unit {0}
-unfolding tested testedClears testedPrices low high bisect inRange clears buysAbove buysFrom sellsTo sellsBelow dayOf canonical stepsOf weight sumTo daySum
-    allTo everyHour hourCount priceSum keepsLimit keepsLimits allowed bought sold stepsValue stepsCost blocksValue blocksCost dayValue dayCost
+unfolding tested testedClears testedPrices low high leastOf greatestOf inRange clears buysAbove buysFrom sellsTo sellsBelow
+    dayOf canonical stepsOf weight sumTo daySum allTo everyHour hourCount priceSum keepsLimit keepsLimits allowed
+    execution buyAmount sellAmount shares inStepOrder bought sold stepsValue stepsCost blocksValue blocksCost dayValue dayCost
 computed = tt
 
 -- THE LAW OF `weight`, today: every hour of 1 to 24 counts

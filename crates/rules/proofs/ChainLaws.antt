@@ -14,6 +14,7 @@ use Rattle.rules.specs.Execution.{total₂}
 use Rattle.rules.specs.Day.{weight, daySum, keep, stepsIn, inStepOrder}
 use Rattle.rules.specs.Contender.{Each, quantitiesIn, PricesInRange, HoursInRange}
 use Rattle.rules.proofs.Tests.{by-test}
+use Rattle.rules.proofs.ContenderCases
 use Rattle.rules.proofs.HourSums.{daySum-same, daySum-add, daySum-zero, daySum-once}
 
 -- ONE LIST OF QUANTITIES FOR EACH HOUR, put in step order

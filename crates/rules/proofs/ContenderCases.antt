@@ -1,5 +1,6 @@
 -- CONTENDERS BY EXAMPLE, from the definition alone: what a contender may do (quantities against the price and the sharing rule, welfare below zero, a
 -- taken buy block, a block left out that the prices would have paid), and, one by one, what it may not. Assumes nothing.
+-- (Laws of the same definitions import it, so that a wrong one is met here first.)
 use Prim.Native.Nat.{ℕ, _+_, _≤_, _<_}
 use mathlib.Core.Bool.{Bool, true, false, false≢true}
 use mathlib.Core.Path.{_≡_, refl}
@@ -9,19 +10,22 @@ use Rattle.rules.specs.Day.{taken, setPrices, keepsLimit, everyBlock, ex
 use Rattle.rules.specs.Contender.{Contender}
 use Rattle.rules.specs.Cases.{s4, s5, lateBuy, sharedLate, apart}
 use Rattle.rules.proofs.HourSums.{each-hour}
-use Rattle.rules.proofs.CertifiedHours.{computed, prices-tested, counts}
+use Rattle.rules.proofs.CertifiedHours.{computed, price-tested, prices-tested, counts}
 
 -- WHAT A CONTENDER MAY DO
 -- the buy above the price not in full, the sell above it served, the second sell at the price before the first is filled
-pub against-price-contends : Contender sharedLate [] (20 ∷ 50 ∷ 10 ∷ 80 ∷ [])
-unfolding computed
-against-price-contends = record {
-  ofBlocks = refl;
-  permitted = refl;
-  within = omega arith;
-  balanced = each-hour _ (omega arith);
-  limits = refl;
-}
+pub against-price-contends : Contender sharedLate [] (20 ∷ 50 ∷ 10 ∷ 80 ∷ []) × (executed sharedLate [] ≡ 60 ∷ 40 ∷ 0 ∷ 100 ∷ [])
+unfolding computed executed
+against-price-contends = (
+  record {
+    ofBlocks = refl;
+    permitted = refl;
+    within = omega arith;
+    balanced = each-hour _ (omega arith);
+    limits = refl;
+  },
+  simp (executed, price-tested) refl,
+)
 
 -- trade that costs more than it brings
 pub below-zero-contends : Contender apart [] (10 ∷ 10 ∷ []) × (dayValue apart [] (10 ∷ 10 ∷ []) < dayCost apart [] (10 ∷ 10 ∷ []))

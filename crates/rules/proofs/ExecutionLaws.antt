@@ -28,6 +28,7 @@ use Rattle.rules.proofs.CurveLaws.{
   to-is-below-and-at,
 }
 use Rattle.rules.proofs.PricingLaws.{Clears, net}
+use Rattle.rules.proofs.ContenderCases
 
 -- SHARES
 abbrev pub sumOf : List ℕ → ℕ

@@ -1,5 +1,6 @@
 -- WHAT IS NOT BEST, from the statement of demand 3 alone: leaving out the block of S5, of S3, or of a day where it brings one tenth of a cent, beats
 -- not all, at whatever quantities and welfare; nor does taking both blocks of S6, or the second alone. Assumes nothing.
+-- (Laws of the same definitions import it, so that a wrong one is met here first.)
 use Prim.Native.Nat.{ℕ, _≤_}
 use mathlib.Core.Bool.{Bool, true, false, false≢true}
 use mathlib.Core.Path.{_≡_, refl}
@@ -9,6 +10,7 @@ use Rattle.rules.specs.Orders.{Step, Block}
 use Rattle.rules.specs.Day.{Day}
 use Rattle.rules.specs.Contender.{Each, Within, Counts, Contender, HasWelfare, WelfareAtMost, HoldsLowest, BeatsAll}
 use Rattle.rules.specs.Cases.{baseDayOf, s3, s5, s6, narrow}
+use Rattle.rules.proofs.ContenderCases
 use Rattle.rules.proofs.HourSums.{each-hour}
 use Rattle.rules.proofs.CertifiedHours.{computed, prices-tested, counts}
 
@@ -60,27 +62,6 @@ s5-left-out-not-best quantities w b =
     let least : WelfareAtMost s5 (true ∷ []) (100 ∷ 50 ∷ 100 ∷ 50 ∷ []) w = b .noneAbove _ _ s5-taken-contends in
     omega (arith, s5-taken-welfare)
 
--- S3: with its block the welfare is the same, 400000, and the tie is the block's
-s3-taken-contends : Contender s3 (true ∷ []) (100 ∷ 50 ∷ 100 ∷ 50 ∷ [])
-unfolding computed
-s3-taken-contends = record {
-  ofBlocks = refl;
-  permitted = refl;
-  within = omega arith;
-  balanced = each-hour _ (omega arith);
-  limits = rw prices-tested refl;
-}
-
-s3-taken-welfare : HasWelfare s3 (true ∷ []) (100 ∷ 50 ∷ 100 ∷ 50 ∷ []) 400000
-unfolding computed
-s3-taken-welfare = refl
-
-pub s3-left-out-not-best : (quantities : List ℕ) (w : ℕ) → ¬ BeatsAll s3 (false ∷ []) quantities w
-s3-left-out-not-best quantities w b =
-    let most : w ≤ 400000 = left-out-most _ quantities w (b .contends) (b .counted) in
-    let least : WelfareAtMost s3 (true ∷ []) (100 ∷ 50 ∷ 100 ∷ 50 ∷ []) w = b .noneAbove _ _ s3-taken-contends in
-    b .onTie _ _ s3-taken-contends (omega (arith, s3-taken-welfare))
-
 -- BY ONE TENTH OF A CENT: 7999 with the block, 7998 without
 narrow-taken-contends : Contender narrow (true ∷ []) (2 ∷ 1 ∷ 2 ∷ 1 ∷ [])
 unfolding computed
@@ -107,6 +88,27 @@ narrow-left-out-not-best quantities w b =
     let most : w ≤ 7998 = narrow-left-out-most quantities w (b .contends) (b .counted) in
     let least : WelfareAtMost narrow (true ∷ []) (2 ∷ 1 ∷ 2 ∷ 1 ∷ []) w = b .noneAbove _ _ narrow-taken-contends in
     omega (arith, narrow-taken-welfare)
+
+-- S3: with its block the welfare is the same, 400000, and the tie is the block's
+s3-taken-contends : Contender s3 (true ∷ []) (100 ∷ 50 ∷ 100 ∷ 50 ∷ [])
+unfolding computed
+s3-taken-contends = record {
+  ofBlocks = refl;
+  permitted = refl;
+  within = omega arith;
+  balanced = each-hour _ (omega arith);
+  limits = rw prices-tested refl;
+}
+
+s3-taken-welfare : HasWelfare s3 (true ∷ []) (100 ∷ 50 ∷ 100 ∷ 50 ∷ []) 400000
+unfolding computed
+s3-taken-welfare = refl
+
+pub s3-left-out-not-best : (quantities : List ℕ) (w : ℕ) → ¬ BeatsAll s3 (false ∷ []) quantities w
+s3-left-out-not-best quantities w b =
+    let most : w ≤ 400000 = left-out-most _ quantities w (b .contends) (b .counted) in
+    let least : WelfareAtMost s3 (true ∷ []) (100 ∷ 50 ∷ 100 ∷ 50 ∷ []) w = b .noneAbove _ _ s3-taken-contends in
+    b .onTie _ _ s3-taken-contends (omega (arith, s3-taken-welfare))
 
 -- S6: with both blocks the prices are 1500, outside their limits
 pub s6-both-not-best : (quantities : List ℕ) (w : ℕ) → ¬ BeatsAll s6 (true ∷ true ∷ []) quantities w

@@ -1,5 +1,6 @@
 -- THE OUTCOME RULES BY EXAMPLE, from their statement alone: one outcome, with a sell block and a buy block taken, keeps them all; for each rule there is
 -- an outcome that breaks it, and no other rule where that is possible. Assumes nothing.
+-- (Laws of the same definitions import it, so that a wrong one is met here first.)
 use Prim.Native.Nat.{ℕ, zero, suc, _+_, _≤_, _<_}
 use mathlib.Core.Bool.{Bool, true, false, false≢true}
 use mathlib.Core.Path.{_≡_, refl, ap}

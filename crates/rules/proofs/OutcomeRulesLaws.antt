@@ -29,6 +29,7 @@ use Rattle.rules.specs.Outcome.{outcome}
 use Rattle.rules.specs.Contender.{Each, PricesInRange, HoursInRange}
 use Rattle.rules.specs.OutcomeRules.{EachBlock, OutcomeRules}
 use Rattle.rules.proofs.Tests.{by-eq, both}
+use Rattle.rules.proofs.OutcomeRulesCases
 use Rattle.rules.proofs.PricingLaws.{clearable}
 use Rattle.rules.proofs.ExecutionLaws.{Follows, execution-follows}
 use Rattle.rules.proofs.ChainLaws.{each-in-order}

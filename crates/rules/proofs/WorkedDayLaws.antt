@@ -4,47 +4,46 @@ use mathlib.Core.Bool.{Bool}
 use mathlib.Core.Path.{_≡_, refl, _∙_, fun-ext}
 use mathlib.Core.List.{List, [], _∷_}
 use Rattle.rules.specs.Orders.{Block, Orders, executedOf}
-use Rattle.rules.specs.Execution.{execution, buyAmount, sellAmount, shares}
-use Rattle.rules.specs.Day.{Day, dayOf, taken, hourOf, keepsLimits, lawful, inStepOrder, executed, welfare, traded}
+use Rattle.rules.specs.Day.{Day, dayOf, taken, hourOf, keepsLimits, lawful, executed, welfare, traded}
 use Rattle.rules.specs.Outcome.{allSets, bestOf, outcome, forHours, Published, published}
 use Rattle.rules.specs.WorkedDays.{PriceFact, WorkedDay, workedDays, furtherDays, Answered, Hold}
 use Rattle.rules.proofs.CertifiedHours.{tested, tested-is, clears-tested, price-tested, prices-tested, computed}
 
--- A VALUE THAT COMPUTES, and that it is the one asked for
-abbrev Computed : {A : Type 0} → A → Type 0
-Computed {A} asked = (value : A) × (asked ≡ value)
+-- A VALUE THAT COMPUTES, with the proof that it is the one asked for
+abbrev ValueOf : {A : Type 0} → A → Type 0
+ValueOf {A} asked = (value : A) × (asked ≡ value)
 
 -- Each definition with the tested prices in it. The value asked for has a name of its own, so that only its definition is rewritten.
-lawful-as : (day : Day) (set : List Bool) (asked : Bool) → asked ≡ lawful day set → Computed asked
+lawful-as : (day : Day) (set : List Bool) (asked : Bool) → asked ≡ lawful day set → ValueOf asked
 unfolding lawful keepsLimits
 lawful-as day set asked e = (_, rw (lawful, keepsLimits, prices-tested, clears-tested) at e)
 
-executed-as : (day : Day) (set : List Block) (asked : List ℕ) → asked ≡ executed day set → Computed asked
+executed-as : (day : Day) (set : List Block) (asked : List ℕ) → asked ≡ executed day set → ValueOf asked
 unfolding executed
 executed-as day set asked e = (_, simp (executed, price-tested) at e)
 
-traded-as : (day : Day) (set : List Block) (h asked : ℕ) → asked ≡ traded day set h → Computed asked
+traded-as : (day : Day) (set : List Block) (h asked : ℕ) → asked ≡ traded day set h → ValueOf asked
 unfolding traded
 traded-as day set h asked e = (_, rw (traded, price-tested) at e)
 
-welfare-as : (day : Day) (set : List Bool) (asked : ℕ) → asked ≡ welfare day set → Computed asked
+welfare-as : (day : Day) (set : List Bool) (asked : ℕ) → asked ≡ welfare day set → ValueOf asked
 unfolding welfare
 welfare-as day set asked e = (_, rw (welfare, executed-as day (taken (day .blocks) set) _ refl .1) at e)
 
-best-as : (day : Day) (l : List (List Bool)) (asked : List Bool) → asked ≡ bestOf day l → Computed asked
+best-as : (day : Day) (l : List (List Bool)) (asked : List Bool) → asked ≡ bestOf day l → ValueOf asked
 unfolding bestOf
 best-as day [] asked e = (_, e)
 best-as day (set ∷ l) asked e =
     let later = best-as day l _ refl in
     (_, rw (later .1, lawful-as day set _ refl .1, welfare-as day (later .0) _ refl .1, welfare-as day set _ refl .1) at e)
 
-outcome-as : (day : Day) (asked : List Bool) → asked ≡ outcome day → Computed asked
+outcome-as : (day : Day) (asked : List Bool) → asked ≡ outcome day → ValueOf asked
 unfolding outcome
 outcome-as day asked e = best-as day _ asked e
 
 -- what is published, once the outcome is known
 published-as : (orders : Orders) (chosen : List Bool) → outcome (dayOf orders) ≡ chosen →
-    (asked : Published) → asked ≡ published orders → Computed asked
+    (asked : Published) → asked ≡ published orders → ValueOf asked
 unfolding published
 published-as orders chosen best asked e =
     let day = dayOf orders in
@@ -74,8 +73,7 @@ hold (d ∷ l) h = (published-as (d .orders) _ _ _ refl .1 ∙ h .1, answered (d
 
 -- all that a row computes through
 unfoldable rowsCompute : Unit {0}
-unfolding computed executedOf allSets forHours execution buyAmount sellAmount shares inStepOrder
-    lawful-as executed-as traded-as welfare-as best-as outcome-as published-as
+unfolding computed executedOf allSets forHours lawful-as executed-as traded-as welfare-as best-as outcome-as published-as
 rowsCompute = tt
 
 -- S1 TO S10
