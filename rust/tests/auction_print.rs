@@ -4,14 +4,15 @@
 //!
 //! The program is `../target/bin/auction_print`, which `rt check auction_print`
 //! builds, or the one that the environment variable AUCTION_PRINT names. BOOKS
-//! raises the count of random books (default 3000).
+//! raises the count of random books (at least 3000).
 
 mod sample_files;
 
 use auction_listing::books::{
-    reader_book, small_book, small_orders, thirty_two_blocks, Dice, Orders, StepOrder,
+    count, reader_book, small_book, small_orders, thirty_two_blocks, Dice, Orders, StepOrder,
 };
 use auction_listing::paper::{self, Side};
+use auction_listing::twin::by_value::clearing::{self, Clearing};
 use sample_files::{names, path, sample};
 use std::fs::File;
 use std::io::Write;
@@ -112,6 +113,26 @@ fn the_samples_are_printed() {
     }
 }
 
+/// The books of the benchmark, whose sets of blocks are too many to list: against
+/// the sheet of the by-value twin's result.
+#[test]
+fn the_bench_books_are_printed() {
+    let folder = Path::new(env!("CARGO_MANIFEST_DIR")).join("bench-books");
+    let entries = std::fs::read_dir(folder).expect("the bench books");
+    let files = entries.map(|entry| entry.expect("an entry").path());
+    let books: Vec<PathBuf> =
+        files.filter(|file| file.extension().is_some_and(|e| e == "book")).collect();
+    assert_eq!(books.len(), 20);
+    for file in books {
+        let book = std::fs::read(&file).expect("a book");
+        let accepted = paper::read(&book).expect("accepted");
+        let mut result = vec![0; paper::result_length(accepted.record_count)];
+        assert!(matches!(clearing::clear(&book, &mut result), Clearing::Published));
+        let name = file.display().to_string();
+        assert_same(printed(&book), &paper::sheet_of(&accepted, &result), &name);
+    }
+}
+
 /// The command at the root of the repository, which builds the program where
 /// that is needed.
 #[test]
@@ -127,11 +148,10 @@ fn the_command_prints_the_samples() {
 /// Half of them accepted books, half of them damaged in most cases.
 #[test]
 fn random_books_are_printed() {
-    let count: u64 =
-        std::env::var("BOOKS").map_or(3_000, |count| count.parse().expect("BOOKS is a number"));
+    let wanted = count("BOOKS", 3_000);
     let mut met = [0u64; 7];
     let mut seed = FIRST_SEED;
-    while met.iter().sum::<u64>() < count {
+    while met.iter().sum::<u64>() < wanted {
         for (name, book) in [("small_book", small_book(seed)), ("reader_book", reader_book(seed))] {
             let reading = paper::read(&book);
             if reading.as_ref().is_ok_and(|accepted| accepted.blocks.len() > 9) {

@@ -1,22 +1,24 @@
 //! The proved pricing and the proved clearing against this package, byte for
 //! byte. Compiled with the feature `proved` only.
 //!
-//! The environment variable BOOKS raises the counts (default 20000 each).
+//! The environment variable BOOKS raises the counts (at least 20000 each).
 
-mod many_books;
+mod large_stack;
 
 use auction_listing::books::{
-    edge_books, pricing_case, reader_book, small_book, tiny_book, worked_days,
+    count, edge_books, pricing_case, reader_book, small_book, tiny_book, worked_days,
 };
 use auction_listing::paper::{self, HourAnswer};
 use auction_listing::proved;
-use many_books::{count, with_stack};
+use large_stack::with_stack;
+
+const LEAST_BOOKS: u64 = 20_000;
 
 #[test]
 fn the_proved_pricing_agrees() {
     with_stack(|| {
         let mut met = [0u64; 3];
-        for seed in 0..count() {
+        for seed in 0..count("BOOKS", LEAST_BOOKS) {
             let (book, set, hour) = pricing_case(seed);
             let expected = paper::price_hour(&book, set, hour);
             assert_eq!(proved::price(&book, set, hour), expected, "pricing_case({seed})");
@@ -68,7 +70,7 @@ fn the_worked_days_clear() {
 #[test]
 fn small_books_clear_as_the_listing_of_all_sets() {
     with_stack(|| {
-        for seed in 0..count() {
+        for seed in 0..count("BOOKS", LEAST_BOOKS) {
             let book = small_book(seed);
             assert_eq!(
                 compare_clearing(&book, size_for(&book), &|| format!("small_book({seed})")),
@@ -97,7 +99,8 @@ fn refused_books_and_buffers_leave_the_result_as_it_was() {
         let mut met = [0u64; 8];
         let edges =
             edge_books().into_iter().enumerate().map(|(i, book)| (format!("edge book {i}"), book));
-        let damaged = (0..count()).map(|seed| (format!("reader_book({seed})"), reader_book(seed)));
+        let damaged = (0..count("BOOKS", LEAST_BOOKS))
+            .map(|seed| (format!("reader_book({seed})"), reader_book(seed)));
         for (name, book) in edges.chain(damaged) {
             if paper::read(&book).is_ok_and(|accepted| accepted.blocks.len() > 9) {
                 continue; // the listing of all sets takes too long

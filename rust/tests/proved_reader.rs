@@ -1,12 +1,12 @@
 //! The proved reader against the reader of this package, on damaged, random and
 //! accepted books. Compiled with the feature `proved` only.
 //!
-//! The environment variable BOOKS raises the count of books (default 100000).
+//! The environment variable BOOKS raises the count of books (at least 100000).
 
-use auction_listing::books::{edge_books, every_byte_changed, reader_book, worked_days};
+use auction_listing::books::{count, edge_books, every_byte_changed, reader_book, worked_days};
 use auction_listing::{paper, proved};
 
-const DEFAULT_BOOKS: u64 = 100_000;
+const LEAST_BOOKS: u64 = 100_000;
 /// The proved library keeps its tables on the stack.
 const STACK: usize = 256 << 20;
 
@@ -17,10 +17,7 @@ fn the_proved_reader_agrees() {
 }
 
 fn compare_readers() {
-    let wanted = match std::env::var("BOOKS") {
-        Ok(count) => count.parse().expect("BOOKS is a number"),
-        Err(_) => DEFAULT_BOOKS,
-    };
+    let wanted = count("BOOKS", LEAST_BOOKS);
     let mut tally = Tally::default();
     for (name, orders) in worked_days() {
         let book = orders.book();

@@ -1,14 +1,16 @@
 //! The proved sheet against this package, byte for byte. Compiled with the
 //! feature `proved` only.
 //!
-//! The environment variable BOOKS raises the counts (default 20000 each).
+//! The environment variable BOOKS raises the counts (at least 20000 each).
 
-mod many_books;
+mod large_stack;
 
-use auction_listing::books::{edge_books, reader_book, small_book, worked_days};
+use auction_listing::books::{count, edge_books, reader_book, small_book, worked_days};
 use auction_listing::paper;
 use auction_listing::proved;
-use many_books::{count, with_stack};
+use large_stack::with_stack;
+
+const LEAST_BOOKS: u64 = 20_000;
 
 #[test]
 fn the_worked_days_are_printed() {
@@ -23,7 +25,7 @@ fn the_worked_days_are_printed() {
 #[test]
 fn small_books_are_printed() {
     with_stack(|| {
-        for seed in 0..count() {
+        for seed in 0..count("BOOKS", LEAST_BOOKS) {
             let book = small_book(seed);
             assert_eq!(proved::sheet(&book), paper::sheet(&book), "small_book({seed})");
         }
@@ -33,7 +35,7 @@ fn small_books_are_printed() {
 #[test]
 fn refusals_are_printed() {
     with_stack(|| {
-        let damaged = (0..count()).map(reader_book);
+        let damaged = (0..count("BOOKS", LEAST_BOOKS)).map(reader_book);
         for (i, book) in edge_books().into_iter().chain(damaged).enumerate() {
             if paper::read(&book).is_ok_and(|accepted| accepted.blocks.len() > 9) {
                 continue; // the listing of all sets takes too long

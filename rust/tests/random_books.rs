@@ -1,22 +1,16 @@
 //! The implementation against itself, in slower words, on random books: prices
 //! by scan, "does not clear" by its rule, demand 2 by its properties, and demand
 //! 3 by the list of all contenders.
+//!
+//! Environment variables raise the counts: SCANS for the slow scan of all prices,
+//! BOOKS for all others.
 
-use auction_listing::books::{pricing_case, small_book, tiny_book};
+use auction_listing::books::{count, pricing_case, raised, small_book, tiny_book};
 use auction_listing::paper::{
     beyond_totals, candidates, clear, clears, contenders, executed, for_each_contender,
     keeps_limit, net_block_sales, outcome, price_hour, price_hour_by_scan, read, result_length,
     scan, tie_goes_to, Book, HourAnswer, Published, Side,
 };
-
-/// How many books a test looks at, raised by an environment variable: SCANS for
-/// the slow scan of all prices, BOOKS for all others.
-fn count(variable: &str, default: u64) -> u64 {
-    match std::env::var(variable) {
-        Ok(count) => default.max(count.parse().expect("a number of books")),
-        Err(_) => default,
-    }
-}
 
 fn cleared(book: &[u8]) -> (Book, Published) {
     let accepted = read(book).expect("accepted");
@@ -235,4 +229,16 @@ fn ties() {
     assert!(tie_goes_to(0b101, 0b110));
     assert!(tie_goes_to(1 << 31, 0));
     assert!(!tie_goes_to(5, 5));
+}
+
+/// A count is raised by its variable and never lowered.
+#[test]
+fn counts_are_raised() {
+    assert_eq!(raised(None, 400), 400);
+    assert_eq!(raised(Some("0"), 400), 400);
+    assert_eq!(raised(Some("399"), 400), 400);
+    assert_eq!(raised(Some("401"), 400), 401);
+    for no_number in ["", "-1", "many"] {
+        assert!(std::panic::catch_unwind(|| raised(Some(no_number), 400)).is_err());
+    }
 }

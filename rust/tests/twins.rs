@@ -107,8 +107,8 @@ fn the_twins_refuse_as_the_listing() {
 fn the_twins_agree_on_large_books() {
     with_stack(|| {
         let mut space = Workspace::default();
-        for (name, book) in FAMILIES {
-            let book = book(1);
+        for family in FAMILIES {
+            let (name, book) = (family.name, (family.book)(1, family.usual_blocks));
             let (answer, result) = agreed(name, &book, size_for(&book), &mut space);
             assert_eq!(answer, 0, "{name}: refused");
             let published = Published::from_bytes(&result);

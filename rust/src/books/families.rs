@@ -10,18 +10,38 @@ const LEVELS: [u32; 24] = [
     5600, 5400, 6000, 6400, 5800, 5600, 5200, 4000,
 ];
 
-/// A family: its name and the book of a seed.
-pub type Family = (&'static str, fn(u64) -> Vec<u8>);
+/// A family of books.
+pub struct Family {
+    pub name: &'static str,
+    /// The blocks of its books in the benchmark.
+    pub usual_blocks: usize,
+    /// With no more blocks than these a book of any seed clears in a moment; with
+    /// more it may take minutes.
+    pub quick_blocks: usize,
+    /// The book of a seed with so many blocks.
+    pub book: fn(u64, usize) -> Vec<u8>,
+}
+
+impl Family {
+    const fn new(
+        name: &'static str,
+        usual_blocks: usize,
+        quick_blocks: usize,
+        book: fn(u64, usize) -> Vec<u8>,
+    ) -> Family {
+        Family { name, usual_blocks, quick_blocks, book }
+    }
+}
 
 /// The families of the benchmark.
 pub const FAMILIES: [Family; 7] = [
-    ("full days", |seed| full_day(seed, 2015, 32)),
-    ("full days, odd hours", odd_day),
-    ("identical blocks", identical_blocks),
-    ("thin days", thin_day),
-    ("blocks only", blocks_only),
-    ("ties", ties),
-    ("cliffs", cliffs),
+    Family::new("full days", 32, 32, |seed, blocks| full_day(seed, 2015, blocks)),
+    Family::new("full days, odd hours", 32, 32, odd_day),
+    Family::new("identical blocks", 30, 32, identical_blocks),
+    Family::new("thin days", 32, 32, thin_day),
+    Family::new("blocks only", 32, 32, blocks_only),
+    Family::new("ties", 18, 24, ties),
+    Family::new("cliffs", 18, 22, cliffs),
 ];
 
 /// A day with deep curves in every hour and ordinary blocks, most of which have
@@ -33,22 +53,23 @@ pub fn full_day(seed: u64, steps: usize, blocks: usize) -> Vec<u8> {
     orders.book()
 }
 
-fn odd_day(seed: u64) -> Vec<u8> {
+fn odd_day(seed: u64, blocks: usize) -> Vec<u8> {
     let mut dice = Dice::new(seed);
     let mut orders = deep_steps(&mut dice, 2015);
-    add_ordinary_blocks(&mut orders, &mut dice, 32, odd_hours, 20);
+    add_ordinary_blocks(&mut orders, &mut dice, blocks, odd_hours, 20);
     orders.book()
 }
 
-/// Six groups of blocks that are alike, at a few prices.
-fn identical_blocks(seed: u64) -> Vec<u8> {
+/// Groups of five blocks that are alike, at a few prices; the last may have fewer.
+fn identical_blocks(seed: u64, blocks: usize) -> Vec<u8> {
     let mut dice = Dice::new(seed);
     let mut orders = deep_steps(&mut dice, 2015);
     let prices = empty_prices(&orders);
-    for group in 0..6 {
+    while orders.blocks.len() < blocks {
+        let group = orders.blocks.len() as u32 / 5;
         let (side, hours) = (dice.pick(&[Side::Buy, Side::Sell]), usual_hours(&mut dice));
         let price = near_average(&prices, hours, 5, &mut dice);
-        for _ in 0..5 {
+        for _ in 0..5.min(blocks - orders.blocks.len()) {
             push_block(&mut orders, side, hours, price, 20 + 5 * group);
         }
     }
@@ -56,7 +77,7 @@ fn identical_blocks(seed: u64) -> Vec<u8> {
 }
 
 /// Four steps an hour, so that a block moves the price far.
-fn thin_day(seed: u64) -> Vec<u8> {
+fn thin_day(seed: u64, blocks: usize) -> Vec<u8> {
     let mut dice = Dice::new(seed);
     let mut orders = Orders::new();
     for (hour, level) in (1..).zip(LEVELS) {
@@ -65,17 +86,17 @@ fn thin_day(seed: u64) -> Vec<u8> {
             push_step(&mut orders, side, hour, price, dice.between(20, 400));
         }
     }
-    add_ordinary_blocks(&mut orders, &mut dice, 32, usual_hours, 300);
+    add_ordinary_blocks(&mut orders, &mut dice, blocks, usual_hours, 300);
     orders.book()
 }
 
 /// No steps: blocks balance among themselves, or nothing is traded.
-fn blocks_only(seed: u64) -> Vec<u8> {
+fn blocks_only(seed: u64, blocks: usize) -> Vec<u8> {
     let mut dice = Dice::new(seed);
     let mut orders = Orders::new();
     let halves = [hour_bits(&[1, 2, 3, 4]), hour_bits(&[5, 6, 7, 8])];
     let hours = [halves[0], halves[1], halves[0] | halves[1]];
-    for _ in 0..32 {
+    for _ in 0..blocks {
         let side = dice.pick(&[Side::Buy, Side::Sell]);
         let price = match side {
             Side::Buy => dice.between(150_000, 250_000),
@@ -87,7 +108,7 @@ fn blocks_only(seed: u64) -> Vec<u8> {
 }
 
 /// The same curves in every hour, and blocks that all have the same price.
-fn ties(seed: u64) -> Vec<u8> {
+fn ties(seed: u64, blocks: usize) -> Vec<u8> {
     let mut dice = Dice::new(seed);
     let mut orders = Orders::new();
     for hour in 1..=24 {
@@ -96,7 +117,7 @@ fn ties(seed: u64) -> Vec<u8> {
             push_step(&mut orders, side, hour, price, 40);
         }
     }
-    for _ in 0..18 {
+    for _ in 0..blocks {
         let side = dice.pick(&[Side::Buy, Side::Sell]);
         let hours = standard_hours(&mut dice);
         push_block(&mut orders, side, hours, 5000, dice.between(10, 50));
@@ -105,11 +126,11 @@ fn ties(seed: u64) -> Vec<u8> {
 }
 
 /// Sell blocks that all gain until an hour's price falls far below their limit.
-fn cliffs(seed: u64) -> Vec<u8> {
+fn cliffs(seed: u64, blocks: usize) -> Vec<u8> {
     let mut dice = Dice::new(seed);
     let mut orders = Orders::new();
     let mut offered = [0; 24];
-    for _ in 0..18 {
+    for _ in 0..blocks {
         let hours = run_of_hours(&mut dice, 3, 12);
         let quantity = dice.between(10, 50);
         for (h, offered) in offered.iter_mut().enumerate() {

@@ -1,16 +1,10 @@
-//! The sample files. They are looked for in `../samples`, else in `samples`.
+//! The sample files.
 
 use std::fs;
 use std::path::{Path, PathBuf};
 
 fn directory() -> PathBuf {
-    let package = Path::new(env!("CARGO_MANIFEST_DIR"));
-    let beside = package.join("../samples");
-    if beside.is_dir() {
-        beside
-    } else {
-        package.join("samples")
-    }
+    Path::new(env!("CARGO_MANIFEST_DIR")).join("../samples")
 }
 
 /// The names of all books, without their ending.

@@ -13,8 +13,8 @@ const SEEDS: std::ops::Range<u64> = 1..6;
 pub fn families(options: &Options) -> bool {
     titles("family of 5 (medians)");
     let mut right = true;
-    for (name, book) in FAMILIES {
-        right &= group(name, book, options);
+    for family in FAMILIES {
+        right &= group(family.name, |seed| (family.book)(seed, family.usual_blocks), options);
     }
     right
 }

@@ -1,5 +1,6 @@
 //! A book to be cleared, with what is expected of it where that is known.
 
+use auction_listing::books::Expected;
 use auction_listing::paper::{self, Published};
 use std::path::{Path, PathBuf};
 
@@ -8,14 +9,6 @@ pub struct Subject {
     pub book: Vec<u8>,
     pub blocks: usize,
     pub expected: Option<Expected>,
-}
-
-/// A line of `expected.txt`, which stands beside the books.
-pub struct Expected {
-    pub set: u32,
-    pub welfare: u64,
-    pub nodes: u64,
-    pub prices: Vec<u32>,
 }
 
 /// The result's length for a book.
@@ -51,9 +44,8 @@ impl Subject {
         let book = std::fs::read(file).unwrap_or_else(|error| panic!("{file}: {error}"));
         let path = Path::new(file);
         let base = path.file_name().map_or("", |name| name.to_str().unwrap_or(""));
-        let lines = std::fs::read_to_string(path.with_file_name("expected.txt"));
         let mut subject = Subject::new(base.trim_end_matches(".book").to_string(), book);
-        subject.expected = lines.ok().and_then(|lines| expected_of(base, &lines));
+        subject.expected = expected_of(path, base);
         subject
     }
 
@@ -83,15 +75,9 @@ impl Subject {
     }
 }
 
-/// The line of a book: words and values by turns after its name.
-fn expected_of(name: &str, lines: &str) -> Option<Expected> {
-    let line = lines.lines().find(|line| line.split(' ').next() == Some(name))?;
-    let words: Vec<&str> = line.split(' ').skip(1).collect();
-    let value = |word: &str| words.chunks(2).find(|pair| pair[0] == word).map(|pair| pair[1]);
-    Some(Expected {
-        set: u32::from_str_radix(value("set")?, 16).ok()?,
-        welfare: value("welfare")?.parse().ok()?,
-        nodes: value("nodes")?.parse().ok()?,
-        prices: value("prices")?.split(',').map(|price| price.parse().unwrap_or(0)).collect(),
-    })
+/// The line of `expected.txt` beside a book, where there is one.
+fn expected_of(path: &Path, base: &str) -> Option<Expected> {
+    let text = std::fs::read_to_string(path.with_file_name("expected.txt")).ok()?;
+    let lines = Expected::lines(&text).unwrap_or_else(|line| panic!("expected.txt: {line}"));
+    lines.into_iter().find(|line| line.file == base)
 }
