@@ -17,7 +17,7 @@ use Rattle.records.specs.Records.{stepAt, blockAt, recordAt, hourCount}
 use Rattle.book.specs.Chains.{chainFrom, stepChain, blockChain, steps, blocks}
 use Rattle.book.specs.Refusals.{wrongSize, wrongHead, brokenChain, wrongField, stray, strayRecord, ownedBy, tooManyOf, tooManyBlocks}
 use Rattle.book.specs.Refusals.{firstOf, ownCauses, refusal, Accepted}
-use Rattle.book.specs.Refusals.{stepFits, blockFits, stepInRange, blockInRange, outOfRange}
+use Rattle.book.specs.Refusals.{stepFits, blockFits, stepInRange, blockInRange, recordInRange, outOfRange}
 use Rattle.records.specs.declared.Step.{Step}
 use Rattle.records.specs.declared.Block.{Block}
 use Rattle.records.specs.declared.Record.the-variants as record-of
@@ -216,24 +216,27 @@ pub record BlockRecord (b : List ℕ) (i : ℕ) : Type 0 where
   pub noHour : hourByte b i ≡ 0
   pub fields : BlockBounds (limits (edition b)) (blockAt b i)
 
-step-record : (b : List ℕ) (i : ℕ) → ((0 < i) × Placed b 1 0 i) × (outOfRange b 1 i ≡ false) → StepRecord b i
-unfolding outOfRange stepInRange recordAt
+step-record : (b : List ℕ) (i : ℕ) → ((0 < i) × Placed b 1 0 i) × (outOfRange b i ≡ false) → StepRecord b i
+unfolding outOfRange recordInRange stepInRange recordAt
 step-record b i h =
-    let r : stepInRange b i ≡ true = not-false _ (h .1) in
+    let read : recordAt b i ≡ record-of.Step (stepAt b i) = rw (eq-eqb _ _ (h .0 .1 .ofKind)) in
+    let r : stepInRange b i (stepAt b i) ≡ true = not-false _ (rw read at (h .1)) in
     let side = within 0 (sideByte b i) 1 in
     record {
       positive = h .0 .0;
       inside = h .0 .1 .below;
       ofKind = h .0 .1 .ofKind;
-      read = rw (eq-eqb _ _ (h .0 .1 .ofKind));
+      read = read;
       side = bounds _ _ _ (and-left side (stepFits (stepAt b i)) r) .1;
       fields = step-bounds _ (and-right side _ r);
     }
 
-block-record : (b : List ℕ) (i : ℕ) → ((0 < i) × Placed b 2 0 i) × (outOfRange b 2 i ≡ false) → BlockRecord b i
-unfolding outOfRange blockInRange recordAt
+block-record : (b : List ℕ) (i : ℕ) → ((0 < i) × Placed b 2 0 i) × (outOfRange b i ≡ false) → BlockRecord b i
+unfolding outOfRange recordInRange blockInRange recordAt
 block-record b i h =
-    let r : blockInRange b i ≡ true = not-false _ (h .1) in
+    let other = ne-eqb (kind b i) 1 (λ e. let k = h .0 .1 .ofKind in omega arith) in
+    let read : recordAt b i ≡ record-of.Block (blockAt b i) = rw (other, eq-eqb _ _ (h .0 .1 .ofKind)) in
+    let r : blockInRange b i (blockAt b i) ≡ true = not-false _ (rw read at (h .1)) in
     let side = within 0 (sideByte b i) 1 in
     let none = eqb (hourByte b i) 0 in
     let s = and-left (side && none) (blockFits (limits (edition b)) (blockAt b i)) r in
@@ -241,7 +244,7 @@ block-record b i h =
       positive = h .0 .0;
       inside = h .0 .1 .below;
       ofKind = h .0 .1 .ofKind;
-      read = rw (ne-eqb (kind b i) 1 (λ e. let k = h .0 .1 .ofKind in omega arith), eq-eqb _ _ (h .0 .1 .ofKind));
+      read = read;
       side = bounds _ _ _ (and-left side none s) .1;
       noHour = eqb-true _ _ (and-right side none s);
       fields = block-bounds _ _ (and-right (side && none) _ r);
@@ -252,24 +255,24 @@ pub step-records : (b : List ℕ) → Accepted b → Each (StepRecord b) (stepCh
 unfolding wrongField
 step-records b a =
     let s = stepChain b in
-    each-map (λ i. ((0 < i) × Placed b 1 0 i) × (outOfRange b 1 i ≡ false)) (StepRecord b) s (step-record b)
-    (each-both (λ i. (0 < i) × Placed b 1 0 i) (λ i. outOfRange b 1 i ≡ false) s
+    each-map (λ i. ((0 < i) × Placed b 1 0 i) × (outOfRange b i ≡ false)) (StepRecord b) s (step-record b)
+    (each-both (λ i. (0 < i) × Placed b 1 0 i) (λ i. outOfRange b i ≡ false) s
     (each-both (λ i. 0 < i) (Placed b 1 0) s
     (chain-positive (recordCount b) b (firstStep b))
     (placed b 1 0 s (steps-unbroken b (a .unbroken))))
-    (none-in s (outOfRange b 1) (or-left _ (someIn (blockChain b) (outOfRange b 2)) (a .inRange))))
+    (none-in s (outOfRange b) (or-left _ (someIn (blockChain b) (outOfRange b)) (a .inRange))))
 
 -- What holds of each record of the block chain
 pub block-records : (b : List ℕ) → Accepted b → Each (BlockRecord b) (blockChain b)
 unfolding wrongField
 block-records b a =
     let s = blockChain b in
-    each-map (λ i. ((0 < i) × Placed b 2 0 i) × (outOfRange b 2 i ≡ false)) (BlockRecord b) s (block-record b)
-    (each-both (λ i. (0 < i) × Placed b 2 0 i) (λ i. outOfRange b 2 i ≡ false) s
+    each-map (λ i. ((0 < i) × Placed b 2 0 i) × (outOfRange b i ≡ false)) (BlockRecord b) s (block-record b)
+    (each-both (λ i. (0 < i) × Placed b 2 0 i) (λ i. outOfRange b i ≡ false) s
     (each-both (λ i. 0 < i) (Placed b 2 0) s
     (chain-positive (recordCount b) b (firstBlock b))
     (placed b 2 0 s (blocks-unbroken b (a .unbroken))))
-    (none-in s (outOfRange b 2) (or-right (someIn (stepChain b) (outOfRange b 1)) _ (a .inRange))))
+    (none-in s (outOfRange b) (or-right (someIn (stepChain b) (outOfRange b)) _ (a .inRange))))
 
 -- The book's steps and blocks, read
 pub steps-bounded : (b : List ℕ) → Accepted b → Each StepBounds (steps b)

@@ -6,10 +6,10 @@ use mathlib.Core.List.{List, [], _∷_}
 use Rattle.records.specs.Bytes.{u16At, u24At, u32At, nonzero}
 use Rattle.book.specs.Tests.{within, someBelow, someIn, countIn}
 use Rattle.rules.specs.Orders.{limits}
-use Rattle.records.specs.Records.{stepAt, blockAt, hourCount}
+use Rattle.records.specs.Records.{stepAt, blockAt, recordAt, hourCount}
 use Rattle.book.specs.Chains.{chainFrom}
 use Rattle.book.specs.Refusals.{wrongSize, wrongHead, misplaced, broken, brokenChain, stepFits, blockFits, stepInRange, blockInRange}
-use Rattle.book.specs.Refusals.{outOfRange, wrongField, stray, strayRecord, ownedBy, tooManyOf, tooManyBlocks, firstOf, ownCauses, refusal}
+use Rattle.book.specs.Refusals.{recordInRange, outOfRange, wrongField, stray, strayRecord, ownedBy, tooManyOf, tooManyBlocks, firstOf, ownCauses, refusal}
 use Rattle.book.specs.Answers.{reading}
 use Rattle.book.specs.declared.Reading.the-variants as reading-of
 
@@ -58,7 +58,7 @@ pub record Decided : Type 0 where
 
 pub decided : Decided
 unfolding
-    headAlone stepAndBlock ownNext bothCauses leftOver u16At u24At u32At nonzero within someBelow someIn countIn limits stepAt blockAt hourCount
-    chainFrom wrongSize wrongHead misplaced broken brokenChain stepFits blockFits stepInRange blockInRange outOfRange wrongField stray
+    headAlone stepAndBlock ownNext bothCauses leftOver u16At u24At u32At nonzero within someBelow someIn countIn limits stepAt blockAt recordAt hourCount
+    chainFrom wrongSize wrongHead misplaced broken brokenChain stepFits blockFits stepInRange blockInRange recordInRange outOfRange wrongField stray
     strayRecord ownedBy tooManyOf tooManyBlocks firstOf ownCauses refusal reading
 decided = record { head = refl; orders = refl; loop = refl; two = refl; left = refl }

@@ -54,7 +54,7 @@ refusal-sized b head broken wrong short many n6 n5 n4 n3 n2 e h2 h3 h4 h5 h6 e6 
     at false q = rw (stray-short b (count-bounds b e .0) q)
 
 -- Causes 4 and 5 from what is found along the two chains
-pub field-found : (b : List ℕ) (s t : Bool) → s ≡ someIn (stepChain b) (outOfRange b 1) → t ≡ someIn (blockChain b) (outOfRange b 2) → (s || t) ≡ wrongField b
+pub field-found : (b : List ℕ) (s t : Bool) → s ≡ someIn (stepChain b) (outOfRange b) → t ≡ someIn (blockChain b) (outOfRange b) → (s || t) ≡ wrongField b
 unfolding wrongField
 field-found b s t p q = rw (p, q)
 

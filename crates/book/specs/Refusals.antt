@@ -9,10 +9,12 @@ use lib.ListN.{length}
 use Rattle.records.specs.Bytes.{nonzero}
 use Rattle.book.specs.Tests.{within, someBelow, someIn, countIn, member}
 use Rattle.rules.specs.Orders.{Limits, limits}
-use Rattle.records.specs.Records.{recordCount, dayHours, edition, kind, sideByte, number, hourByte, portfolio, stepAt, blockAt, hourCount}
+use Rattle.records.specs.Records.{recordCount, dayHours, edition, kind, sideByte, number, hourByte, portfolio, recordAt, hourCount}
 use Rattle.book.specs.Chains.{stepChain, blockChain}
 use Rattle.records.specs.declared.Step.{Step}
 use Rattle.records.specs.declared.Block.{Block}
+use Rattle.records.specs.declared.Record.{Record}
+use Rattle.records.specs.declared.Record.the-variants as record-of
 
 -- 1: length not 16 × R, below 16 bytes, or R outside 1 to 2,048
 unfoldable pub wrongSize : List ℕ → Bool
@@ -44,21 +46,27 @@ unfoldable pub blockFits : Limits → Block → Bool
 blockFits l s =
     within 1 (s .portfolio) 255 && leb 2 (hourCount 24 (s .hours)) && within 1 (s .price) 300000 && within 1 (s .quantity) (l .blockQuantity)
 
--- Record i of the step chain: its side is 0 or 1, and it fits
-unfoldable pub stepInRange : List ℕ → ℕ → Bool
-stepInRange b i = within 0 (sideByte b i) 1 && stepFits (stepAt b i)
+-- Record i as a step: its side is 0 or 1, and it fits
+unfoldable pub stepInRange : List ℕ → ℕ → Step → Bool
+stepInRange b i s = within 0 (sideByte b i) 1 && stepFits s
 
--- Record i of the block chain: its side is 0 or 1, its byte 6 is 0, and it fits
-unfoldable pub blockInRange : List ℕ → ℕ → Bool
-blockInRange b i = within 0 (sideByte b i) 1 && eqb (hourByte b i) 0 && blockFits (limits (edition b)) (blockAt b i)
+-- Record i as a block: its side is 0 or 1, its byte 6 is 0, and it fits
+unfoldable pub blockInRange : List ℕ → ℕ → Block → Bool
+blockInRange b i s = within 0 (sideByte b i) 1 && eqb (hourByte b i) 0 && blockFits (limits (edition b)) s
 
--- 4, at record i of a chain of kind k: a field outside its range
-unfoldable pub outOfRange : List ℕ → ℕ → ℕ → Bool
-outOfRange b k i = not (cond (eqb k 1) (stepInRange b i) (blockInRange b i))
+-- Record i, read as what it is, has its fields in their ranges; one that is neither has no fields (on a chain it is cause 3)
+unfoldable pub recordInRange : List ℕ → ℕ → Record → Bool
+recordInRange b i (record-of.Step s) = stepInRange b i s
+recordInRange b i (record-of.Block s) = blockInRange b i s
+recordInRange b i record-of.Other = true
+
+-- 4, at record i: a field outside its range
+unfoldable pub outOfRange : List ℕ → ℕ → Bool
+outOfRange b i = not (recordInRange b i (recordAt b i))
 
 -- 4, on a chain: any other field outside its range
 unfoldable pub wrongField : List ℕ → Bool
-wrongField b = someIn (stepChain b) (outOfRange b 1) || someIn (blockChain b) (outOfRange b 2)
+wrongField b = someIn (stepChain b) (outOfRange b) || someIn (blockChain b) (outOfRange b)
 
 -- Record i is not the head, and on no chain
 unfoldable pub stray : List ℕ → ℕ → Bool

@@ -65,10 +65,10 @@ pub struct Survey {
     pub outside: bool,
 }
 
-// The survey of the chain of this kind that starts at first.
-pub fn survey_of(book: &[u8], kind: u8, first: u16) -> Survey
+// The survey of the chain that starts at first.
+pub fn survey_of(book: &[u8], first: u16) -> Survey
     ensures length { λ r. ⌜ r .length ≡ length (chain (now (book .entry)) first) ⌝ }
-    ensures outside { λ r. ⌜ r .outside ≡ someIn (chain (now (book .entry)) first) (outOfRange (now (book .entry)) kind) ⌝ }
+    ensures outside { λ r. ⌜ r .outside ≡ someIn (chain (now (book .entry)) first) (outOfRange (now (book .entry))) ⌝ }
 {
     let mut left = record_count(book);
     let mut i = first;
@@ -79,7 +79,7 @@ pub fn survey_of(book: &[u8], kind: u8, first: u16) -> Survey
             return Survey { length, outside };
         }
         length += 1;
-        outside = outside | is_out_of_range(book, kind, i);
+        outside = outside | is_out_of_range(book, i);
         i = next_of(book, i);
         left -= 1;
     }

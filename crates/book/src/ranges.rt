@@ -4,14 +4,13 @@ ghost use Rattle.book.specs.Tests.{within};
 ghost use Rattle.rules.specs.Orders.{limits};
 ghost use Rattle.book.specs.Refusals.{stepFits, blockFits, stepInRange, blockInRange, outOfRange};
 use records::Block;
-use records::STEP;
+use records::Record;
 use records::Step;
-use records::block_at;
 use records::edition_of;
 use records::hour_byte;
 use records::hour_count;
+use records::record_at;
 use records::side_byte;
-use records::step_at;
 
 // Whether x is from low to high.
 pub fn is_within(low: u32, x: u32, high: u32) -> bool
@@ -60,28 +59,30 @@ fn block_fits(edition: u8, block: Block) -> bool
         & is_within(1, block.quantity as u32, most_block_quantity(edition))
 }
 
-// Whether record i of the step chain has its fields in range.
-fn is_step_in_range(book: &[u8], i: u16) -> bool
-    ensures { λ r. ⌜ r ≡ stepInRange (now (book .entry)) i ⌝ }
+// Whether record i, a step, has its fields in range.
+fn is_step_in_range(book: &[u8], i: u16, step: Step) -> bool
+    ensures { λ r. ⌜ r ≡ stepInRange (now (book .entry)) i step ⌝ }
 {
-    is_within(0, side_byte(book, i) as u32, 1) & step_fits(step_at(book, i))
+    is_within(0, side_byte(book, i) as u32, 1) & step_fits(step)
 }
 
-// Whether record i of the block chain has its fields in range.
-fn is_block_in_range(book: &[u8], i: u16) -> bool
-    ensures { λ r. ⌜ r ≡ blockInRange (now (book .entry)) i ⌝ }
+// Whether record i, a block, has its fields in range.
+fn is_block_in_range(book: &[u8], i: u16, block: Block) -> bool
+    ensures { λ r. ⌜ r ≡ blockInRange (now (book .entry)) i block ⌝ }
 {
     is_within(0, side_byte(book, i) as u32, 1)
         & (hour_byte(book, i) == 0)
-        & block_fits(edition_of(book), block_at(book, i))
+        & block_fits(edition_of(book), block)
 }
 
-// Whether record i of a chain of this kind has a field outside its range.
-pub fn is_out_of_range(book: &[u8], kind: u8, i: u16) -> bool
-    ensures { λ r. ⌜ r ≡ outOfRange (now (book .entry)) kind i ⌝ }
+// Whether record i has a field outside its range.
+pub fn is_out_of_range(book: &[u8], i: u16) -> bool
+    ensures { λ r. ⌜ r ≡ outOfRange (now (book .entry)) i ⌝ }
 {
-    if kind == STEP {
-        return !is_step_in_range(book, i);
+    let found = record_at(book, i);
+    match found {
+        Record::Step(step) => !is_step_in_range(book, i, step),
+        Record::Block(block) => !is_block_in_range(book, i, block),
+        Record::Other => false,
     }
-    !is_block_in_range(book, i)
 }

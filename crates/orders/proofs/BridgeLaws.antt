@@ -6,7 +6,7 @@ use mathlib.Core.Path.{_≡_, refl, ap, sym, _∙_}
 use mathlib.Core.List.{List, [], _∷_, map}
 use lib.ListN.{length, take, length-map}
 use Rattle.rules.specs.Orders.{limits}
-use Rattle.records.specs.Records.{sideByte, blockAt, holdsHour, hourCount}
+use Rattle.records.specs.Records.{number, sideByte, blockAt, holdsHour, hourCount}
 use Rattle.book.specs.Chains.{stepChain, blockChain}
 use Rattle.book.specs.Refusals.{Accepted}
 use Rattle.book.proofs.Members.{Each, each-map, each-image}
@@ -17,9 +17,10 @@ use Rattle.rules.specs.Day as day
 use Rattle.rules.specs.Hour.{when}
 use Rattle.rules.specs.Contender.{PricesInRange, HoursInRange}
 use Rattle.orders.specs.Bridge.{stepFrom, orderFrom, blockFrom, ordersOf, dayFrom}
-use Rattle.orders.specs.Columns.{blockRecords, blockHoursAt, blockPriceAt, blockQuantityAt, BlockColumns, blockOf, blocksFrom}
+use Rattle.orders.specs.Columns.{blockRecords, blockSideAt, blockHoursAt, blockPriceAt, blockQuantityAt, BlockColumns}
+use Rattle.orders.specs.Columns.{blockOf, blocksFrom}
 use Rattle.orders.proofs.FrontLaws.{block-records-front, block-sides-front, block-hours-front, block-prices-front, block-quantities-front}
-use Rattle.orders.proofs.RecordLaws.{blocks-all}
+use Rattle.orders.proofs.RecordLaws.{blocks-all, block-each, block-as-read}
 use Rattle.orders.proofs.HourLaws.{side-same}
 
 -- THE DAY'S LISTS
@@ -91,11 +92,16 @@ pub hours-in-range : (b : List ℕ) → Accepted b → HoursInRange (dayFrom b .
 hours-in-range b a = hours-of (dayFrom b .steps) (steps-in-range b a)
 
 -- BLOCKS OUT OF THEIR COLUMNS
-blocks-from : (b : List ℕ) (l : List ℕ) → map (blockFrom b) l
-    ≡ blocksFrom b l (map (sideByte b) l) (map (blockHoursAt b) l) (map (blockPriceAt b) l) (map (blockQuantityAt b) l)
-unfolding blockFrom blockAt blocksFrom
-blocks-from b [] = refl
-blocks-from b (k ∷ l) = rw (side-same (sideByte b k), blocks-from b l)
+block-same : (b : List ℕ) (k : ℕ) → BlockRecord b k
+    → blockFrom b k ≡ blockOf (number b k) (blockSideAt b k) (blockHoursAt b k) (blockPriceAt b k) (blockQuantityAt b k)
+unfolding blockFrom blockAt
+block-same b k r = let n = block-as-read b k r in rw (n .side, n .hours, n .price, n .quantity, side-same (sideByte b k))
+
+blocks-from : (b : List ℕ) (l : List ℕ) → Each (BlockRecord b) l → map (blockFrom b) l
+    ≡ blocksFrom b l (map (blockSideAt b) l) (map (blockHoursAt b) l) (map (blockPriceAt b) l) (map (blockQuantityAt b) l)
+unfolding blocksFrom
+blocks-from b [] r = refl
+blocks-from b (k ∷ l) r = rw (block-same b k (r .0), blocks-from b l (r .1))
 
 -- The day's blocks are those of the first `count` places of the columns
 pub blocks-from-columns : {n : ℕ} (b : List ℕ) (count : ℕ) (records sides hours prices quantities : List ℕ)
@@ -111,7 +117,7 @@ blocks-from-columns b count records sides hours prices quantities c a =
       block-hours-front c,
       block-prices-front c,
       block-quantities-front c,
-    ) (blocks-from b (blockRecords b))
+    ) (blocks-from b (blockRecords b) (block-each b a))
 
 -- .. and there are `count` of them
 pub block-count : {n : ℕ} (b : List ℕ) (count : ℕ) (records sides hours prices quantities : List ℕ)

@@ -3,9 +3,8 @@ use Prim.Native.Nat.{ℕ}
 use mathlib.Core.Path.{_≡_, refl, sym, _∙_}
 use mathlib.Core.List.{List, map}
 use lib.ListN.{length, take, length-map}
-use Rattle.records.specs.Records.{sideByte}
 use Rattle.orders.specs.Columns.{byHour, blockRecords, padded, StepColumns, BlockColumns}
-use Rattle.orders.specs.Columns.{priceAt, quantityAt, blockHoursAt, blockPriceAt, blockQuantityAt}
+use Rattle.orders.specs.Columns.{sideAt, priceAt, quantityAt, blockSideAt, blockHoursAt, blockPriceAt, blockQuantityAt}
 use Rattle.orders.proofs.ColumnLaws.{padded-front, padded-whole}
 
 -- the numbers f of the records l in front of their column
@@ -21,8 +20,8 @@ module _ {b ends records sides prices quantities : List ℕ} (c : StepColumns b 
   pub step-records-front : take (length (byHour b 24)) records ≡ byHour b 24
   step-records-front = padded-front 2048 _ (byHour b 24) records refl (c .recordsAre)
 
-  pub step-sides-front : take (length (byHour b 24)) sides ≡ map (sideByte b) (byHour b 24)
-  step-sides-front = front-of 2048 _ (sideByte b) (byHour b 24) sides refl (c .sidesAre)
+  pub step-sides-front : take (length (byHour b 24)) sides ≡ map (sideAt b) (byHour b 24)
+  step-sides-front = front-of 2048 _ (sideAt b) (byHour b 24) sides refl (c .sidesAre)
 
   pub step-prices-front : take (length (byHour b 24)) prices ≡ map (priceAt b) (byHour b 24)
   step-prices-front = front-of 2048 _ (priceAt b) (byHour b 24) prices refl (c .pricesAre)
@@ -36,8 +35,8 @@ module _ {n : ℕ} {b : List ℕ} {count : ℕ} {records sides hours prices quan
   pub block-records-front : take count records ≡ blockRecords b
   block-records-front = padded-front n count (blockRecords b) records (sym (c .counted)) (c .recordsAre)
 
-  pub block-sides-front : take count sides ≡ map (sideByte b) (blockRecords b)
-  block-sides-front = front-of n count (sideByte b) (blockRecords b) sides (c .counted) (c .sidesAre)
+  pub block-sides-front : take count sides ≡ map (blockSideAt b) (blockRecords b)
+  block-sides-front = front-of n count (blockSideAt b) (blockRecords b) sides (c .counted) (c .sidesAre)
 
   pub block-hours-front : take count hours ≡ map (blockHoursAt b) (blockRecords b)
   block-hours-front = front-of n count (blockHoursAt b) (blockRecords b) hours (c .counted) (c .hoursAre)
@@ -55,7 +54,7 @@ module _ {n : ℕ} {b : List ℕ} {count : ℕ} {records sides hours prices quan
         counted = c .counted;
         few = c .few;
         recordsAre = block-records-front ∙ padded-whole count (blockRecords b) (sym (c .counted));
-        sidesAre = alone n count (sideByte b) (blockRecords b) sides (c .counted) (c .sidesAre);
+        sidesAre = alone n count (blockSideAt b) (blockRecords b) sides (c .counted) (c .sidesAre);
         hoursAre = alone n count (blockHoursAt b) (blockRecords b) hours (c .counted) (c .hoursAre);
         pricesAre = alone n count (blockPriceAt b) (blockRecords b) prices (c .counted) (c .pricesAre);
         quantitiesAre = alone n count (blockQuantityAt b) (blockRecords b) quantities (c .counted) (c .quantitiesAre);

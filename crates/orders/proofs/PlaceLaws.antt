@@ -5,17 +5,17 @@ use mathlib.Core.List.{List, [], _∷_, map}
 use native.Mathlib.Omega.{arith}
 use lib.ListN.{length, take, getD}
 use lib.Seq.{getD-take}
-use Rattle.records.specs.Records.{sideByte, hourCount}
+use Rattle.records.specs.Records.{sideByte, stepAt, blockAt, hourCount}
 use Rattle.rules.specs.Orders.{limits}
 use Rattle.book.specs.Refusals.{Accepted}
 use Rattle.book.proofs.Members.{each-place}
 use Rattle.book.proofs.Accepted.{StepRecord, BlockRecord}
-use Rattle.orders.specs.Columns.{blockRecords, byHour, priceAt, quantityAt, blockHoursAt, blockPriceAt, blockQuantityAt}
+use Rattle.orders.specs.Columns.{blockRecords, byHour, sideAt, priceAt, quantityAt, blockSideAt, blockHoursAt, blockPriceAt, blockQuantityAt}
 use Rattle.orders.specs.Columns.{StepColumns, BlockColumns}
 use Rattle.orders.proofs.ColumnLaws.{same, map-same}
 use Rattle.orders.proofs.FrontLaws.{step-records-front, step-sides-front, step-prices-front, step-quantities-front}
 use Rattle.orders.proofs.FrontLaws.{block-records-front, block-sides-front, block-hours-front, block-prices-front, block-quantities-front}
-use Rattle.orders.proofs.RecordLaws.{byHour-each, step-each, block-each}
+use Rattle.orders.proofs.RecordLaws.{byHour-each, step-each, block-each, step-as-read, block-as-read}
 
 map-at : (f : ℕ → ℕ) (l : List ℕ) (i : ℕ) → i < length l → getD (map f l) i 0 ≡ f (getD l i 0)
 map-at f [] i h = absurd (omega arith)
@@ -29,23 +29,24 @@ place-of f n l column e given i h = sym (getD-take n column i 0 h) ∙ rw given 
 pub record StepPlace (b : List ℕ) (k side price quantity : ℕ) : Type 0 where
   pub known : StepRecord b k
   pub sideIs : side ≡ sideByte b k
-  pub priceIs : price ≡ priceAt b k
-  pub quantityIs : quantity ≡ quantityAt b k
+  pub priceIs : price ≡ stepAt b k .price
+  pub quantityIs : quantity ≡ stepAt b k .quantity
   pub sideRange : side ≤ 1
   pub priceRange : (1 ≤ price) × (price ≤ 300000)
   pub quantityRange : (1 ≤ quantity) × (quantity ≤ 99999)
 
-step-placed : (b : List ℕ) (k side price quantity : ℕ) → StepRecord b k → side ≡ sideByte b k → price ≡ priceAt b k → quantity ≡ quantityAt b k
+step-placed : (b : List ℕ) (k side price quantity : ℕ) → StepRecord b k → side ≡ sideAt b k → price ≡ priceAt b k → quantity ≡ quantityAt b k
     → StepPlace b k side price quantity
 step-placed b k side price quantity r s p q =
+    let n = step-as-read b k r in
     record {
       known = r;
-      sideIs = s;
-      priceIs = p;
-      quantityIs = q;
-      sideRange = rw s (r .side);
-      priceRange = rw p (r .fields .price);
-      quantityRange = rw q (r .fields .quantity);
+      sideIs = s ∙ n .side;
+      priceIs = p ∙ n .price;
+      quantityIs = q ∙ n .quantity;
+      sideRange = rw (s ∙ n .side) (r .side);
+      priceRange = rw (p ∙ n .price) (r .fields .price);
+      quantityRange = rw (q ∙ n .quantity) (r .fields .quantity);
     }
 
 pub step-place : (b ends records sides prices quantities : List ℕ) → StepColumns b ends records sides prices quantities → Accepted b
@@ -58,7 +59,7 @@ step-place b ends records sides prices quantities c a i h =
     rw k
     (step-placed b (getD l i 0) _ _ _
     (each-place (StepRecord b) l i 0 (byHour-each (StepRecord b) b 24 (step-each b a)) g)
-    (place-of (sideByte b) n l sides refl (step-sides-front c) i g)
+    (place-of (sideAt b) n l sides refl (step-sides-front c) i g)
     (place-of (priceAt b) n l prices refl (step-prices-front c) i g)
     (place-of (quantityAt b) n l quantities refl (step-quantities-front c) i g))
 
@@ -66,28 +67,29 @@ step-place b ends records sides prices quantities c a i h =
 pub record BlockPlace (b : List ℕ) (k side hours price quantity : ℕ) : Type 0 where
   pub known : BlockRecord b k
   pub sideIs : side ≡ sideByte b k
-  pub hoursIs : hours ≡ blockHoursAt b k
-  pub priceIs : price ≡ blockPriceAt b k
-  pub quantityIs : quantity ≡ blockQuantityAt b k
+  pub hoursIs : hours ≡ blockAt b k .hours
+  pub priceIs : price ≡ blockAt b k .price
+  pub quantityIs : quantity ≡ blockAt b k .quantity
   pub sideRange : side ≤ 1
   pub hoursCount : 2 ≤ hourCount 24 hours
   pub priceRange : (1 ≤ price) × (price ≤ 300000)
   pub quantityRange : (1 ≤ quantity) × (quantity ≤ 50)
 
-block-placed : (b : List ℕ) (k side hours price quantity : ℕ) → BlockRecord b k → side ≡ sideByte b k → hours ≡ blockHoursAt b k
+block-placed : (b : List ℕ) (k side hours price quantity : ℕ) → BlockRecord b k → side ≡ blockSideAt b k → hours ≡ blockHoursAt b k
     → price ≡ blockPriceAt b k → quantity ≡ blockQuantityAt b k → BlockPlace b k side hours price quantity
 unfolding limits
 block-placed b k side hours price quantity r s x p q =
+    let n = block-as-read b k r in
     record {
       known = r;
-      sideIs = s;
-      hoursIs = x;
-      priceIs = p;
-      quantityIs = q;
-      sideRange = rw s (r .side);
-      hoursCount = rw x (r .fields .hours);
-      priceRange = rw p (r .fields .price);
-      quantityRange = rw q (r .fields .quantity);
+      sideIs = s ∙ n .side;
+      hoursIs = x ∙ n .hours;
+      priceIs = p ∙ n .price;
+      quantityIs = q ∙ n .quantity;
+      sideRange = rw (s ∙ n .side) (r .side);
+      hoursCount = rw (x ∙ n .hours) (r .fields .hours);
+      priceRange = rw (p ∙ n .price) (r .fields .price);
+      quantityRange = rw (q ∙ n .quantity) (r .fields .quantity);
     }
 
 pub block-place : {n : ℕ} (b : List ℕ) (count : ℕ) (records sides hours prices quantities : List ℕ)
@@ -100,7 +102,7 @@ block-place b count records sides hours prices quantities c a i h =
     rw k
     (block-placed b (getD l i 0) _ _ _ _
     (each-place (BlockRecord b) l i 0 (block-each b a) (omega arith))
-    (place-of (sideByte b) count l sides e (block-sides-front c) i h)
+    (place-of (blockSideAt b) count l sides e (block-sides-front c) i h)
     (place-of (blockHoursAt b) count l hours e (block-hours-front c) i h)
     (place-of (blockPriceAt b) count l prices e (block-prices-front c) i h)
     (place-of (blockQuantityAt b) count l quantities e (block-quantities-front c) i h))

@@ -6,7 +6,7 @@ use mathlib.Core.List.{List, [], _∷_}
 use Rattle.records.specs.Bytes.{u16At, u24At, u32At, nonzero}
 use Rattle.book.specs.Tests.{within, someBelow, someIn, countIn}
 use Rattle.rules.specs.Orders.{limits}
-use Rattle.records.specs.Records.{stepAt, blockAt, hourCount}
+use Rattle.records.specs.Records.{stepAt, blockAt, recordAt, hourCount}
 use Rattle.book.specs.Chains.{chainFrom}
 use Rattle.book.specs.Refusals.{
   wrongSize,
@@ -18,6 +18,7 @@ use Rattle.book.specs.Refusals.{
   blockFits,
   stepInRange,
   blockInRange,
+  recordInRange,
   outOfRange,
   wrongField,
   stray,
@@ -60,8 +61,8 @@ worked (b ∷ books) (d ∷ days) a r h = (
 
 books-accepted : AllAccepted workedBooks
 unfolding AllAccepted workedBooks bookOf chained refusal ownCauses firstOf wrongSize wrongHead brokenChain broken misplaced wrongField outOfRange
-    stepInRange blockInRange stepFits blockFits strayRecord stray tooManyBlocks tooManyOf ownedBy within someBelow someIn countIn nonzero limits
-    hourCount stepAt blockAt chainFrom u16At u24At u32At
+    recordInRange stepInRange blockInRange stepFits blockFits strayRecord stray tooManyBlocks tooManyOf ownedBy within someBelow someIn countIn nonzero limits
+    hourCount recordAt stepAt blockAt chainFrom u16At u24At u32At
 books-accepted = (refl, (refl, (refl, (refl, (refl, (refl, (refl, (refl, (refl, (refl, tt))))))))))
 
 books-read : AllRead workedBooks workedDays

@@ -9,12 +9,12 @@ use native.Mathlib.Decide.{decLe}
 use native.Mathlib.Nat.{lt-of-not-le}
 use lib.ListN.{length, take, drop, getD, length-map, drop-of-length-le}
 use lib.Seq.{getD-take, getD-drop, slice}
-use Rattle.records.specs.Records.{number, sideByte, hourCount, holdsHour}
+use Rattle.records.specs.Records.{number, hourCount, holdsHour}
 use Rattle.book.specs.Refusals.{Accepted}
 use Rattle.book.proofs.Members.{Each}
 use Rattle.orders.specs.Bridge.{dayFrom}
 use Rattle.orders.specs.Columns.{StepColumns, BlockColumns, sideFor, stepsFrom, blockOf, blocksFrom}
-use Rattle.orders.specs.Columns.{blockRecords, blockHoursAt, blockPriceAt, blockQuantityAt}
+use Rattle.orders.specs.Columns.{blockRecords, blockSideAt, blockHoursAt, blockPriceAt, blockQuantityAt}
 use Rattle.orders.proofs.BridgeLaws.{BlockInRange, blocks-in-range, prices-in-range, hours-in-range, blocks-from-columns, block-count, hour-count}
 use Rattle.orders.proofs.FrontLaws.{block-records-front, block-sides-front, block-hours-front, block-prices-front, block-quantities-front}
 use Rattle.orders.proofs.HourLaws.{hour-from-columns, ends-rise, ends-fit}
@@ -143,7 +143,7 @@ module _ (b ends stepRecords sides prices quantities : List ℕ) (count : ℕ) (
       let n = sym (bc .counted) in
       let l = blockRecords b in
       let lr : length (take count records) ≡ count = ap length (block-records-front bc) ∙ n in
-      let ls : length (take count blockSides) ≡ count = ap length (block-sides-front bc) ∙ length-map l (sideByte b) ∙ n in
+      let ls : length (take count blockSides) ≡ count = ap length (block-sides-front bc) ∙ length-map l (blockSideAt b) ∙ n in
       let lh : length (take count hours) ≡ count = ap length (block-hours-front bc) ∙ length-map l (blockHoursAt b) ∙ n in
       let lp : length (take count blockPrices) ≡ count = ap length (block-prices-front bc) ∙ length-map l (blockPriceAt b) ∙ n in
       let lq : length (take count blockQuantities) ≡ count = ap length (block-quantities-front bc) ∙ length-map l (blockQuantityAt b) ∙ n in

@@ -22,12 +22,12 @@ or-none true = refl
 or-none false = refl
 
 abbrev Inv-loop : tie.InvT-loop
-Inv-loop book kind first left₀ i₀ count₀ outside₀ left i count outside =
+Inv-loop book first left₀ i₀ count₀ outside₀ left i count outside =
     (count + left ≤ left₀) × (length (chain book first) ≡ count + length (chainFrom left book i))
-    × (someIn (chain book first) (outOfRange book kind) ≡ (outside || someIn (chainFrom left book i) (outOfRange book kind)))
+    × (someIn (chain book first) (outOfRange book) ≡ (outside || someIn (chainFrom left book i) (outOfRange book)))
 
 abbrev μ-loop : tie.MeasureT-loop
-μ-loop book kind first left₀ i₀ count₀ outside₀ left i count outside = left
+μ-loop book first left₀ i₀ count₀ outside₀ left i count outside = left
 
 record-count-requires : tie.Need-record-count-requires Inv-loop μ-loop
 record-count-requires c κs = search needs

@@ -19,16 +19,13 @@ hour-byte-requires c κs = search needs
 edition-of-requires : tie.Need-edition-of-requires
 edition-of-requires c κs = search needs
 
-block-at-requires : tie.Need-block-at-requires
-block-at-requires c κs = search needs
-
 block-fits-requires : tie.Need-block-fits-requires
 block-fits-requires c κs = search needs
 
 returns : tie.Need-returns
 unfolding blockInRange
 returns c =
-    let edition = c .before .before in
+    let edition = c .before in
     let hour = edition .before in
     let side = hour .before in
     rw (
@@ -37,7 +34,6 @@ returns c =
       hour .hour-byte .ensures,
       c .block-fits .ensures,
       edition .edition-of .ensures,
-      c .before .block-at .ensures,
     )
 
 pub is-block-in-range-spec : {M : Type 1} → statement M
@@ -49,6 +45,5 @@ is-block-in-range-spec =
     is-within-requires
     hour-byte-requires
     edition-of-requires
-    block-at-requires
     block-fits-requires
     returns)

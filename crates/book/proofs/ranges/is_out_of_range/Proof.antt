@@ -1,24 +1,54 @@
--- `book::ranges::is_out_of_range` meets its contract, by the test of the kind. Assumes nothing.
-use borrow.Author.Tests.{eq-eqb, ne-eqb}
-use Rattle.book.specs.Refusals.{outOfRange}
+-- `book::ranges::is_out_of_range` meets its contract, by what the record is. Assumes nothing.
+use mathlib.Core.Path.{sym, _∙_}
+use Rattle.book.specs.Refusals.{recordInRange, outOfRange}
 use borrow.Author.Needs.{needs}
 use Rattle.book.proofs.ranges.is_out_of_range.Statement.{statement}
 use Rattle.book.proofs.ranges.is_out_of_range.Tie as tie
 
+record-at-requires : tie.Need-record-at-requires
+record-at-requires c κs = search needs
+
+enum-known-found : tie.Need-enum-known-found
+enum-known-found c = search needs
+
 is-step-in-range-requires : tie.Need-is-step-in-range-requires
 is-step-in-range-requires c κs = search needs
 
-returns : tie.Need-returns
-unfolding outOfRange
-returns c = rw (eq-eqb _ _ (c .before .if1 .taken), c .is-step-in-range .ensures)
+enum-known-found-2 : tie.Need-enum-known-found-2
+enum-known-found-2 c = search needs
 
 is-block-in-range-requires : tie.Need-is-block-in-range-requires
 is-block-in-range-requires c κs = search needs
 
+enum-told : tie.Need-enum-told
+enum-told c = search needs
+
+returns : tie.Need-returns
+unfolding outOfRange recordInRange
+returns c =
+    let arm = c .before .before in
+    rw (sym (arm .before .before .record-at .ensures) ∙ arm .found .given .1, c .is-step-in-range .ensures)
+
 returns-2 : tie.Need-returns-2
-unfolding outOfRange
-returns-2 c = rw (ne-eqb _ _ (c .before .if1 .left), c .is-block-in-range .ensures)
+unfolding outOfRange recordInRange
+returns-2 c =
+    let arm = c .before .before in
+    rw (sym (arm .before .before .record-at .ensures) ∙ arm .found2 .given .1, c .is-block-in-range .ensures)
+
+returns-3 : tie.Need-returns-3
+unfolding outOfRange recordInRange
+returns-3 c = rw (sym (c .before .before .record-at .ensures) ∙ c .enum-told .given .1)
 
 pub is-out-of-range-spec : {M : Type 1} → statement M
 is-out-of-range-spec =
-    tie.close (tie.spec is-step-in-range-requires returns is-block-in-range-requires returns-2)
+    tie.close
+    (tie.spec
+    record-at-requires
+    enum-known-found
+    is-step-in-range-requires
+    enum-known-found-2
+    is-block-in-range-requires
+    enum-told
+    returns
+    returns-2
+    returns-3)

@@ -13,17 +13,13 @@ cast-is-within c = search needs
 is-within-requires : tie.Need-is-within-requires
 is-within-requires c κs = search needs
 
-step-at-requires : tie.Need-step-at-requires
-step-at-requires c κs = search needs
-
 step-fits-requires : tie.Need-step-fits-requires
 step-fits-requires c κs = search needs
 
 returns : tie.Need-returns
 unfolding stepInRange
 returns c =
-    let side = c .before .before in
-    rw (side .is-within .ensures, side .before .side-byte .ensures, c .step-fits .ensures, c .before .step-at .ensures)
+    rw (c .before .is-within .ensures, c .before .before .side-byte .ensures, c .step-fits .ensures)
 
 pub is-step-in-range-spec : {M : Type 1} → statement M
 is-step-in-range-spec =
@@ -32,6 +28,5 @@ is-step-in-range-spec =
     side-byte-requires
     cast-is-within
     is-within-requires
-    step-at-requires
     step-fits-requires
     returns)
