@@ -13,7 +13,7 @@ use Rattle.rules.specs.Hour.{bySide, when, total, buysFrom, sellsBelow}
 use Rattle.rules.specs.Execution.{testSide, inFull, buyingAt, sellingAt, buyAmount, sellAmount, shares, execution}
 use Rattle.rules.proofs.CurveLaws.{buysFrom-suc, sellsBelow-suc, buysFrom-split}
 use Rattle.orders.specs.Columns.{sideFor, stepsFrom}
-use Rattle.pricing.specs.Curves.{bias, hourWith, stepFor, Columns, TotalsAt, AmountsOf, sharedOut, SharedOut, ExecutedOf}
+use Rattle.pricing.specs.Curves.{bias, hourWith, stepFor, Columns, TotalsOf, TotalsAt, TradedAt, AmountsOf, sharedOut, SharedOut, ExecutedOf}
 use Rattle.pricing.proofs.TotalsLaws.{side-sell, restOf, rest-more, rest-end}
 
 -- ONE STEP: what it gets, by the way it goes
@@ -133,3 +133,13 @@ pub executed-by : (sides prices quantities : List ℕ) (n price buys sells : ℕ
     ExecutedOf sides prices quantities n price out
 unfolding sharedOut execution
 executed-by sides prices quantities n price buys sells out a o h = o h ∙ rw (a .forBuys h, a .forSells h)
+
+-- WHAT IS TRADED from the totals over one cent below the price and up to the price
+pub traded-at-is : (sides prices quantities : List ℕ) (over price above upto sales purchases traded : ℕ) → over ≡ price - 1 →
+    TotalsOf sides prices quantities over price above upto → traded ≡ min (above + purchases) (upto + sales) →
+    TradedAt sides prices quantities sales purchases price traded
+traded-at-is sides prices quantities over price above upto sales purchases traded eo t e h pos =
+    let l = stepsFrom h sides prices quantities in
+    let one : suc over ≡ price = omega arith in
+    let from : buysFrom price l ≡ above = (rw one at (buysFrom-suc over l)) ∙ sym (t .buys h) in
+    e ∙ rw (from, t .sells h)

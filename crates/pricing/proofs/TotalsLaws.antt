@@ -12,29 +12,29 @@ use Rattle.rules.specs.Orders.{Side, buy, sell, Step}
 use Rattle.rules.specs.Hour.{bySide, when, buysAbove, sellsTo}
 use Rattle.rules.proofs.CurveLaws.{when-zero, when-le}
 use Rattle.orders.specs.Columns.{sideFor, stepsFrom}
-use Rattle.pricing.specs.Curves.{Columns, TotalsAt}
+use Rattle.pricing.specs.Curves.{Columns, InRange, TotalsOf}
 
 -- A SIDE as a number
 pub side-sell : (s : ℕ) → (s ≡ 0 → ⊥) → sideFor s ≡ sell
 side-sell zero h = absurd (h refl)
 side-sell (suc s) h = refl
 
--- ONE ORDER, by the way it goes: what is added to the buys above, and to the sells up to the price
-module _ (p x q a u : ℕ) where
+-- ONE ORDER, by the way it goes: what is added to the buys over p, and to the sells up to t
+module _ (p t x q a u : ℕ) where
   abbrev Added : Side → ℕ → ℕ → Type 0
-  Added side a′ u′ = (a′ ≡ a + when (ltb p x) (bySide side q 0)) × (u′ ≡ u + when (leb x p) (bySide side 0 q))
+  Added side a′ u′ = (a′ ≡ a + when (ltb p x) (bySide side q 0)) × (u′ ≡ u + when (leb x t) (bySide side 0 q))
 
   pub buy-above : (s : ℕ) → s ≡ 0 → p < x → Added (sideFor s) (a + q) u
-  buy-above s e h = rw (e, lt-ltb p x h) (omega arith, omega (arith, when-zero (leb x p)))
+  buy-above s e h = rw (e, lt-ltb p x h) (omega arith, omega (arith, when-zero (leb x t)))
 
   pub buy-not : (s : ℕ) → s ≡ 0 → x ≤ p → Added (sideFor s) a u
-  buy-not s e h = rw (e, le-ltb p x h) (omega arith, omega (arith, when-zero (leb x p)))
+  buy-not s e h = rw (e, le-ltb p x h) (omega arith, omega (arith, when-zero (leb x t)))
 
-  pub sell-upto : (s : ℕ) → (s ≡ 0 → ⊥) → x ≤ p → Added (sideFor s) a (u + q)
-  sell-upto s e h = rw (side-sell s e, le-leb x p h) (omega (arith, when-zero (ltb p x)), omega arith)
+  pub sell-upto : (s : ℕ) → (s ≡ 0 → ⊥) → x ≤ t → Added (sideFor s) a (u + q)
+  sell-upto s e h = rw (side-sell s e, le-leb x t h) (omega (arith, when-zero (ltb p x)), omega arith)
 
-  pub sell-not : (s : ℕ) → (s ≡ 0 → ⊥) → p < x → Added (sideFor s) a u
-  sell-not s e h = rw (side-sell s e, lt-leb x p h) (omega (arith, when-zero (ltb p x)), omega arith)
+  pub sell-not : (s : ℕ) → (s ≡ 0 → ⊥) → t < x → Added (sideFor s) a u
+  sell-not s e h = rw (side-sell s e, lt-leb x t h) (omega (arith, when-zero (ltb p x)), omega arith)
 
 -- THE REST OF THE COLUMNS
 abbrev pub restOf : ℕ → List ℕ → List ℕ → List ℕ → ℕ → List Step
@@ -72,33 +72,41 @@ unfolding sellsTo
 sellsTo-none p = refl
 
 -- COUNTING: the totals so far and those of the rest are the whole
-pub record Counted (sides prices quantities : List ℕ) (price above upto i : ℕ) : Type 0 where
+pub record Counted (sides prices quantities : List ℕ) (over to above upto i : ℕ) : Type 0 where
   pub inside : i ≤ length sides
-  pub buys : (h : ℕ) → buysAbove price (stepsFrom h sides prices quantities) ≡ above + buysAbove price (restOf h sides prices quantities i)
-  pub sells : (h : ℕ) → sellsTo price (stepsFrom h sides prices quantities) ≡ upto + sellsTo price (restOf h sides prices quantities i)
+  pub buys : (h : ℕ) → buysAbove over (stepsFrom h sides prices quantities) ≡ above + buysAbove over (restOf h sides prices quantities i)
+  pub sells : (h : ℕ) → sellsTo to (stepsFrom h sides prices quantities) ≡ upto + sellsTo to (restOf h sides prices quantities i)
   pub aboveFits : above ≤ i * 2 ^ 32
   pub uptoFits : upto ≤ i * 2 ^ 32
+  pub aboveSmall : InRange quantities → above ≤ i * 99999
 
-pub counted-none : (sides prices quantities : List ℕ) (price : ℕ) → Counted sides prices quantities price 0 0 0
-counted-none sides prices quantities price =
-    record { inside = omega arith; buys = λ h. omega arith; sells = λ h. omega arith; aboveFits = omega arith; uptoFits = omega arith }
+pub counted-none : (sides prices quantities : List ℕ) (over to : ℕ) → Counted sides prices quantities over to 0 0 0
+counted-none sides prices quantities over to =
+    record {
+      inside = omega arith;
+      buys = λ h. omega arith;
+      sells = λ h. omega arith;
+      aboveFits = omega arith;
+      uptoFits = omega arith;
+      aboveSmall = λ small. omega arith;
+    }
 
 bySide-le : (side : Side) (q : ℕ) → (bySide side q 0 ≤ q) × (bySide side 0 q ≤ q)
 bySide-le buy q = (omega arith, omega arith)
 bySide-le sell q = (omega arith, omega arith)
 
-module _ (sides prices quantities : List ℕ) (columns : Columns sides prices quantities) (price : ℕ) where
+module _ (sides prices quantities : List ℕ) (columns : Columns sides prices quantities) (over to : ℕ) where
   more : (h i : ℕ) → i < length sides →
       restOf h sides prices quantities i
       ≡ record { hour = h; side = sideFor (getD sides i 0); price = getD prices i 0; quantity = getD quantities i 0 }
       ∷ restOf h sides prices quantities (i + 1)
   more h i k = rest-more h sides prices quantities i (columns .asManyPrices) (columns .asManyQuantities) k
 
-  pub counted-next : (above upto above′ upto′ i : ℕ) → Counted sides prices quantities price above upto i → i < length sides →
+  pub counted-next : (above upto above′ upto′ i : ℕ) → Counted sides prices quantities over to above upto i → i < length sides →
       getD quantities i 0 < 2 ^ 32 →
-      above′ ≡ above + when (ltb price (getD prices i 0)) (bySide (sideFor (getD sides i 0)) (getD quantities i 0) 0) →
-      upto′ ≡ upto + when (leb (getD prices i 0) price) (bySide (sideFor (getD sides i 0)) 0 (getD quantities i 0)) →
-      Counted sides prices quantities price above′ upto′ (i + 1)
+      above′ ≡ above + when (ltb over (getD prices i 0)) (bySide (sideFor (getD sides i 0)) (getD quantities i 0) 0) →
+      upto′ ≡ upto + when (leb (getD prices i 0) to) (bySide (sideFor (getD sides i 0)) 0 (getD quantities i 0)) →
+      Counted sides prices quantities over to above′ upto′ (i + 1)
   counted-next above upto above′ upto′ i c k small ea eu =
       let q = getD quantities i 0 in
       let side = sideFor (getD sides i 0) in
@@ -106,15 +114,17 @@ module _ (sides prices quantities : List ℕ) (columns : Columns sides prices qu
         inside = omega arith;
         buys = λ h. c .buys h ∙ rw (more h i k, buysAbove-more) (omega arith);
         sells = λ h. c .sells h ∙ rw (more h i k, sellsTo-more) (omega arith);
-        aboveFits = omega (arith, c .aboveFits, when-le (ltb price (getD prices i 0)) (bySide side q 0), bySide-le side q);
-        uptoFits = omega (arith, c .uptoFits, when-le (leb (getD prices i 0) price) (bySide side 0 q), bySide-le side q);
+        aboveFits = omega (arith, c .aboveFits, when-le (ltb over (getD prices i 0)) (bySide side q 0), bySide-le side q);
+        uptoFits = omega (arith, c .uptoFits, when-le (leb (getD prices i 0) to) (bySide side 0 q), bySide-le side q);
+        aboveSmall = λ f. omega (arith, c .aboveSmall f, when-le (ltb over (getD prices i 0)) (bySide side q 0), bySide-le side q, f i);
       }
 
-  pub counted-all : (above upto i : ℕ) → Counted sides prices quantities price above upto i → length sides ≤ i →
-      TotalsAt sides prices quantities price above upto
+  pub counted-all : (above upto i : ℕ) → Counted sides prices quantities over to above upto i → length sides ≤ i →
+      TotalsOf sides prices quantities over to above upto
   counted-all above upto i c k = record {
     buys = λ h. let e = rw (rest-end h sides prices quantities i k, buysAbove-none) at (c .buys h) in omega arith;
     sells = λ h. let e = rw (rest-end h sides prices quantities i k, sellsTo-none) at (c .sells h) in omega arith;
     aboveFits = omega (arith, c .aboveFits, c .inside, columns .notTooMany);
     uptoFits = omega (arith, c .uptoFits, c .inside, columns .notTooMany);
+    aboveSmall = λ f. omega (arith, c .aboveSmall f, c .inside, columns .notTooMany);
   }

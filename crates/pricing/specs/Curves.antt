@@ -1,11 +1,11 @@
 -- AN HOUR AS COLUMNS AND A NUMBER: what the price finder is given, neither the book, the set nor the blocks. Definitions only. Assumes nothing.
-use Prim.Native.Nat.{ℕ, _+_, _*_, _^_, _≤_, _<_}
+use Prim.Native.Nat.{ℕ, _+_, _*_, _^_, _≤_, _<_, min}
 use mathlib.Core.List.{List, [], _∷_, map}
 use mathlib.Core.Path.{_≡_}
-use lib.ListN.{length}
+use lib.ListN.{length, getD}
 use Rattle.orders.specs.Columns.{sideFor, stepsFrom, blockOf}
 use Rattle.rules.specs.Orders.{Step, Block, maxPrice}
-use Rattle.rules.specs.Hour.{Hour, buysAbove, sellsTo}
+use Rattle.rules.specs.Hour.{Hour, buysAbove, buysFrom, sellsTo}
 use Rattle.rules.specs.Execution.{inFull, buyingAt, sellingAt, buyAmount, sellAmount, shares, plus, execution}
 use Rattle.rules.specs.Day.{taken, decisions, overBlocks, sells, buys as buysIn}
 
@@ -28,12 +28,21 @@ pub record LeastCovered (margin : ℕ) (hour : Hour) (r : ℕ) : Type 0 where
   pub below : (q : ℕ) → 1 ≤ q → q < r → sellsTo q (hour .steps) + hour .blockSales < buysAbove q (hour .steps) + hour .blockBuys + margin
   pub holds : r < maxPrice → Covered margin hour r
 
--- What the columns' steps buy above a price and sell to it, whatever hour they are of.
-pub record TotalsAt (sides prices quantities : List ℕ) (price above upto : ℕ) : Type 0 where
-  pub buys : (h : ℕ) → above ≡ buysAbove price (stepsFrom h sides prices quantities)
-  pub sells : (h : ℕ) → upto ≡ sellsTo price (stepsFrom h sides prices quantities)
+-- No quantity is above a step's largest.
+abbrev pub InRange : List ℕ → Type 0
+InRange quantities = (i : ℕ) → getD quantities i 0 ≤ 99999
+
+-- What the columns' steps buy over one price and sell to another, whatever hour they are of.
+pub record TotalsOf (sides prices quantities : List ℕ) (over to above upto : ℕ) : Type 0 where
+  pub buys : (h : ℕ) → above ≡ buysAbove over (stepsFrom h sides prices quantities)
+  pub sells : (h : ℕ) → upto ≡ sellsTo to (stepsFrom h sides prices quantities)
   pub aboveFits : above ≤ 2048 * 2 ^ 32
   pub uptoFits : upto ≤ 2048 * 2 ^ 32
+  pub aboveSmall : InRange quantities → above ≤ 2048 * 99999
+
+-- The same with one price for both.
+abbrev pub TotalsAt : List ℕ → List ℕ → List ℕ → ℕ → ℕ → ℕ → Type 0
+TotalsAt sides prices quantities price above upto = TotalsOf sides prices quantities price price above upto
 
 -- Columns of one length, at most 2,048.
 pub record Columns (sides prices quantities : List ℕ) : Type 0 where
@@ -54,6 +63,11 @@ pub record TradesOf (sides hours quantities : List ℕ) (set h sales buys : ℕ)
   pub bought : buys ≡ overBlocks (buysIn h) (taken (tradersFrom sides hours quantities) (decisions (length sides) set))
 
 -- EXECUTION out of columns
+-- What is traded at a price, with what the blocks sell and buy: what is bought at or above it, or sold at or below it, the lesser.
+abbrev pub TradedAt : List ℕ → List ℕ → List ℕ → (sales purchases price traded : ℕ) → Type 0
+TradedAt sides prices quantities sales purchases price traded =
+    (h : ℕ) → let l = stepsFrom h sides prices quantities in 1 ≤ price → traded ≡ min (buysFrom price l + purchases) (sellsTo price l + sales)
+
 -- A step by its side, price and quantity; its hour plays no part in what it gets.
 abbrev pub stepFor : ℕ → ℕ → ℕ → Step
 stepFor side price quantity = record { hour = 0; side = sideFor side; price = price; quantity = quantity }

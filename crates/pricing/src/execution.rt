@@ -3,8 +3,9 @@ ghost use mathlib.Core.Path.{_≡_};
 ghost use Prim.Native.Nat.{_+_, _-_, _≤_, min};
 ghost use Rattle.rules.specs.Execution.{inFull, buyingAt, sellingAt};
 ghost use lib.ListN.{length};
-ghost use Rattle.pricing.specs.Curves.{stepFor, Columns, AmountsOf, ExecutedOf, SharedOut};
+ghost use Rattle.pricing.specs.Curves.{stepFor, Columns, InRange, TradedAt, AmountsOf, ExecutedOf, SharedOut};
 use crate::hour::totals_at;
+use crate::hour::totals_between;
 
 // What is left for the steps at the price: of the buys, and of the sells.
 pub struct Amounts {
@@ -40,6 +41,29 @@ pub fn amounts_at(sides: &[u8], prices: &[u32], quantities: &[u32], net: u32, pr
         buys: buys,
         sells: sells,
     }
+}
+
+// One less, or 0.
+fn one_less(price: u32) -> u32
+    ensures { λ r. ⌜ r ≡ price - 1 ⌝ }
+{
+    if 1 <= price { price - 1 } else { 0 }
+}
+
+// What is traded in an hour at a clearing price, with what the blocks sell and buy.
+pub fn traded_at(
+    sides: &[u8],
+    prices: &[u32],
+    quantities: &[u32],
+    sales: u32,
+    buys: u32,
+    price: u32,
+) -> u32
+    requires { ⌜ Columns (now sides) (now prices) (now quantities) × InRange (now quantities) × (buys ≤ 1600000) ⌝ }
+    ensures { λ r. ⌜ TradedAt (now (sides .entry)) (now (prices .entry)) (now (quantities .entry)) sales buys price r ⌝ }
+{
+    let totals = totals_between(sides, prices, quantities, one_less(price), price);
+    lesser(totals.above + (buys as u64), totals.upto + (sales as u64)) as u32
 }
 
 impl Amounts {

@@ -4,13 +4,14 @@ ghost use Prim.Native.Nat.{ℕ, _+_, _*_, _^_, _≤_, _<_};
 ghost use lib.Dec.{ltb, leb};
 ghost use Rattle.rules.specs.Hour.{bySide, when};
 ghost use Rattle.orders.specs.Columns.{sideFor};
-ghost use Rattle.pricing.specs.Curves.{Columns, TotalsAt, hourWith, LeastCovered};
+ghost use Rattle.pricing.specs.Curves.{Columns, TotalsOf, TotalsAt, hourWith, LeastCovered};
 ghost use Rattle.pricing.specs.Answers.{AnswerOf};
 use crate::HourAnswer;
 
-// What steps buy strictly above a price, and sell at or below it.
+// What steps buy strictly above one price, and sell at or below another, or the same.
 pub struct Totals {
-    pub price: u32,
+    pub over: u32,
+    pub to: u32,
     pub above: u64,
     pub upto: u64,
 }
@@ -19,15 +20,14 @@ impl Totals {
     // One order more.
     fn add(mut self, side: u8, price: u32, quantity: u32) -> Totals
         requires { ⌜ (self .above ≤ 2 ^ 62) × (self .upto ≤ 2 ^ 62) ⌝ }
-        ensures { λ r. ⌜ (r .price ≡ self .price) × (r .above ≡ self .above + when (ltb (self .price) price) (bySide (sideFor side) quantity 0)) × (r .upto ≡ self .upto + when (leb price (self .price)) (bySide (sideFor side) 0 quantity)) ⌝ }
+        ensures { λ r. ⌜ (r .over ≡ self .over) × (r .to ≡ self .to) × (r .above ≡ self .above + when (ltb (self .over) price) (bySide (sideFor side) quantity 0)) × (r .upto ≡ self .upto + when (leb price (self .to)) (bySide (sideFor side) 0 quantity)) ⌝ }
     {
-        let p = self.price;
         if side == 0 {
-            if p < price {
+            if self.over < price {
                 self.above += quantity as u64;
             }
         } else {
-            if price <= p {
+            if price <= self.to {
                 self.upto += quantity as u64;
             }
         }
@@ -35,13 +35,20 @@ impl Totals {
     }
 }
 
-// The totals of all steps of the columns, one order at a time.
-pub fn totals_at(sides: &[u8], prices: &[u32], quantities: &[u32], price: u32) -> Totals
+// The totals of all steps of the columns, one order at a time: what they buy over one price, and what they sell up to another.
+pub fn totals_between(
+    sides: &[u8],
+    prices: &[u32],
+    quantities: &[u32],
+    over: u32,
+    to: u32,
+) -> Totals
     requires { ⌜ Columns (now sides) (now prices) (now quantities) ⌝ }
-    ensures { λ r. ⌜ TotalsAt (now (sides .entry)) (now (prices .entry)) (now (quantities .entry)) price (r .above) (r .upto) ⌝ }
+    ensures { λ r. ⌜ TotalsOf (now (sides .entry)) (now (prices .entry)) (now (quantities .entry)) over to (r .above) (r .upto) ⌝ }
 {
     let mut totals = Totals {
-        price: price,
+        over: over,
+        to: to,
         above: 0,
         upto: 0,
     };
@@ -51,6 +58,14 @@ pub fn totals_at(sides: &[u8], prices: &[u32], quantities: &[u32], price: u32) -
         i += 1;
     }
     totals
+}
+
+// The totals at one price.
+pub fn totals_at(sides: &[u8], prices: &[u32], quantities: &[u32], price: u32) -> Totals
+    requires { ⌜ Columns (now sides) (now prices) (now quantities) ⌝ }
+    ensures { λ r. ⌜ TotalsAt (now (sides .entry)) (now (prices .entry)) (now (quantities .entry)) price (r .above) (r .upto) ⌝ }
+{
+    totals_between(sides, prices, quantities, price, price)
 }
 
 // The least price at which the steps and N cover a margin, by bisection; the highest price where they do at none below it.

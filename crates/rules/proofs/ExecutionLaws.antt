@@ -1,6 +1,6 @@
 -- M5 and M6: at a clearing price the amounts for the steps at the price are within what those steps hold, the hour balances, and each step follows
 -- the price; every clearing price executes the same quantities. The sharing rule is used through its two laws only. Assumes nothing.
-use Prim.Native.Nat.{ℕ, suc, _+_, _-_, _≤_, _<_}
+use Prim.Native.Nat.{ℕ, suc, _+_, _-_, _≤_, _<_, min}
 use mathlib.Core.Bool.{Bool}
 use mathlib.Core.Path.{_≡_, refl, sym, ap, ap₂}
 use mathlib.Core.List.{List, [], _∷_, map}
@@ -184,6 +184,16 @@ execution-balances h p c =
       sellShares-sum h p c,
       amounts-balance h p c,
     )
+
+-- WHAT IS TRADED at a clearing price: what is bought at or above it, or sold at or below it, the lesser, each with the blocks' own
+pub traded-lesser : (h : Hour) (p : ℕ) → Clears h p →
+    bought (h .steps) (execution h p) + h .blockBuys ≡ min (buysFrom p (h .steps) + h .blockBuys) (sellsTo p (h .steps) + h .blockSales)
+unfolding execution buyAmount
+traded-lesser h p c =
+    let l = h .steps in
+    let wb = shares-within (buyAmount h p) (map (buyingAt p) l) in
+    let ws = shares-within (sellAmount h p) (map (sellingAt p) l) in
+    omega (arith, shared-bought p l _ _ wb ws, buyShares-sum h p c, buysFrom-split p l, c .demandMet)
 
 -- M5: FROM ONE CLEARING PRICE p TO A HIGHER q
 -- one step: what is bought above p and from q on is the same, what is sold to p and below q too
