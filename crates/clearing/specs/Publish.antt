@@ -24,10 +24,6 @@ use Rattle.search.specs.Meaning.{DayOf}
 use Rattle.result.specs.Result.{beside, resultBytes}
 use Rattle.search.specs.declared.Day as code-day
 
--- Every one of the first n numbers of a list is at most m.
-abbrev pub FirstSmall : ℕ → ℕ → List ℕ → Type 0
-FirstSmall n m l = (i : ℕ) → i < n → getD l i 0 ≤ m
-
 -- AN HOUR out of its columns
 -- What its steps get at a price, and what that buys and is worth, whatever hour the columns are of.
 pub record HourDone (sides prices quantities : List ℕ) (sales purchases price : ℕ) (out : List ℕ) (bought-r value-r cost-r : ℕ) : Type 0 where
@@ -56,25 +52,7 @@ pub record HourPut (sides prices quantities : List ℕ) (from to sales purchases
   pub done : HourDone (slice from to sides) (slice from to prices) (slice from to quantities) sales purchases price (slice from to values)
       bought-r value-r cost-r
 
--- A part of the columns is within them, and its prices and quantities are in their ranges.
-pub record PartSized (sides prices quantities : List ℕ) (from to : ℕ) : Type 0 where
-  pub ordered : from ≤ to
-  pub fit : to ≤ 2048
-  pub inSides : to ≤ length sides
-  pub inPrices : to ≤ length prices
-  pub inQuantities : to ≤ length quantities
-  pub pricesFit : FirstSmall to 300000 prices
-  pub quantitiesFit : FirstSmall to 99999 quantities
-
 -- THE HOURS of the columns
--- The part of a column that hour h has.
-abbrev pub partOf : List ℕ → List ℕ → ℕ → List ℕ
-partOf ends column h = slice (getD ends (h - 1) 0) (getD ends h 0) column
-
--- The steps of hour h.
-unfoldable pub stepsAt : (ends sides prices quantities : List ℕ) → ℕ → List Step
-stepsAt ends sides prices quantities h = stepsFrom h (partOf ends sides h) (partOf ends prices h) (partOf ends quantities h)
-
 -- What the blocks of a set sell and buy in hour h.
 unfoldable pub salesAt : (sides hours quantities : List ℕ) (set : ℕ) → ℕ → ℕ
 salesAt sides hours quantities set h = overBlocks (sells h) (taken (tradersFrom sides hours quantities) (decisions (length sides) set))
@@ -112,16 +90,6 @@ pub record WorthOf (sides hours prices quantities : List ℕ) (set value-r cost-
   pub costFits : cost-r ≤ 2 ^ 46
 
 -- WHAT IS ASKED of the columns, for safe arithmetic and indexing
-pub record StepsSized (ends sides prices quantities : List ℕ) : Type 0 where
-  pub start : getD ends 0 0 ≡ 0
-  pub rise : (h : ℕ) → h < 24 → getD ends h 0 ≤ getD ends (h + 1) 0
-  pub fit : getD ends 24 0 ≤ 2048
-  pub inSides : getD ends 24 0 ≤ length sides
-  pub inPrices : getD ends 24 0 ≤ length prices
-  pub inQuantities : getD ends 24 0 ≤ length quantities
-  pub pricesFit : FirstSmall (getD ends 24 0) 300000 prices
-  pub quantitiesFit : FirstSmall (getD ends 24 0) 99999 quantities
-
 -- .. of the blocks, by the columns that trades go by
 pub record TradersSized (sides hours quantities : List ℕ) : Type 0 where
   pub few : length sides ≤ 32

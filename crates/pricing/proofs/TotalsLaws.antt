@@ -12,7 +12,7 @@ use Rattle.rules.specs.Orders.{Side, buy, sell, Step}
 use Rattle.rules.specs.Hour.{bySide, when, buysAbove, sellsTo}
 use Rattle.rules.proofs.CurveLaws.{when-zero, when-le}
 use Rattle.orders.specs.Columns.{sideFor, stepsFrom}
-use Rattle.pricing.specs.Curves.{Columns, InRange, TotalsOf}
+use Rattle.pricing.specs.Curves.{Columns, QuantitiesInRange, TotalsOf}
 
 -- A SIDE as a number
 pub side-sell : (s : ℕ) → (s ≡ 0 → ⊥) → sideFor s ≡ sell
@@ -78,7 +78,7 @@ pub record Counted (sides prices quantities : List ℕ) (over to above upto i : 
   pub sells : (h : ℕ) → sellsTo to (stepsFrom h sides prices quantities) ≡ upto + sellsTo to (restOf h sides prices quantities i)
   pub aboveFits : above ≤ i * 2 ^ 32
   pub uptoFits : upto ≤ i * 2 ^ 32
-  pub aboveSmall : InRange quantities → above ≤ i * 99999
+  pub aboveSmall : QuantitiesInRange quantities → above ≤ i * 99999
 
 pub counted-none : (sides prices quantities : List ℕ) (over to : ℕ) → Counted sides prices quantities over to 0 0 0
 counted-none sides prices quantities over to =

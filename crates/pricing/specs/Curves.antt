@@ -29,8 +29,8 @@ pub record LeastCovered (margin : ℕ) (hour : Hour) (r : ℕ) : Type 0 where
   pub holds : r < maxPrice → Covered margin hour r
 
 -- No quantity is above a step's largest.
-abbrev pub InRange : List ℕ → Type 0
-InRange quantities = (i : ℕ) → getD quantities i 0 ≤ 99999
+abbrev pub QuantitiesInRange : List ℕ → Type 0
+QuantitiesInRange quantities = (i : ℕ) → getD quantities i 0 ≤ 99999
 
 -- What the columns' steps buy over one price and sell to another, whatever hour they are of.
 pub record TotalsOf (sides prices quantities : List ℕ) (over to above upto : ℕ) : Type 0 where
@@ -38,7 +38,7 @@ pub record TotalsOf (sides prices quantities : List ℕ) (over to above upto : �
   pub sells : (h : ℕ) → upto ≡ sellsTo to (stepsFrom h sides prices quantities)
   pub aboveFits : above ≤ 2048 * 2 ^ 32
   pub uptoFits : upto ≤ 2048 * 2 ^ 32
-  pub aboveSmall : InRange quantities → above ≤ 2048 * 99999
+  pub aboveSmall : QuantitiesInRange quantities → above ≤ 2048 * 99999
 
 -- The same with one price for both.
 abbrev pub TotalsAt : List ℕ → List ℕ → List ℕ → ℕ → ℕ → ℕ → Type 0

@@ -13,7 +13,7 @@ use lib.Pow.{pow-mono, shr-shr}
 use borrow.Author.Tests.{eqb-true, eqb-false, eq-eqb, ne-eqb, not-true}
 use Rattle.records.specs.Records.{holdsHour}
 use Rattle.orders.specs.Columns.{sideFor}
-use Rattle.rules.specs.Orders.{Side, buy, Block}
+use Rattle.rules.specs.Orders.{Side, buy, Step, Block}
 use Rattle.rules.specs.Hour.{bySide, when}
 use Rattle.rules.specs.Execution.{testSide}
 use Rattle.rules.specs.Day.{
@@ -29,6 +29,7 @@ use Rattle.rules.specs.Day.{
   hourOf,
   stepsIn,
   priceSum,
+  setPrices,
   keepsLimit,
   everyBlock,
   allowed,
@@ -61,7 +62,8 @@ use Rattle.rules.proofs.PlaceLaws.{
   slack-at-place,
 }
 use Rattle.rules.proofs.LawCutLaws.{taken-passes}
-use Rattle.search.proofs.LeafLaws.{keepsHere}
+use Rattle.search.proofs.LeafLaws.{keepsHere, places-grow}
+use Rattle.search.proofs.TradedLaws.{counts, sells-at, buys-at, traded-are}
 use Rattle.search.specs.Search.{
   Small,
   sumOfHours,
@@ -82,6 +84,8 @@ use Rattle.search.specs.Search.{
   isOut,
   keepsAt,
   allKeep,
+  SetTrades,
+  TradedIn,
 }
 use Rattle.search.specs.Meaning.{
   BlocksSized,
@@ -105,11 +109,7 @@ use Rattle.search.specs.Meaning.{
 use Rattle.search.specs.declared.Best.{Best}
 use Rattle.search.specs.declared.Node.{Node}
 
--- HOURS: today each counts once
-pub counts : (hours h : ℕ) → 1 ≤ h → h ≤ 24 → Counts hours h
-unfolding weight
-counts hours h a b = record { first = a; last = b; counted = omega arith }
-
+-- SUMS OVER THE HOURS
 pub sumTo-in : (n : ℕ) (f g : ℕ → ℕ) → ((h : ℕ) → 1 ≤ h → h ≤ n → f h ≡ g h) → sumTo n f ≡ sumTo n g
 unfolding sumTo
 sumTo-in zero f g k = refl
@@ -240,11 +240,8 @@ module _ (day : Day) (p rest : ℕ → ℕ) (low gap first last blocks : List �
           let fits : ofHour places h ≤ 1600 = omega (arith, place-fits h a b) in
           rw e at (price-at-table day p rest low gap first last blocks count known places prices priced h a b fits)
 
-      pub day-of : DayOf day d record { prices = prices; quantities = places }
-      day-of = record {
-        pricesAre = λ h a b. price-at h a b ∙ sym (price-at-place day d size (known .prices) (known .hours) h (clear-at h a b));
-        placesAre = branch .placesAre;
-      }
+      pub prices-are : (h : ℕ) → 1 ≤ h → h ≤ 24 → ofHour prices h ≡ setPrices day (taken (day .blocks) d) h
+      prices-are h a b = price-at h a b ∙ sym (price-at-place day d size (known .prices) (known .hours) h (clear-at h a b))
 
       -- a block's limit by the columns
       keeps-same : (j : ℕ) (s : Shown day p blocks j) →
@@ -304,7 +301,7 @@ module _ (day : Day) (p rest : ℕ → ℕ) (count : ℕ) (d : List Bool) (set :
       }
 
 -- A DECIDED SET, one law for each way out
-module _ (low gap first last blocks : List ℕ) (count set loss : ℕ) (places : List ℕ) (best : Best) (clears : Bool) (sum : ℕ)
+module _ (low gap first last blocks : List ℕ) (steps : ℕ → List Step) (count set loss : ℕ) (places : List ℕ) (best : Best) (clears : Bool) (sum : ℕ)
     (gapped : GapsOf gap first last places clears sum) where
   leaf-as-it-was : (day : Day) (p rest : ℕ → ℕ) (d : List Bool) → (lawful day d ≡ true → best .limit ≤ lossAbove day p rest d) →
       Outcome day p rest count 0 d best best
@@ -315,8 +312,8 @@ module _ (low gap first last blocks : List ℕ) (count set loss : ℕ) (places :
   }
 
   -- some hour does not clear
-  pub decided-unclear : clears ≡ false → Decided low gap first last blocks count set loss places best best
-  decided-unclear e day p rest d known branch whole room =
+  pub decided-unclear : clears ≡ false → Decided low gap first last blocks steps count set loss places best best
+  decided-unclear e day p rest d same known branch whole room =
       leaf-as-it-was day p rest d
       (λ law. absurd (gapped .notInRange e (lawful-in-range day p rest low gap first last blocks count known set loss places d branch whole law)))
 
@@ -328,39 +325,34 @@ module _ (low gap first last blocks : List ℕ) (count set loss : ℕ) (places :
         omega (arith, loss-is day p rest low gap first last blocks count known set loss places d branch whole (gapped .inRange e) sum (gapped .sumIs e))
 
     -- it loses as much as the best or more
-    pub decided-worse : best .limit ≤ loss + sum → Decided low gap first last blocks count set loss places best best
-    decided-worse k day p rest d known branch whole room =
+    pub decided-worse : best .limit ≤ loss + sum → Decided low gap first last blocks steps count set loss places best best
+    decided-worse k day p rest d same known branch whole room =
         leaf-as-it-was day p rest d (λ law. omega (arith, loss-here day p rest d known branch whole))
 
     module _ (prices : List ℕ) (priced : PricesOf low places prices) where
       -- a block misses its limit
-      pub decided-broken : allKeep blocks set prices prices count ≡ false → Decided low gap first last blocks count set loss places best best
-      decided-broken k day p rest d known branch whole room =
+      pub decided-broken : allKeep blocks set prices prices count ≡ false → Decided low gap first last blocks steps count set loss places best best
+      decided-broken k day p rest d same known branch whole room =
           leaf-as-it-was day p rest d (λ law. absurd (limits-broken day p rest low gap first last blocks count known set loss places d branch whole
           (gapped .inRange e) prices priced k law))
 
       -- it is lawful and loses less
-      pub decided-better : allKeep blocks set prices prices count ≡ true → loss + sum < best .limit →
-          Decided low gap first last blocks count set loss places best
-          record { limit = loss + sum; set = set; day = record { prices = prices; quantities = places } }
-      decided-better k less day p rest d known branch whole room =
+      pub decided-better : allKeep blocks set prices prices count ≡ true → loss + sum < best .limit → (sales purchases quantities : List ℕ) →
+          SetTrades blocks count set sales purchases → TradedIn steps sales purchases prices quantities →
+          Decided low gap first last blocks steps count set loss places best
+          record { limit = loss + sum; set = set; day = record { prices = prices; quantities = quantities } }
+      decided-better k less sales purchases quantities sets trades day p rest d same known branch whole room =
           let in-range = gapped .inRange e in
-          newly-found day p rest count d set best _ (rw whole at (branch .setIs)) room refl (sym (loss-here day p rest d known branch whole)) less
-          (limits-kept day p rest low gap first last blocks count known set loss places d branch whole in-range prices priced k)
-          (day-of day p rest low gap first last blocks count known set loss places d branch whole in-range prices priced)
+          let law = limits-kept day p rest low gap first last blocks count known set loss places d branch whole in-range prices priced k in
+          let is = prices-are day p rest low gap first last blocks count known set loss places d branch whole in-range prices priced in
+          newly-found day p rest count d set best _ (rw whole at (branch .setIs)) room refl (sym (loss-here day p rest d known branch whole)) less law
+          record {
+            pricesAre = is;
+            tradedAre = traded-are day p rest low gap first last blocks count known steps same set d whole (branch .setIs) law
+                sales purchases prices quantities sets is trades;
+          }
 
 -- ONE MORE BLOCK, in the code's numbers
--- places that grow by at most a block's quantity
-pub places-grow : (n : ℕ) (places r : List ℕ) → length r ≡ 24 → Small (n * 50000) places →
-    ((h : ℕ) → 1 ≤ h → h ≤ 24 → ofHour r h ≤ ofHour places h + 50000) → Small ((n + 1) * 50000) r
-places-grow n places r e small f i = at (native.Mathlib.Decide.decLe 24 i)
-  where
-    at : Dec (24 ≤ i) → getD r i 0 ≤ (n + 1) * 50000
-    at (yes k) = let z : length r ≤ i = omega arith in rw (lib.ListN.List·getD-eq-default r 0 z) (omega arith)
-    at (no k) =
-        let a = rw sub-one at (f (suc i) (omega arith) (omega (arith, native.Mathlib.Nat.lt-of-not-le k))) in
-        omega (arith, small i)
-
 -- the node with the block taken, and with it left out
 module _ (blocks : List ℕ) (at : ℕ) (node : Node) (moved : List ℕ) (sized : BlocksSized blocks)
     (fits : Fits at (node .set) (node .loss) (node .places)) (size : length moved ≡ 24) where
@@ -397,22 +389,6 @@ module _ (blocks : List ℕ) (at : ℕ) (node : Node) (moved : List ℕ) (sized 
     },
     record { setIs = refl; lossIs = refl; placesAre = m },
   )
-
--- what a block sells and buys in an hour, by its row
-sells-row : (side : ℕ) (t : Bool) (q : ℕ) → when t (bySide (sideFor side) 0 q) ≡ when (not (eqb side 0)) (when t q)
-sells-row zero t q = when-zero t
-sells-row (suc side) t q = rw (ne-eqb (suc side) 0 (omega arith))
-
-buys-row : (side : ℕ) (t : Bool) (q : ℕ) → when t (bySide (sideFor side) q 0) ≡ when (eqb side 0) (when t q)
-buys-row zero t q = refl
-buys-row (suc side) t q = rw (ne-eqb (suc side) 0 (omega arith)) (when-zero t)
-
-module _ (day : Day) (p : ℕ → ℕ) (blocks : List ℕ) (j : ℕ) (s : Shown day p blocks j) (h : ℕ) (a : 1 ≤ h) (b : h ≤ 24) where
-  pub sells-at : sells h (s .block) ≡ when (not (eqb (sideAt blocks j) 0)) (rowAt blocks j h)
-  sells-at = rw (s .sideIs, s .rowIs h a b) (sells-row (sideAt blocks j) (s .block .runs h) (s .block .quantity))
-
-  pub buys-at : buys h (s .block) ≡ when (eqb (sideAt blocks j) 0) (rowAt blocks j h)
-  buys-at = rw (s .sideIs, s .rowIs h a b) (buys-row (sideAt blocks j) (s .block .runs h) (s .block .quantity))
 
 -- the branch with the block taken, and with it left out
 module _ (day : Day) (p rest : ℕ → ℕ) (low gap first last blocks : List ℕ) (count : ℕ) (known : Known day p rest low gap first last blocks count)
@@ -468,18 +444,18 @@ module _ (low gap first last blocks : List ℕ) (count : ℕ) where
       lawful day s ≡ true → (h : ℕ) → Counts (day .hours) h → rest h ≤ slack (p h) (hourOf day (taken (day .blocks) s) h)
   rest-below day p rest known s size law h c = omega (arith, gap-of-lawful day p rest known s size law h c)
 
-  module _ (turn : List ℕ) where
+  module _ (turn : List ℕ) (steps : ℕ → List Step) where
     -- the branch is dropped
     pub explored-dropped : (left out : ℕ) (node : Node) (best : Best) → DroppedFrom low gap first last turn blocks count left out node (best .limit) →
-        ExploredFrom low gap first last turn blocks count left out node best best
-    explored-dropped left out node best dropped day p rest d at = as-it-was day p rest count left d best (λ t l law. dropped day p rest d t at l law)
+        ExploredFrom low gap first last turn blocks steps count left out node best best
+    explored-dropped left out node best dropped day p rest d same at = as-it-was day p rest count left d best (λ t l law. dropped day p rest d t at l law)
 
     -- the branch is judged: what is out of it then
     pub explored-judged : (left out r-out : ℕ) (node : Node) (best r : Best) (isDropped : Bool) → isDropped ≡ false →
         JudgedFrom low gap first last turn blocks count left out node (best .limit) isDropped r-out →
-        ExploredFrom low gap first last turn blocks count left r-out node best r → ExploredFrom low gap first last turn blocks count left out node best r
-    explored-judged left out r-out node best r isDropped e judged f day p rest d at =
-        f day p rest d record {
+        ExploredFrom low gap first last turn blocks steps count left r-out node best r → ExploredFrom low gap first last turn blocks steps count left out node best r
+    explored-judged left out r-out node best r isDropped e judged f day p rest d same at =
+        f day p rest d same record {
           known = at .known;
           turning = at .turning;
           branch = at .branch;
@@ -489,10 +465,10 @@ module _ (low gap first last blocks : List ℕ) (count : ℕ) where
 
     -- no block is left
     pub explored-decided : (left out : ℕ) (node : Node) (best r : Best) → left ≡ 0 → node .set < 2 ^ count →
-        Decided low gap first last blocks count (node .set) (node .loss) (node .places) best r →
-        ExploredFrom low gap first last turn blocks count left out node best r
-    explored-decided left out node best r e room f day p rest d at =
-        rw e (f day p rest d (at .known) (at .branch) (omega (arith, at .size)) room)
+        Decided low gap first last blocks steps count (node .set) (node .loss) (node .places) best r →
+        ExploredFrom low gap first last turn blocks steps count left out node best r
+    explored-decided left out node best r e room f day p rest d same at =
+        rw e (f day p rest d same (at .known) (at .branch) (omega (arith, at .size)) room)
 
     -- the next block is decided: what is out of the branch stays out, and the next bit is the lowest
     out-next : (day : Day) (p rest : ℕ → ℕ) (d : List Bool) (x : Bool) (left limit less out : ℕ) → 0 < left → less ≤ limit →
@@ -536,13 +512,13 @@ module _ (low gap first last blocks : List ℕ) (count : ℕ) where
     -- a block is taken and then left out
     pub explored-both : (left out : ℕ) (node taken-node left-node : Node) (best m r : Best) → 0 < left → left ≤ count →
         node .set < 2 ^ (count - left) → TakenTo blocks (count - left) node taken-node → LeftTo blocks (count - left) node left-node →
-        ExploredFrom low gap first last turn blocks count (left - 1) (out / 2) taken-node best m →
-        ExploredFrom low gap first last turn blocks count (left - 1) (out / 2) left-node m r →
-        ExploredFrom low gap first last turn blocks count left out node best r
-    explored-both left out node nt nl best m r pos le room t l f g day p rest d at =
-        let a = f day p rest (d ++ (true ∷ [])) (at-taken left out node (best .limit) pos le room day p rest d at nt (best .limit) t (omega arith)) in
+        ExploredFrom low gap first last turn blocks steps count (left - 1) (out / 2) taken-node best m →
+        ExploredFrom low gap first last turn blocks steps count (left - 1) (out / 2) left-node m r →
+        ExploredFrom low gap first last turn blocks steps count left out node best r
+    explored-both left out node nt nl best m r pos le room t l f g day p rest d same at =
+        let a = f day p rest (d ++ (true ∷ [])) same (at-taken left out node (best .limit) pos le room day p rest d at nt (best .limit) t (omega arith)) in
         let lower₁ : m .limit ≤ best .limit = a .explored .noMore in
-        let b = g day p rest (d ++ (false ∷ [])) (at-left left out node (best .limit) pos le room day p rest d at nl (m .limit) l lower₁) in
+        let b = g day p rest (d ++ (false ∷ [])) same (at-left left out node (best .limit) pos le room day p rest d at nl (m .limit) l lower₁) in
         let one : suc (left - 1) ≡ left = omega arith in
         let lower₂ : r .limit ≤ m .limit = b .explored .noMore in
         record {
@@ -584,11 +560,11 @@ module _ (low gap first last blocks : List ℕ) (count : ℕ) where
 
     pub explored-left : (left out : ℕ) (node left-node : Node) (best r : Best) → 0 < left → left ≤ count → node .set < 2 ^ (count - left) →
         (isOut out 0 || isBarred blocks (count - left) (node .set)) ≡ true → LeftTo blocks (count - left) node left-node →
-        ExploredFrom low gap first last turn blocks count (left - 1) (out / 2) left-node best r →
-        ExploredFrom low gap first last turn blocks count left out node best r
-    explored-left left out node nl best r pos le room barred l g day p rest d at =
+        ExploredFrom low gap first last turn blocks steps count (left - 1) (out / 2) left-node best r →
+        ExploredFrom low gap first last turn blocks steps count left out node best r
+    explored-left left out node nl best r pos le room barred l g day p rest d same at =
         let here : count - left ≡ length d = omega (arith, at .size) in
-        let b = g day p rest (d ++ (false ∷ [])) (at-left left out node (best .limit) pos le room day p rest d at nl (best .limit) l (omega arith)) in
+        let b = g day p rest (d ++ (false ∷ [])) same (at-left left out node (best .limit) pos le room day p rest d at nl (best .limit) l (omega arith)) in
         let one : suc (left - 1) ≡ left = omega arith in
         record {
           explored = rw one at (by-loss.only-left day (InTurn day p) (lossAbove day p rest) (left - 1) d _ _
@@ -603,15 +579,15 @@ module _ (low gap first last blocks : List ℕ) (count : ℕ) where
 
     pub explored-taken : (left out : ℕ) (node taken-node : Node) (best r : Best) → 0 < left → left ≤ count → node .set < 2 ^ (count - left) →
         isDue blocks (count - left) (node .set) ≡ true → TakenTo blocks (count - left) node taken-node →
-        ExploredFrom low gap first last turn blocks count (left - 1) (out / 2) taken-node best r →
-        ExploredFrom low gap first last turn blocks count left out node best r
+        ExploredFrom low gap first last turn blocks steps count (left - 1) (out / 2) taken-node best r →
+        ExploredFrom low gap first last turn blocks steps count left out node best r
     unfolding isDue
-    explored-taken left out node nt best r pos le room due t f day p rest d at =
+    explored-taken left out node nt best r pos le room due t f day p rest d same at =
         let here : count - left ≡ length d = omega (arith, at .size) in
         let k : length d < count = omega (arith, at .size) in
         let known = at .known in
         let branch = at .branch in
-        let b = f day p rest (d ++ (true ∷ [])) (at-taken left out node (best .limit) pos le room day p rest d at nt (best .limit) t (omega arith)) in
+        let b = f day p rest (d ++ (true ∷ [])) same (at-taken left out node (best .limit) pos le room day p rest d at nt (best .limit) t (omega arith)) in
         let one : suc (left - 1) ≡ left = omega arith in
         let tests = both (not (eqb (behindAt blocks (length d)) 0)) (eqb (node .set / 2 ^ (behindAt blocks (length d) - 1) % 2) 1) (rw here at due) in
         let some = eqb-false (behindAt blocks (length d)) 0 (not-true _ (tests .0)) in

@@ -173,6 +173,17 @@ places-small first last places r small e i = at (native.Mathlib.Decide.decLe 24 
         let a = rw sub-one at (r (suc i) (omega arith) (omega (arith, native.Mathlib.Nat.lt-of-not-le k))) in
         omega (arith, a .1, small i)
 
+-- places that grow by at most a block's quantity
+pub places-grow : (n : ℕ) (places r : List ℕ) → length r ≡ 24 → Small (n * 50000) places →
+    ((h : ℕ) → 1 ≤ h → h ≤ 24 → ofHour r h ≤ ofHour places h + 50000) → Small ((n + 1) * 50000) r
+places-grow n places r e small f i = at (native.Mathlib.Decide.decLe 24 i)
+  where
+    at : Dec (24 ≤ i) → getD r i 0 ≤ (n + 1) * 50000
+    at (yes k) = let z : length r ≤ i = omega arith in rw (lib.ListN.List·getD-eq-default r 0 z) (omega arith)
+    at (no k) =
+        let a = rw sub-one at (f (suc i) (omega arith) (omega (arith, native.Mathlib.Nat.lt-of-not-le k))) in
+        omega (arith, small i)
+
 -- A ROW ADDED to places so many times, hour by hour
 pub times-when : (t : Bool) (x : ℕ) → cond t 1 0 * x ≡ when t x
 times-when true x = omega arith

@@ -6,7 +6,7 @@ use mathlib.Core.Bool.{false}
 use native.Mathlib.Omega.{arith}
 use lib.ListN.{length, drop, getD, replicate, length-replicate}
 use lib.Pow.{shr-le, pow-pos}
-use Rattle.rules.specs.Orders.{Block}
+use Rattle.rules.specs.Orders.{Step, Block}
 use Rattle.rules.specs.Day.{Day, daySum, sumTo, taken, decisions, overBlocks, hourOf}
 use Rattle.rules.specs.Outcome.{outcome}
 use Rattle.rules.proofs.Tests.{clash}
@@ -18,11 +18,12 @@ use Rattle.rules.proofs.LossSearchLaws as by-loss
 use Rattle.rules.proofs.TwinLaws.{InTurn, outcome-in-turn}
 use Rattle.rules.proofs.PlaceLaws.{place, place-none}
 use Rattle.search.specs.Search.{cell, isOut}
-use Rattle.search.specs.Meaning.{Fits, Known, Turning, Branch, lossAbove, bestAs, DayOf, Outcome, ExploredFrom}
+use Rattle.search.specs.Meaning.{Fits, Known, Turning, Branch, lossAbove, bestAs, DayOf, StepsAre, Outcome, ExploredFrom}
 use Rattle.search.specs.declared.Best.{Best}
 use Rattle.search.specs.declared.Node.{Node}
 use Rattle.search.proofs.LeafLaws.{zeros}
-use Rattle.search.proofs.BranchLaws.{counts, sumTo-in, sumTo-add, daySum-plain, gap-of-lawful, rest-below}
+use Rattle.search.proofs.TradedLaws.{counts}
+use Rattle.search.proofs.BranchLaws.{sumTo-in, sumTo-add, daySum-plain, gap-of-lawful, rest-below}
 
 -- THE ROOT: nothing is decided
 abbrev pub root : Node
@@ -88,10 +89,10 @@ module _ (low gap first last blocks : List ℕ) (count : ℕ) (few : count ≤ 3
       by-loss.adds-less day (lossOf day p) (lossAbove day p rest) _ (daySum (day .hours) rest) (by-loss.loss-adds day (known .prices) (known .hours) p)
       (λ set size law. omega (arith, bound-with day p [] set 0 rest (omega arith) (rest-below low gap first last blocks count day p rest known set (size ∙ known .counted) law)))
 
-  module _ (turn : List ℕ) (turning : Turning gap first last turn) (best r : Best)
-      (pass : ExploredFrom low gap first last turn blocks count count 0 root best r) where
+  module _ (turn : List ℕ) (steps : ℕ → List Step) (turning : Turning gap first last turn) (same : StepsAre day steps) (best r : Best)
+      (pass : ExploredFrom low gap first last turn blocks steps count count 0 root best r) where
     outcome-of : Outcome day p rest count count [] best r
-    outcome-of = pass day p rest [] record {
+    outcome-of = pass day p rest [] same record {
       known = known;
       turning = turning;
       branch = root-branch day p;

@@ -59,17 +59,15 @@ use Rattle.search.specs.Search.{
 }
 use Rattle.search.specs.Meaning.{Shown, Known, Branch, lossAbove, At, DroppedFrom, JudgedFrom}
 use Rattle.search.specs.declared.Node.{Node}
-use Rattle.search.proofs.LeafLaws.{zeros, below-next}
+use Rattle.search.proofs.LeafLaws.{zeros, below-next, places-grow}
+use Rattle.search.proofs.TradedLaws.{sells-at, buys-at, added-more}
 use Rattle.search.proofs.BranchLaws.{
   sumTo-in,
   sumTo-add,
   daySum-plain,
   block-at,
-  sells-at,
-  buys-at,
   all-keep,
   price-at-table,
-  places-grow,
   lawful-place,
   gap-of-lawful,
   rest-below,
@@ -462,14 +460,9 @@ module _ (blocks : List ℕ) (count at out loss limit : ℕ) (places : List ℕ)
         freeFits = λ i. omega (arith, zeros 24 i);
       }
 
-  -- one block more
   one-more : (moves : ℕ → Bool) (h i : ℕ) → 0 < i → i ≤ count →
       added moves h (i - 1) ≡ when (moves (i - 1)) (rowAt blocks (i - 1) h) + added moves h i
-  unfolding addedIn
-  one-more moves h i pos le =
-      let e : count - (i - 1) ≡ suc (count - i) = omega arith in
-      let f : suc (i - 1) ≡ i = omega arith in
-      rw (e, f)
+  one-more moves h i = added-more blocks moves h count i
 
   pub rest-next : (i : ℕ) (least free more freer : List ℕ) → RestTo i least free → at < i → ((h : ℕ) → rowAt blocks (i - 1) h ≤ 50000) →
       AddedTo blocks (i - 1) (mustFrom blocks at out loss limit (i - 1)) (mayFrom blocks at out loss limit (i - 1)) least free more freer → RestTo (i - 1) more freer

@@ -8,8 +8,8 @@ use mathlib.Core.Path.{_≡_}
 use lib.ListN.{length, drop, getD}
 use Rattle.records.specs.Records.{holdsHour}
 use Rattle.orders.specs.Columns.{sideFor}
-use Rattle.rules.specs.Orders.{Block}
-use Rattle.rules.specs.Day.{Day, daySum, taken, decisions, overBlocks, sells, buys, stepsIn, setPrices, hourCount, lawful}
+use Rattle.rules.specs.Orders.{Step, Block}
+use Rattle.rules.specs.Day.{Day, daySum, taken, decisions, overBlocks, sells, buys, stepsIn, setPrices, hourCount, lawful, traded}
 use Rattle.rules.specs.Outcome.{outcome}
 use Rattle.rules.specs.Contender.{PricesInRange, HoursInRange}
 use Rattle.rules.proofs.PricingLaws.{Clearable, net}
@@ -99,10 +99,10 @@ lossAbove day p rest set = lossOf day p set - daySum (day .hours) rest
 abbrev pub bestAs : ℕ → Best → by-loss.Best
 bestAs count best = record { limit = best .limit; set = decisions count (best .set) }
 
--- a set's prices and places
+-- a set's prices and traded quantities
 pub record DayOf (day : Day) (set : List Bool) (found : code-day.Day) : Type 0 where
   pub pricesAre : (h : ℕ) → 1 ≤ h → h ≤ 24 → ofHour (found .prices) h ≡ setPrices day (taken (day .blocks) set) h
-  pub placesAre : (h : ℕ) → 1 ≤ h → h ≤ 24 → ofHour (found .quantities) h ≡ place (day .blocks) set h
+  pub tradedAre : (h : ℕ) → 1 ≤ h → h ≤ 24 → ofHour (found .quantities) h ≡ traded day (taken (day .blocks) set) h
 
 -- WHAT A BRANCH GIVES BACK of the best so far
 pub record Outcome (day : Day) (p rest : ℕ → ℕ) (count left : ℕ) (d : List Bool) (best r : Best) : Type 0 where
@@ -110,9 +110,13 @@ pub record Outcome (day : Day) (p rest : ℕ → ℕ) (count left : ℕ) (d : Li
   pub same : r .limit ≡ best .limit → r ≡ best
   pub found : r .limit < best .limit → (r .set < 2 ^ count) × DayOf day (decisions count (r .set)) (r .day)
 
-abbrev pub Decided : (low gap first last blocks : List ℕ) (count set loss : ℕ) (places : List ℕ) (best r : Best) → Type 0
-Decided low gap first last blocks count set loss places best r =
-    (day : _) (p rest : ℕ → ℕ) (d : List Bool) → Known day p rest low gap first last blocks count → Branch day p d set loss places →
+-- the steps of each hour are the day's
+abbrev pub StepsAre : Day → (ℕ → List Step) → Type 0
+StepsAre day steps = (h : ℕ) → 1 ≤ h → h ≤ 24 → steps h ≡ stepsIn h (day .steps)
+
+abbrev pub Decided : (low gap first last blocks : List ℕ) (steps : ℕ → List Step) (count set loss : ℕ) (places : List ℕ) (best r : Best) → Type 0
+Decided low gap first last blocks steps count set loss places best r =
+    (day : _) (p rest : ℕ → ℕ) (d : List Bool) → StepsAre day steps → Known day p rest low gap first last blocks count → Branch day p d set loss places →
     length d ≡ count → set < 2 ^ count → Outcome day p rest count 0 d best r
 
 -- THE BLOCKS THAT ARE OUT of a branch: no lawful completion that loses less than the limit takes one of them.
@@ -130,9 +134,9 @@ pub record At (low gap first last turn blocks : List ℕ) (count left : ℕ) (no
   pub size : length d + left ≡ count
   pub outOf : OutOf day p rest d left limit out
 
-abbrev pub ExploredFrom : (low gap first last turn blocks : List ℕ) (count left out : ℕ) (node : Node) (best r : Best) → Type 0
-ExploredFrom low gap first last turn blocks count left out node best r =
-    (day : _) (p rest : ℕ → ℕ) (d : List Bool) → At low gap first last turn blocks count left node (best .limit) out day p rest d →
+abbrev pub ExploredFrom : (low gap first last turn blocks : List ℕ) (steps : ℕ → List Step) (count left out : ℕ) (node : Node) (best r : Best) → Type 0
+ExploredFrom low gap first last turn blocks steps count left out node best r =
+    (day : _) (p rest : ℕ → ℕ) (d : List Bool) → StepsAre day steps → At low gap first last turn blocks count left node (best .limit) out day p rest d →
     Outcome day p rest count left d best r
 
 -- A BRANCH TO DROP: no lawful completion loses less than the limit.
@@ -161,7 +165,7 @@ pub record LeftTo (blocks : List ℕ) (at : ℕ) (node r : Node) : Type 0 where
       ofHour (r .places) h ≡ ofHour (node .places) h + when (eqb (sideAt blocks at) 0) (rowAt blocks at h)
 
 -- THE PUBLISHED SET, with its day
-abbrev pub FoundIn : (low gap first last turn blocks : List ℕ) (count : ℕ) (r : Best) → Type 0
-FoundIn low gap first last turn blocks count r =
-    (day : _) (p rest : ℕ → ℕ) → Known day p rest low gap first last blocks count → Turning gap first last turn →
+abbrev pub FoundIn : (low gap first last turn blocks : List ℕ) (steps : ℕ → List Step) (count : ℕ) (r : Best) → Type 0
+FoundIn low gap first last turn blocks steps count r =
+    (day : _) (p rest : ℕ → ℕ) → StepsAre day steps → Known day p rest low gap first last blocks count → Turning gap first last turn →
     (decisions count (r .set) ≡ outcome day) × (r .set < 2 ^ count) × DayOf day (outcome day) (r .day)

@@ -1,13 +1,15 @@
 -- What the search works on, and what it gives back. Definitions only. Assumes nothing.
-use Prim.Native.Nat.{ℕ, zero, suc, _+_, _-_, _*_, _/_, _%_, _^_, _≤_, _<_}
+use Prim.Native.Nat.{ℕ, zero, suc, _+_, _-_, _*_, _/_, _%_, _^_, _≤_, _<_, min}
 use mathlib.Core.Bool.{Bool, true, false, cond, not, _&&_, _||_}
 use mathlib.Core.List.{List, [], _∷_}
 use mathlib.Core.Path.{_≡_}
 use lib.Dec.{eqb, leb}
 use lib.ListN.{length, take, drop, getD}
+use lib.Seq.{slice}
 use Rattle.rules.specs.Execution.{testSide}
-use Rattle.orders.specs.Columns.{sideFor}
-use Rattle.rules.specs.Hour.{bySide, when}
+use Rattle.orders.specs.Columns.{sideFor, stepsFrom}
+use Rattle.rules.specs.Orders.{Step}
+use Rattle.rules.specs.Hour.{bySide, when, buysFrom, sellsTo}
 use Rattle.rules.specs.Day.{sumTo}
 use Rattle.records.specs.Records.{holdsHour}
 
@@ -190,3 +192,57 @@ pub record ReachedBy (first last blocks : List ℕ) (count j out loss limit : �
 -- The sum of the hours' gaps at the places from `from` to `to` that are nearest to where the gaps turn.
 unfoldable pub leastGaps : (gap turn from to : List ℕ) → ℕ
 leastGaps gap turn from to = sumTo 24 (λ h. cell gap h (nearest (ofHour turn h) (ofHour from h) (ofHour to h)))
+
+-- WHAT A DECIDED SET TRADES
+-- Block i of a set given as bits is in it and sells; is in it and buys.
+abbrev pub sellsIn : (blocks : List ℕ) (set i : ℕ) → Bool
+sellsIn blocks set i = eqb (set / 2 ^ i % 2) 1 && not (eqb (sideAt blocks i) 0)
+
+abbrev pub buysIn : (blocks : List ℕ) (set i : ℕ) → Bool
+buysIn blocks set i = eqb (set / 2 ^ i % 2) 1 && eqb (sideAt blocks i) 0
+
+-- What the first count blocks of a set sell and buy in each hour.
+pub record SetTrades (blocks : List ℕ) (count set : ℕ) (sales purchases : List ℕ) : Type 0 where
+  pub salesAre : (h : ℕ) → 1 ≤ h → h ≤ 24 → ofHour sales h ≡ addedIn blocks (sellsIn blocks set) h count 0
+  pub purchasesAre : (h : ℕ) → 1 ≤ h → h ≤ 24 → ofHour purchases h ≡ addedIn blocks (buysIn blocks set) h count 0
+  pub purchasesFit : Small 1600000 purchases
+
+-- THE STEPS: columns of sides, prices and quantities, hour after hour; `ends` has at h how many of them the hours 1 to h have.
+-- Every one of the first n numbers of a list is at most m.
+abbrev pub FirstSmall : ℕ → ℕ → List ℕ → Type 0
+FirstSmall n m l = (i : ℕ) → i < n → getD l i 0 ≤ m
+
+-- The part of a column that hour h has.
+abbrev pub partOf : List ℕ → List ℕ → ℕ → List ℕ
+partOf ends column h = slice (getD ends (h - 1) 0) (getD ends h 0) column
+
+-- The steps of hour h.
+unfoldable pub stepsAt : (ends sides prices quantities : List ℕ) → ℕ → List Step
+stepsAt ends sides prices quantities h = stepsFrom h (partOf ends sides h) (partOf ends prices h) (partOf ends quantities h)
+
+-- What is asked of the columns, for safe arithmetic and indexing.
+pub record StepsSized (ends sides prices quantities : List ℕ) : Type 0 where
+  pub start : getD ends 0 0 ≡ 0
+  pub rise : (h : ℕ) → h < 24 → getD ends h 0 ≤ getD ends (h + 1) 0
+  pub fit : getD ends 24 0 ≤ 2048
+  pub inSides : getD ends 24 0 ≤ length sides
+  pub inPrices : getD ends 24 0 ≤ length prices
+  pub inQuantities : getD ends 24 0 ≤ length quantities
+  pub pricesFit : FirstSmall (getD ends 24 0) 300000 prices
+  pub quantitiesFit : FirstSmall (getD ends 24 0) 99999 quantities
+
+-- The part of the columns from one place to another is within them, and its prices and quantities are in their ranges.
+pub record PartSized (sides prices quantities : List ℕ) (from to : ℕ) : Type 0 where
+  pub ordered : from ≤ to
+  pub fit : to ≤ 2048
+  pub inSides : to ≤ length sides
+  pub inPrices : to ≤ length prices
+  pub inQuantities : to ≤ length quantities
+  pub pricesFit : FirstSmall to 300000 prices
+  pub quantitiesFit : FirstSmall to 99999 quantities
+
+-- What is traded in each hour at its price: what is bought at or above it, or sold at or below it, the lesser, each with the blocks' own.
+abbrev pub TradedIn : (steps : ℕ → List Step) (sales purchases prices traded : List ℕ) → Type 0
+TradedIn steps sales purchases prices traded =
+    (h : ℕ) → 1 ≤ h → h ≤ 24 → 1 ≤ ofHour prices h →
+    ofHour traded h ≡ min (buysFrom (ofHour prices h) (steps h) + ofHour purchases h) (sellsTo (ofHour prices h) (steps h) + ofHour sales h)

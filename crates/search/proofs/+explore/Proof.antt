@@ -20,32 +20,43 @@ use Rattle.search.proofs.take.Reads as take-reads
 use Rattle.search.proofs.+explore.{statement}
 use Rattle.search.proofs.+explore.Tie.{close}
 
-abbrev μ-explore : Measures 4 explore-kinds.ps ℕ
-μ-explore κs a = a .1 .1 .1 .1 .1 .0
+abbrev μ-explore : Measures 8 explore-kinds.ps ℕ
+μ-explore κs a = a .1 .1 .1 .1 .1 .1 .1 .1 .1 .0
 
-abbrev explore-at : ℕ → In 4 explore-kinds.ps
-explore-at t = and 4 explore-kinds.ps (is 4 explore-kinds.ps μ-explore t) explore.Pre
+abbrev explore-at : ℕ → In 8 explore-kinds.ps
+explore-at t = and 8 explore-kinds.ps (is 8 explore-kinds.ps μ-explore t) explore.Pre
 
-abbrev explore-below : ℕ → In 4 explore-kinds.ps
-explore-below t = and 4 explore-kinds.ps (falls 4 explore-kinds.ps _<_ μ-explore t) explore.Pre
+abbrev explore-below : ℕ → In 8 explore-kinds.ps
+explore-below t = and 8 explore-kinds.ps (falls 8 explore-kinds.ps _<_ μ-explore t) explore.Pre
 
 abbrev claims-explore : ℕ → explore-lts.Claims
 claims-explore t = (judge-reads.Asked, judge-reads.Learnt, decide-reads.Asked, decide-reads.Learnt, leave-reads.Asked, leave-reads.Learnt, is-out-reads.Asked, is-out-reads.Learnt, is-barred-reads.Asked, is-barred-reads.Learnt, explore-below t, explore.Post, take-reads.Asked, take-reads.Learnt, is-due-reads.Asked, is-due-reads.Learnt)
+
+-- THE STATES on the way: the start behind the judgement, the judgement behind the block left out, that behind the tests of whether it is only left out
+abbrev start : (t : ℕ) → explore-lts.After-judge (claims-explore t) (explore-at t) explore.Post → explore-lts.Start (claims-explore t) (explore-at t) explore.Post
+start t c = c .before .before .before .before .before .before .before .before .before
+
+abbrev judged : (t : ℕ) → explore-lts.After-leave (claims-explore t) (explore-at t) explore.Post → explore-lts.After-judge (claims-explore t) (explore-at t) explore.Post
+judged t c = c .before .before .before .before
+
+abbrev left : (t : ℕ) → explore-lts.Else3 (claims-explore t) (explore-at t) explore.Post → explore-lts.After-leave (claims-explore t) (explore-at t) explore.Post
+left t c = c .before .before .before
 
 explore-judge-requires : (t : ℕ) → explore-lts.Need-judge-requires (claims-explore t) (explore-at t) explore.Post
 explore-judge-requires t c κs = search needs
 
 explore-returns : (t : ℕ) → explore-lts.Need-returns (claims-explore t) (explore-at t) explore.Post
-explore-returns t c = explored-dropped _ _ _ _ _ _ _ _ _ _ _ (c .before .judge .ensures .dropped (c .if1 .taken))
+explore-returns t c = explored-dropped _ _ _ _ _ _ _ _ _ _ _ _ (c .before .judge .ensures .dropped (c .if1 .taken))
 
 explore-decide-requires : (t : ℕ) → explore-lts.Need-decide-requires (claims-explore t) (explore-at t) explore.Post
 explore-decide-requires t c κs = search needs
 
 explore-returns-2 : (t : ℕ) → explore-lts.Need-returns-2 (claims-explore t) (explore-at t) explore.Post
 explore-returns-2 t c =
-    let a = c .before .before .before .before .before .before .before .before in
-    let e : a .args .count - a .args .left ≡ a .args .count = omega (arith, c .before .if2 .taken) in
-    explored-decided _ _ _ _ _ _ _ _ _ _ _ _ (c .before .if2 .taken) (rw e at (a .pre .1 .4 .setFits)) (c .decide .ensures)
+    let none = c .before in
+    let s = start t (none .before .before) in
+    let e : s .args .count - s .args .left ≡ s .args .count = omega (arith, none .if2 .taken) in
+    explored-decided _ _ _ _ _ _ _ _ _ _ _ _ _ (none .if2 .taken) (rw e at (s .pre .1 .6 .setFits)) (c .decide .ensures)
 
 explore-sub-at : (t : ℕ) → explore-lts.Need-sub-at (claims-explore t) (explore-at t) explore.Post
 explore-sub-at t c = search needs
@@ -67,60 +78,78 @@ explore-is-barred-requires t c κs = search needs
 
 explore-explore-requires : (t : ℕ) → explore-lts.Need-explore-requires (claims-explore t) (explore-at t) explore.Post
 explore-explore-requires t c κs =
-    let a = c .before .before .before .before .before .before .before .before .before .before .before .before in
-    let k = c .before .before .before .before .before .if2 .left in
-    let e : a .args .count - a .args .left + 1 ≡ a .args .count - (a .args .left - 1) = omega (arith, a .pre .1 .3) in
-    (omega (arith, a .pre .0), (a .pre .1 .0, a .pre .1 .1, a .pre .1 .2, omega (arith, a .pre .1 .3), rw e at (c .before .before .before .leave .ensures .0)))
+    let l = c .before .before .before in
+    let j = judged t l in
+    let s = start t j in
+    let k = l .before .before .if2 .left in
+    let e : s .args .count - s .args .left + 1 ≡ s .args .count - (s .args .left - 1) = omega (arith, s .pre .1 .5) in
+    (omega (arith, s .pre .0), (s .pre .1 .0, s .pre .1 .1, s .pre .1 .2, s .pre .1 .3, s .pre .1 .4, omega (arith, s .pre .1 .5), rw e at (l .leave .ensures .0)))
 
 explore-returns-3 : (t : ℕ) → explore-lts.Need-returns-3 (claims-explore t) (explore-at t) explore.Post
 explore-returns-3 t c =
-    let a = c .before .before .before .before .before .before .before .before .before .before .before .before .before in
-    let k = c .before .before .before .before .before .before .if2 .left in
-    explored-judged _ _ _ _ _ _ _ _ _ _ _ _ _ _ (c .before .before .before .before .before .before .before .if1 .left) (c .before .before .before .before .before .before .before .before .judge .ensures)
-    (explored-left _ _ _ _ _ _ _ _ _ _ _ _ _ (omega arith) (a .pre .1 .3) (a .pre .1 .4 .setFits)
-    (rw (c .before .before .before .is-out .ensures, c .before .before .is-barred .ensures) at (c .before .if3 .taken)) (c .before .before .before .before .leave .ensures .1) (c .explore .ensures))
+    let only = c .before in
+    let l = only .before .before .before in
+    let j = judged t l in
+    let s = start t j in
+    let k = l .before .before .if2 .left in
+    explored-judged _ _ _ _ _ _ _ _ _ _ _ _ _ _ _ (l .before .before .before .if1 .left) (j .judge .ensures)
+    (explored-left _ _ _ _ _ _ _ _ _ _ _ _ _ _ (omega arith) (s .pre .1 .5) (s .pre .1 .6 .setFits)
+    (rw (only .before .before .is-out .ensures, only .before .is-barred .ensures) at (only .if3 .taken)) (l .leave .ensures .1) (c .explore .ensures))
 
 explore-take-requires : (t : ℕ) → explore-lts.Need-take-requires (claims-explore t) (explore-at t) explore.Post
-explore-take-requires t c κs = search needs
+explore-take-requires t c κs =
+    let l = left t c in
+    let s = start t (judged t l) in
+    let k = l .before .before .if2 .left in
+    (s .pre .1 .0 .blocksFit, omega (arith, s .pre .1 .4, s .pre .1 .5), s .pre .1 .6)
 
 explore-explore-requires-2 : (t : ℕ) → explore-lts.Need-explore-requires-2 (claims-explore t) (explore-at t) explore.Post
 explore-explore-requires-2 t c κs =
-    let a = c .before .before .before .before .before .before .before .before .before .before .before .before .before in
-    let k = c .before .before .before .before .before .before .if2 .left in
-    let e : a .args .count - a .args .left + 1 ≡ a .args .count - (a .args .left - 1) = omega (arith, a .pre .1 .3) in
-    (omega (arith, a .pre .0), (a .pre .1 .0, a .pre .1 .1, a .pre .1 .2, omega (arith, a .pre .1 .3), rw e at (c .take .ensures .0)))
+    let l = left t (c .before) in
+    let s = start t (judged t l) in
+    let k = l .before .before .if2 .left in
+    let e : s .args .count - s .args .left + 1 ≡ s .args .count - (s .args .left - 1) = omega (arith, s .pre .1 .5) in
+    (omega (arith, s .pre .0), (s .pre .1 .0, s .pre .1 .1, s .pre .1 .2, s .pre .1 .3, s .pre .1 .4, omega (arith, s .pre .1 .5), rw e at (c .take .ensures .0)))
 
 explore-cast-is-due : (t : ℕ) → explore-lts.Need-cast-is-due (claims-explore t) (explore-at t) explore.Post
-explore-cast-is-due t c = omega (arith, c .before .before .before .before .before .before .before .before .before .before .before .before .before .before .pre .1 .2)
+explore-cast-is-due t c = omega (arith, start t (judged t (left t (c .before .before))) .pre .1 .4)
 
 explore-is-due-requires : (t : ℕ) → explore-lts.Need-is-due-requires (claims-explore t) (explore-at t) explore.Post
 explore-is-due-requires t c κs =
-    let a = c .before .before .before .before .before .before .before .before .before .before .before .before .before .before in
-    let k = c .before .before .before .before .before .before .before .if2 .left in
-    (a .pre .1 .0 .blocksFit, omega (arith, a .pre .1 .2, a .pre .1 .3))
+    let l = left t (c .before .before) in
+    let s = start t (judged t l) in
+    let k = l .before .before .if2 .left in
+    (s .pre .1 .0 .blocksFit, omega (arith, s .pre .1 .4, s .pre .1 .5))
 
 explore-returns-4 : (t : ℕ) → explore-lts.Need-returns-4 (claims-explore t) (explore-at t) explore.Post
 explore-returns-4 t c =
-    let a = c .before .before .before .before .before .before .before .before .before .before .before .before .before .before .before .before in
-    let k = c .before .before .before .before .before .before .before .before .before .if2 .left in
-    explored-judged _ _ _ _ _ _ _ _ _ _ _ _ _ _ (c .before .before .before .before .before .before .before .before .before .before .if1 .left) (c .before .before .before .before .before .before .before .before .before .before .before .judge .ensures)
-    (explored-taken _ _ _ _ _ _ _ _ _ _ _ _ _ (omega arith) (a .pre .1 .3) (a .pre .1 .4 .setFits)
-    (sym (c .before .is-due .ensures) ∙ c .if4 .taken) (c .before .before .before .take .ensures .1) (c .before .before .explore2 .ensures))
+    let both = c .before .before in
+    let l = left t (both .before .before) in
+    let j = judged t l in
+    let s = start t j in
+    let k = l .before .before .if2 .left in
+    explored-judged _ _ _ _ _ _ _ _ _ _ _ _ _ _ _ (l .before .before .before .if1 .left) (j .judge .ensures)
+    (explored-taken _ _ _ _ _ _ _ _ _ _ _ _ _ _ (omega arith) (s .pre .1 .5) (s .pre .1 .6 .setFits)
+    (sym (c .before .is-due .ensures) ∙ c .if4 .taken) (both .before .take .ensures .1) (both .explore2 .ensures))
 
 explore-explore-requires-3 : (t : ℕ) → explore-lts.Need-explore-requires-3 (claims-explore t) (explore-at t) explore.Post
 explore-explore-requires-3 t c κs =
-    let a = c .before .before .before .before .before .before .before .before .before .before .before .before .before .before .before .before in
-    let k = c .before .before .before .before .before .before .before .before .before .if2 .left in
-    let e : a .args .count - a .args .left + 1 ≡ a .args .count - (a .args .left - 1) = omega (arith, a .pre .1 .3) in
-    (omega (arith, a .pre .0), (a .pre .1 .0, a .pre .1 .1, a .pre .1 .2, omega (arith, a .pre .1 .3), rw e at (c .before .before .before .before .before .before .before .leave .ensures .0)))
+    let l = left t (c .before .before .before .before) in
+    let s = start t (judged t l) in
+    let k = l .before .before .if2 .left in
+    let e : s .args .count - s .args .left + 1 ≡ s .args .count - (s .args .left - 1) = omega (arith, s .pre .1 .5) in
+    (omega (arith, s .pre .0), (s .pre .1 .0, s .pre .1 .1, s .pre .1 .2, s .pre .1 .3, s .pre .1 .4, omega (arith, s .pre .1 .5), rw e at (l .leave .ensures .0)))
 
 explore-returns-5 : (t : ℕ) → explore-lts.Need-returns-5 (claims-explore t) (explore-at t) explore.Post
 explore-returns-5 t c =
-    let a = c .before .before .before .before .before .before .before .before .before .before .before .before .before .before .before .before .before in
-    let k = c .before .before .before .before .before .before .before .before .before .before .if2 .left in
-    explored-judged _ _ _ _ _ _ _ _ _ _ _ _ _ _ (c .before .before .before .before .before .before .before .before .before .before .before .if1 .left) (c .before .before .before .before .before .before .before .before .before .before .before .before .judge .ensures)
-    (explored-both _ _ _ _ _ _ _ _ _ _ _ _ _ _ _ (omega arith) (a .pre .1 .3) (a .pre .1 .4 .setFits)
-    (c .before .before .before .before .take .ensures .1) (c .before .before .before .before .before .before .before .before .leave .ensures .1) (c .before .before .before .explore2 .ensures) (c .explore3 .ensures))
+    let both = c .before .before .before in
+    let l = left t (both .before .before) in
+    let j = judged t l in
+    let s = start t j in
+    let k = l .before .before .if2 .left in
+    explored-judged _ _ _ _ _ _ _ _ _ _ _ _ _ _ _ (l .before .before .before .if1 .left) (j .judge .ensures)
+    (explored-both _ _ _ _ _ _ _ _ _ _ _ _ _ _ _ _ (omega arith) (s .pre .1 .5) (s .pre .1 .6 .setFits)
+    (both .before .take .ensures .1) (l .leave .ensures .1) (both .explore2 .ensures) (c .explore3 .ensures))
 
 pub +explore-spec : {M : Type 1} → statement M
 +explore-spec = close μ-explore λ t. explore-lts.spec (claims-explore t)

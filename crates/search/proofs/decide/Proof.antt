@@ -10,6 +10,20 @@ use borrow.Author.Needs.{needs}
 use Rattle.search.proofs.decide.Statement.{statement}
 use Rattle.search.proofs.decide.Tie as tie
 
+-- THE STATES on the way: the start behind the gaps, the gaps behind an hour's clearing, that behind a lower loss, that behind the prices, the prices
+-- behind the limits
+abbrev start : tie.After-gaps-at-arg2 → tie.Start
+start c = c .before .before .before .before .before .before .before .before .before .before .before
+
+abbrev gaps : tie.Else1 → tie.After-gaps-at
+gaps c = c .before .before
+
+abbrev clear : tie.Else2 → tie.Else1
+clear c = c .before .before .before .before
+
+abbrev priced : tie.After-keeps-limits → tie.After-prices-at
+priced c = c .before .before .before
+
 -- an array of 24
 size : (s : tie.Start) → length (s .args .node .places) ≡ 24
 size s = search needs
@@ -33,28 +47,27 @@ part-gaps-at-end-2 : tie.Need-part-gaps-at-end-2
 part-gaps-at-end-2 c = search needs
 
 gaps-at-requires : tie.Need-gaps-at-requires
-gaps-at-requires c κs =
-    let s = c .before .before .before .before .before .before .before .pre .0 in
-    (s .gapRows, s .firstHours, s .lastHours, s .lastFits)
+gaps-at-requires c κs = let s = start c .pre .0 in (s .gapRows, s .firstHours, s .lastHours, s .lastFits)
 
 returns : tie.Need-returns
-returns c = decided-unclear _ _ _ _ _ _ _ _ _ _ _ _ (c .before .before .gaps-at .ensures) (not-true _ (c .if1 .taken))
+returns c = decided-unclear _ _ _ _ _ _ _ _ _ _ _ _ _ (c .before .before .gaps-at .ensures) (not-true _ (c .if1 .taken))
 
 add-total : tie.Need-add-total
-add-total c = omega (arith, c .before .before .before .before .gaps-at .ensures .fits, c .before .before .before .before .before .before .before .before .before .before .before .before .pre .3)
+add-total c = let g = gaps (c .before .before) in omega (arith, g .gaps-at .ensures .fits, start (g .before) .pre .5)
 
 returns-2 : tie.Need-returns-2
 returns-2 c =
-    decided-worse _ _ _ _ _ _ _ _ _ _ _ _ (c .before .before .before .before .before .before .gaps-at .ensures) (not-false _ (c .before .before .before .before .if1 .left)) (c .if2 .taken)
+    let clears = c .before .before .before .before in
+    decided-worse _ _ _ _ _ _ _ _ _ _ _ _ _ (gaps clears .gaps-at .ensures) (not-false _ (clears .if1 .left)) (c .if2 .taken)
 
 prices-at-requires : tie.Need-prices-at-requires
 prices-at-requires c κs =
-    let a = c .before .before .before .before .before .before .before .before .before .before .before .before .before .before in
-    let g = c .before .before .before .before .before .before .gaps-at .ensures in (
-      a .pre .0 .lowRows,
-      a .pre .0 .lowFits,
-      places-small (firstOf (a .args .hours .now)) (lastOf (a .args .hours .now)) (a .args .node .places)
-          (g .inRange (not-false _ (c .before .before .before .before .if1 .left))) (a .pre .0 .lastFits) (size a),
+    let g = gaps (clear c) in
+    let s = start (g .before) in (
+      s .pre .0 .lowRows,
+      s .pre .0 .lowFits,
+      places-small (firstOf (s .args .hours .now)) (lastOf (s .args .hours .now)) (s .args .node .places)
+          (g .gaps-at .ensures .inRange (not-false _ (clear c .if1 .left))) (s .pre .0 .lastFits) (size s),
     )
 
 slice-aggregate-keeps-limits : tie.Need-slice-aggregate-keeps-limits
@@ -65,19 +78,35 @@ slice-aggregate-keeps-limits-2 c = search needs
 
 keeps-limits-requires : tie.Need-keeps-limits-requires
 keeps-limits-requires c κs =
-    let a = c .before .before .before .before .before .before .before .before .before .before .before .before .before .before .before .before .before in
-    (a .pre .0 .blocksFit .columns, a .pre .2, search needs, search needs)
+    let s = start (gaps (clear (c .before .before .before)) .before) in
+    (s .pre .0 .blocksFit .columns, s .pre .4, search needs, search needs)
 
 returns-3 : tie.Need-returns-3
 returns-3 c =
-    decided-broken _ _ _ _ _ _ _ _ _ _ _ _ (c .before .before .before .before .before .before .before .before .before .before .before .gaps-at .ensures) (not-false _ (c .before .before .before .before .before .before .before .before .before .if1 .left)) _
-    (c .before .before .before .before .prices-at .ensures) (sym (c .before .keeps-limits .ensures) ∙ not-true _ (c .if3 .taken))
+    let p = priced (c .before) in
+    let clears = clear (p .before) in
+    decided-broken _ _ _ _ _ _ _ _ _ _ _ _ _ (gaps clears .gaps-at .ensures) (not-false _ (clears .if1 .left)) _ (p .prices-at .ensures)
+    (sym (c .before .keeps-limits .ensures) ∙ not-true _ (c .if3 .taken))
+
+set-trades-requires : tie.Need-set-trades-requires
+set-trades-requires c κs =
+    let s = start (gaps (clear (priced (c .before) .before)) .before) in
+    (s .pre .0 .blocksFit, s .pre .4)
+
+traded-in-requires : tie.Need-traded-in-requires
+traded-in-requires c κs =
+    let s = start (gaps (clear (priced (c .before .before) .before)) .before) in
+    (s .pre .2, s .pre .3, c .set-trades .ensures .purchasesFit)
 
 returns-4 : tie.Need-returns-4
 returns-4 c =
-    decided-better _ _ _ _ _ _ _ _ _ _ _ _ (c .before .before .before .before .before .before .before .before .before .before .before .gaps-at .ensures) (not-false _ (c .before .before .before .before .before .before .before .before .before .if1 .left)) _
-    (c .before .before .before .before .prices-at .ensures) (sym (c .before .keeps-limits .ensures) ∙ not-false _ (c .if3 .left))
-    (c .before .before .before .before .before .if2 .left)
+    let kept = c .before .before in
+    let p = priced (kept .before) in
+    let less = p .before in
+    let clears = clear less in
+    decided-better _ _ _ _ _ _ _ _ _ _ _ _ _ (gaps clears .gaps-at .ensures) (not-false _ (clears .if1 .left)) _ (p .prices-at .ensures)
+    (sym (kept .before .keeps-limits .ensures) ∙ not-false _ (kept .if3 .left)) (less .if2 .left) _ _ _ (c .before .set-trades .ensures)
+    (c .traded-in .ensures)
 
 pub decide-spec : {M : Type 1} → statement M
 decide-spec =
@@ -98,4 +127,6 @@ decide-spec =
     slice-aggregate-keeps-limits-2
     keeps-limits-requires
     returns-3
+    set-trades-requires
+    traded-in-requires
     returns-4)

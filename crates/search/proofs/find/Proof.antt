@@ -1,5 +1,6 @@
 -- `search::find` meets its contract: a pass that finds a set has found the published one, and the last pass finds. Assumes nothing.
-use Prim.Native.Nat.{_-_, _≤_}
+use Prim.Native.Nat.{ℕ, _-_, _^_, _≤_, _<_}
+use lib.ListN.{getD}
 use native.Mathlib.Omega.{arith}
 use Rattle.search.proofs.PassLaws.{root-fits, pass-is, pass-found}
 use borrow.Author.Needs.{needs}
@@ -7,25 +8,36 @@ use Rattle.search.proofs.find.Statement.{statement}
 use Rattle.search.proofs.find.Tie as tie
 
 abbrev Inv-loop : tie.InvT-loop
-Inv-loop low gap hours blocks count day root limit₀ limit = (1 ≤ limit) × (limit ≤ 1099511627776)
+Inv-loop low gap hours blocks sides prices quantities ends count day root limit₀ limit = (1 ≤ limit) × (limit ≤ 1099511627776)
 
 abbrev μ-loop : tie.MeasureT-loop
-μ-loop low gap hours blocks count day root limit₀ limit = 1099511627776 - limit
+μ-loop low gap hours blocks sides prices quantities ends count day root limit₀ limit = 1099511627776 - limit
+
+-- the start behind the loop
+abbrev start : tie.At-loop Inv-loop μ-loop → tie.Start Inv-loop μ-loop
+start c = c .before .before .before .before .before .before .before .before .before
+
+-- the elements of the blocks' list and of the gaps are numbers of 32 bits
+blocks-fit : (c : tie.At-loop Inv-loop μ-loop) (i : ℕ) → getD (start c .args .blocks .now) i 0 < 2 ^ 32
+blocks-fit c i = omega (arith, c .before .before .before .before .before .shared-slice-known4 .given i)
+
+gaps-fit : (c : tie.At-loop Inv-loop μ-loop) (i : ℕ) → getD (start c .args .gap .now) i 0 < 2 ^ 32
+gaps-fit c i = omega (arith, c .before .before .before .before .before .before .before .shared-slice-known2 .given i)
 
 loop-holds : tie.Need-loop-holds Inv-loop μ-loop
 loop-holds c = (omega arith, omega arith)
 
 explore-requires : tie.Need-explore-requires Inv-loop μ-loop
 explore-requires c κs =
-    let a = c .before .before .before .before .before .before in
-    (a .pre .0, a .pre .1, omega (arith, a .pre .2), omega arith, root-fits _)
+    let p = start (c .before) .pre in
+    (p .0, p .1, p .2, p .3, omega (arith, p .4), omega arith, root-fits _)
 
 returns : tie.Need-returns Inv-loop μ-loop
 returns c =
-    let a = c .before .before .before .before .before .before .before .before .before in
-    λ day p rest known turning.
-    pass-is _ _ _ _ _ _ (a .pre .2) (λ i. omega (arith, c .before .before .before .before .before .shared-slice-known4 .given i))
-    (λ i. omega (arith, c .before .before .before .before .before .before .before .shared-slice-known2 .given i)) day p rest known _ turning _ _ (c .before .before .explore .ensures) (c .if1 .taken)
+    let found = c .before .before in
+    let l = found .before .before in
+    λ day p rest same known turning.
+    pass-is _ _ _ _ _ _ (start l .pre .4) (blocks-fit l) (gaps-fit l) day p rest known _ _ turning same _ _ (found .explore .ensures) (c .if1 .taken)
 
 mul-limit : tie.Need-mul-limit Inv-loop μ-loop
 mul-limit c = search needs
@@ -38,17 +50,15 @@ loop-again c = (omega (arith, c .before .before .before .before .loop .inv), ome
 
 explore-requires-2 : tie.Need-explore-requires-2 Inv-loop μ-loop
 explore-requires-2 c κs =
-    let a = c .before .before .before .before .before .before in
-    (a .pre .0, a .pre .1, omega (arith, a .pre .2), omega arith, root-fits _)
+    let p = start (c .before) .pre in
+    (p .0, p .1, p .2, p .3, omega (arith, p .4), omega arith, root-fits _)
 
 returns-2 : tie.Need-returns-2 Inv-loop μ-loop
 returns-2 c =
-    let a = c .before .before .before .before .before .before .before in
-    λ day p rest known turning.
-    pass-is _ _ _ _ _ _ (a .pre .2) (λ i. omega (arith, c .before .before .before .shared-slice-known4 .given i))
-    (λ i. omega (arith, c .before .before .before .before .before .shared-slice-known2 .given i)) day p rest known _ turning _ _ (c .explore2 .ensures)
-    (pass-found _ _ _ _ _ _ (a .pre .2) (λ i. omega (arith, c .before .before .before .shared-slice-known4 .given i))
-    (λ i. omega (arith, c .before .before .before .before .before .shared-slice-known2 .given i)) day p rest known _ turning _ _ (c .explore2 .ensures) (c .before .loop-test .left))
+    let l = c .before .before in
+    λ day p rest same known turning.
+    pass-is _ _ _ _ _ _ (start l .pre .4) (blocks-fit l) (gaps-fit l) day p rest known _ _ turning same _ _ (c .explore2 .ensures)
+    (pass-found _ _ _ _ _ _ (start l .pre .4) (blocks-fit l) (gaps-fit l) day p rest known _ _ turning same _ _ (c .explore2 .ensures) (c .before .loop-test .left))
 
 pub find-spec : {M : Type 1} → statement M
 find-spec =
