@@ -1,6 +1,6 @@
 -- PRICES THAT COMPUTE. The rules' pricing walks 300000 prices, which the checker never does: a guess is tested by M4's certificate, and the rule
 -- itself stands where the test fails. So the guess needs no proof, and the rest computes. Assumes nothing.
-use Prim.Native.Nat.{ℕ, _+_, _-_, _≤_}
+use Prim.Native.Nat.{ℕ, _+_, _-_}
 use mathlib.Core.Bool.{Bool, true, false, cond, _&&_, _||_, not, false≢true}
 use mathlib.Core.Path.{_≡_, refl, ap, fun-ext}
 use mathlib.Core.List.{List, [], _∷_}
@@ -51,7 +51,7 @@ use Rattle.rules.specs.Day.{
   inStepOrder,
 }
 use Rattle.rules.specs.Contender.{Counts, PricesInRange}
-use Rattle.rules.proofs.Tests.{by-test}
+use Rattle.rules.proofs.Tests.{by-test, both}
 use Rattle.rules.proofs.PricingLaws.{Clearable, pricing-certified, not-clearing}
 
 -- THE GUESS: L is 1 or the price of a step, the least that meets the demand; H is 300000 or the price of a step, the greatest that meets the supply
@@ -166,6 +166,8 @@ unfolding tested testedClears testedPrices low high leastOf greatestOf inRange c
 computed = tt
 
 -- THE LAW OF `weight`, today: every hour of 1 to 24 counts
-pub counts : (hours h : ℕ) → 1 ≤ h → h ≤ 24 → Counts hours h
+pub hour-counts : {hours : ℕ} (h : ℕ) → (leb 1 h && leb h 24) ≡ true → Counts hours h
 unfolding weight
-counts hours h f l = record { first = f; last = l; counted = omega arith }
+hour-counts h e =
+    let t = both (leb 1 h) (leb h 24) e in
+    record { first = leb-true 1 h (t .0); last = leb-true h 24 (t .1); counted = omega arith }

@@ -1,30 +1,28 @@
 -- THE OUTCOME RULES BY EXAMPLE, from their statement alone: one outcome, with a sell block and a buy block taken, keeps them all; for each rule there is
 -- an outcome that breaks it, and no other rule where that is possible. Assumes nothing.
 -- (Laws of the same definitions import it, so that a wrong one is met here first.)
-use Prim.Native.Nat.{ℕ, zero, suc, _+_, _≤_, _<_}
-use mathlib.Core.Bool.{Bool, true, false, false≢true}
+use Prim.Native.Nat.{ℕ, _≤_}
+use mathlib.Core.Bool.{true, false≢true}
 use mathlib.Core.Path.{_≡_, refl, ap}
-use mathlib.Core.List.{List, [], _∷_}
+use mathlib.Core.List.{[], _∷_}
 use mathlib.Core.Option.{Option, none, some}
 use native.Mathlib.Omega.{arith}
 use lib.Dec.{leb}
 use borrow.Author.Tests.{lt-ltb}
-use Rattle.rules.specs.Orders.{Side, buy, sell, maxPrice, canonical}
-use Rattle.rules.specs.Hour.{Hour, clears, least, greatest, between, doesNotClear, pricing, isCleared, priceIn}
+use Rattle.rules.specs.Orders.{buy, sell, maxPrice, canonical}
+use Rattle.rules.specs.Hour.{Hour, clears, least, doesNotClear, pricing, isCleared, priceIn}
 use Rattle.rules.specs.Day.{dayOf, everyHour, taken, hourOf}
 use Rattle.rules.specs.Contender.{Counts}
-use Rattle.rules.specs.OutcomeRules.{OutcomeRules}
 use Rattle.rules.specs.Cases.{
   Case,
   Obeys,
-  States,
   Breaks,
   rules,
-  kept,
   broken,
   keeping,
   Marked,
   right,
+  offMiddleBetween,
   offMiddle,
   worseSellServed,
   worseBuyServed,
@@ -35,6 +33,8 @@ use Rattle.rules.specs.Cases.{
   sellBlockOutside,
   buyBlockOutside,
   unbalanced,
+  blockUnmet,
+  oneTooMany,
   buyBlockForgotten,
   nobodySells,
   soldAtNothing,
@@ -42,15 +42,16 @@ use Rattle.rules.specs.Cases.{
 use Rattle.rules.proofs.CurveLaws.{when-zero}
 use Rattle.rules.proofs.PricingLaws.{Clears, clears-means, LeastOf, least-is}
 use Rattle.rules.proofs.HourSums.{everyHour-at, HourByHour, each-hour}
-use Rattle.rules.proofs.CertifiedHours.{computed, tested, tested-is, counts}
-
-hour : (h : ℕ) → 1 ≤ h → h ≤ 24 → Counts 24 h
-hour h = counts 24 h
+use Rattle.rules.proofs.CertifiedHours.{computed, tested, tested-is, hour-counts}
 
 -- EACH RULE BROKEN
+pub off-middle-between : Breaks offMiddleBetween (λ o. o .middlePrice)
+unfolding computed
+off-middle-between middle = omega (arith, rw tested-is at (middle 23 (hour-counts 23 refl)))
+
 pub off-middle : Breaks offMiddle (λ o. o .middlePrice)
 unfolding computed
-off-middle middle = omega (arith, rw tested-is at (middle 1 (hour 1 (omega arith) (omega arith))))
+off-middle middle = omega (arith, rw tested-is at (middle 1 (hour-counts 1 refl)))
 
 pub worse-sell-served : Breaks worseSellServed (λ o. o .sellsAbove)
 unfolding computed
@@ -86,15 +87,23 @@ buy-block-outside limit = omega (arith, limit .1 .0 refl)
 
 pub hour-unbalanced : Breaks unbalanced (λ o. o .balanced)
 unfolding computed
-hour-unbalanced balance = omega (arith, balance 24 (hour 24 (omega arith) (omega arith)))
+hour-unbalanced balance = omega (arith, balance 24 (hour-counts 24 refl))
+
+pub block-unmet : Breaks blockUnmet (λ o. o .balanced)
+unfolding computed
+block-unmet balance = omega (arith, balance 1 (hour-counts 1 refl))
+
+pub one-too-many : Breaks oneTooMany (λ o. o .tradedBuys)
+unfolding computed
+one-too-many buys = omega (arith, buys 24 (hour-counts 24 refl))
 
 pub buy-block-forgotten : Breaks buyBlockForgotten (λ o. o .tradedBuys)
 unfolding computed
-buy-block-forgotten buys = omega (arith, buys 1 (hour 1 (omega arith) (omega arith)))
+buy-block-forgotten buys = omega (arith, buys 1 (hour-counts 1 refl))
 
 pub nobody-sells : Breaks nobodySells (λ o. o .clearsAll)
 unfolding computed
-nobody-sells all = false≢true (rw tested-is at (all 1 (hour 1 (omega arith) (omega arith))))
+nobody-sells all = false≢true (rw tested-is at (all 1 (hour-counts 1 refl)))
 
 -- an hour with a sell at 0 alone: at every price that sell is below it, and nobody buys
 nothingHour : Hour
@@ -114,9 +123,9 @@ no-price = rw (no-least (least (clears nothingHour) maxPrice) (least-is (clears 
 
 pub sold-at-nothing : Breaks soldAtNothing (λ o. o .clearsAll)
 unfolding dayOf canonical nothingHour
-sold-at-nothing all = false≢true (rw no-price at (all 24 (hour 24 (omega arith) (omega arith))))
+sold-at-nothing all = false≢true (rw no-price at (all 24 (hour-counts 24 refl)))
 
--- THE OTHER RULES HOLD
+-- ALL RULES KEPT
 -- the hours of a case clear, and their prices are the middle, where the tested ones do and are
 abbrev hourIn : Case → ℕ → Hour
 hourIn c h = hourOf (c .day) (taken (c .day .blocks) (c .set)) h
@@ -156,98 +165,135 @@ right-obeys = record {
   tradedBuys = each-hour _ (omega arith);
 }
 
--- the twelve rules of an outcome in a row
+-- RULE BY RULE: each wrong outcome breaks its rule and keeps the others, where that is possible
 row : {A B C D E F G H I J K L : Type 0} → A → B → C → D → E → F → G → H → I → J → K → L →
     A × (B × (C × (D × (E × (F × (G × (H × (I × (J × (K × (L × Unit {0})))))))))))
 row a b c d e f g h i j k l = (a, (b, (c, (d, (e, (f, (g, (h, (i, (j, (k, (l, tt))))))))))))
 
-pub off-middle-alone : Marked (keeping 1 (broken ∷ keeping 10 [])) (rules offMiddle)
+pub off-middle-between-row : Marked (keeping 1 (broken ∷ keeping 10 [])) (rules offMiddleBetween)
 unfolding computed
-off-middle-alone =
-    row (all-clear offMiddle refl) off-middle (omega sides) (omega sides) (omega sides) (omega sides) (omega arith) (omega sides) (omega sides) (omega arith)
+off-middle-between-row =
+    row (all-clear offMiddleBetween refl) off-middle-between
+    (omega sides) (omega sides) (omega sides) (omega sides) (omega sides) (omega sides) (omega sides) (omega sides)
     (each-hour _ (omega arith)) (each-hour _ (omega arith))
 
-pub worse-sell-served-alone : Marked (keeping 2 (broken ∷ keeping 9 [])) (rules worseSellServed)
+pub off-middle-row : Marked (keeping 1 (broken ∷ keeping 10 [])) (rules offMiddle)
 unfolding computed
-worse-sell-served-alone =
-    row (all-clear worseSellServed refl) (all-middle worseSellServed (omega arith)) worse-sell-served (omega sides) (omega sides) (omega sides) (omega arith) (omega sides) (omega sides) (omega arith)
+off-middle-row =
+    row (all-clear offMiddle refl) off-middle
+    (omega sides) (omega sides) (omega sides) (omega sides) (omega sides) (omega sides) (omega sides) (omega sides)
     (each-hour _ (omega arith)) (each-hour _ (omega arith))
 
-pub worse-buy-served-alone : Marked (keeping 3 (broken ∷ keeping 8 [])) (rules worseBuyServed)
+pub worse-sell-served-row : Marked (keeping 2 (broken ∷ keeping 9 [])) (rules worseSellServed)
 unfolding computed
-worse-buy-served-alone =
-    row (all-clear worseBuyServed refl) (all-middle worseBuyServed (omega arith)) (omega sides) worse-buy-served (omega sides) (omega sides) (omega arith) (omega sides) (omega sides) (omega arith)
+worse-sell-served-row =
+    row (all-clear worseSellServed refl) (all-middle worseSellServed (omega arith))
+    worse-sell-served (omega sides) (omega sides) (omega sides) (omega sides) (omega sides) (omega sides) (omega sides)
     (each-hour _ (omega arith)) (each-hour _ (omega arith))
 
-pub better-sell-cut-alone : Marked (keeping 4 (broken ∷ keeping 7 [])) (rules betterSellCut)
+pub worse-buy-served-row : Marked (keeping 3 (broken ∷ keeping 8 [])) (rules worseBuyServed)
 unfolding computed
-better-sell-cut-alone =
-    row (all-clear betterSellCut refl) (all-middle betterSellCut (omega arith)) (omega sides) (omega sides) better-sell-cut (omega sides) (omega arith) (omega sides) (omega sides) (omega arith)
+worse-buy-served-row =
+    row (all-clear worseBuyServed refl) (all-middle worseBuyServed (omega arith))
+    (omega sides) worse-buy-served (omega sides) (omega sides) (omega sides) (omega sides) (omega sides) (omega sides)
     (each-hour _ (omega arith)) (each-hour _ (omega arith))
 
-pub better-buy-cut-alone : Marked (keeping 5 (broken ∷ keeping 6 [])) (rules betterBuyCut)
+pub better-sell-cut-row : Marked (keeping 4 (broken ∷ keeping 7 [])) (rules betterSellCut)
 unfolding computed
-better-buy-cut-alone =
-    row (all-clear betterBuyCut refl) (all-middle betterBuyCut (omega arith)) (omega sides) (omega sides) (omega sides) better-buy-cut (omega arith) (omega sides) (omega sides) (omega arith)
+better-sell-cut-row =
+    row (all-clear betterSellCut refl) (all-middle betterSellCut (omega arith))
+    (omega sides) (omega sides) better-sell-cut (omega sides) (omega sides) (omega sides) (omega sides) (omega sides)
     (each-hour _ (omega arith)) (each-hour _ (omega arith))
 
-pub sell-block-outside-alone : Marked (keeping 7 (broken ∷ keeping 4 [])) (rules sellBlockOutside)
+pub better-buy-cut-row : Marked (keeping 5 (broken ∷ keeping 6 [])) (rules betterBuyCut)
 unfolding computed
-sell-block-outside-alone =
-    row (all-clear sellBlockOutside refl) (all-middle sellBlockOutside (omega arith)) (omega sides) (omega sides) (omega sides) (omega sides) (omega arith) sell-block-outside (omega sides) (omega arith)
+better-buy-cut-row =
+    row (all-clear betterBuyCut refl) (all-middle betterBuyCut (omega arith))
+    (omega sides) (omega sides) (omega sides) better-buy-cut (omega sides) (omega sides) (omega sides) (omega sides)
     (each-hour _ (omega arith)) (each-hour _ (omega arith))
 
-pub buy-block-outside-alone : Marked (keeping 8 (broken ∷ keeping 3 [])) (rules buyBlockOutside)
+pub sell-block-outside-row : Marked (keeping 7 (broken ∷ keeping 4 [])) (rules sellBlockOutside)
 unfolding computed
-buy-block-outside-alone =
-    row (all-clear buyBlockOutside refl) (all-middle buyBlockOutside (omega arith)) (omega sides) (omega sides) (omega sides) (omega sides) (omega arith) (omega sides) buy-block-outside (omega arith)
+sell-block-outside-row =
+    row (all-clear sellBlockOutside refl) (all-middle sellBlockOutside (omega arith))
+    (omega sides) (omega sides) (omega sides) (omega sides) (omega sides) sell-block-outside (omega sides) (omega sides)
     (each-hour _ (omega arith)) (each-hour _ (omega arith))
 
-pub hour-unbalanced-alone : Marked (keeping 10 (broken ∷ keeping 1 [])) (rules unbalanced)
+pub buy-block-outside-row : Marked (keeping 8 (broken ∷ keeping 3 [])) (rules buyBlockOutside)
 unfolding computed
-hour-unbalanced-alone =
-    row (all-clear unbalanced refl) (all-middle unbalanced (omega arith)) (omega sides) (omega sides) (omega sides) (omega sides) (omega arith) (omega sides) (omega sides) (omega arith)
+buy-block-outside-row =
+    row (all-clear buyBlockOutside refl) (all-middle buyBlockOutside (omega arith))
+    (omega sides) (omega sides) (omega sides) (omega sides) (omega sides) (omega sides) buy-block-outside (omega sides)
+    (each-hour _ (omega arith)) (each-hour _ (omega arith))
+
+pub hour-unbalanced-row : Marked (keeping 10 (broken ∷ keeping 1 [])) (rules unbalanced)
+unfolding computed
+hour-unbalanced-row =
+    row (all-clear unbalanced refl) (all-middle unbalanced (omega arith))
+    (omega sides) (omega sides) (omega sides) (omega sides) (omega sides) (omega sides) (omega sides) (omega sides)
     hour-unbalanced (each-hour _ (omega arith))
 
-pub buy-block-forgotten-alone : Marked (keeping 11 (broken ∷ [])) (rules buyBlockForgotten)
+pub block-unmet-row : Marked (keeping 10 (broken ∷ keeping 1 [])) (rules blockUnmet)
 unfolding computed
-buy-block-forgotten-alone =
-    row (all-clear buyBlockForgotten refl) (all-middle buyBlockForgotten (omega arith)) (omega sides) (omega sides) (omega sides) (omega sides) (omega arith) (omega sides) (omega sides) (omega arith)
+block-unmet-row =
+    row (all-clear blockUnmet refl) (all-middle blockUnmet (omega arith))
+    (omega sides) (omega sides) (omega sides) (omega sides) (omega sides) (omega sides) (omega sides) (omega sides)
+    block-unmet (each-hour _ (omega arith))
+
+pub one-too-many-row : Marked (keeping 11 (broken ∷ [])) (rules oneTooMany)
+unfolding computed
+one-too-many-row =
+    row (all-clear oneTooMany refl) (all-middle oneTooMany (omega arith))
+    (omega sides) (omega sides) (omega sides) (omega sides) (omega sides) (omega sides) (omega sides) (omega sides)
+    (each-hour _ (omega arith)) one-too-many
+
+pub buy-block-forgotten-row : Marked (keeping 11 (broken ∷ [])) (rules buyBlockForgotten)
+unfolding computed
+buy-block-forgotten-row =
+    row (all-clear buyBlockForgotten refl) (all-middle buyBlockForgotten (omega arith))
+    (omega sides) (omega sides) (omega sides) (omega sides) (omega sides) (omega sides) (omega sides) (omega sides)
     (each-hour _ (omega arith)) buy-block-forgotten
 
--- at the price, more than its own breaks two rules: "no step .. for more than its own quantity" says it of every step
-pub more-at-price-alone : Marked (keeping 6 (broken ∷ keeping 2 (broken ∷ keeping 2 []))) (rules moreAtPrice)
+-- `atPrice` says of the steps at the price what `notMore` says of all: it is not broken alone
+pub more-at-price-row : Marked (keeping 6 (broken ∷ keeping 2 (broken ∷ keeping 2 []))) (rules moreAtPrice)
 unfolding computed
-more-at-price-alone =
-    row (all-clear moreAtPrice refl) (all-middle moreAtPrice (omega arith)) (omega sides) (omega sides) (omega sides) (omega sides) more-at-price (omega sides) (omega sides) (λ most. omega (arith, most .0))
+more-at-price-row =
+    row (all-clear moreAtPrice refl) (all-middle moreAtPrice (omega arith))
+    (omega sides) (omega sides) (omega sides) (omega sides) more-at-price (omega sides) (omega sides) (λ most. omega (arith, most .0))
     (each-hour _ (omega arith)) (each-hour _ (omega arith))
 
--- elsewhere it also breaks "in full" or "not": no outcome breaks that rule alone
-pub more-than-own-alone : Marked (keeping 5 (broken ∷ keeping 3 (broken ∷ keeping 2 []))) (rules moreThanOwn)
+-- nor is `notMore`: of a step that is not at the price, "in full" or "not executed" is broken too
+pub more-than-own-row : Marked (keeping 5 (broken ∷ keeping 3 (broken ∷ keeping 2 []))) (rules moreThanOwn)
 unfolding computed
-more-than-own-alone =
-    row (all-clear moreThanOwn refl) (all-middle moreThanOwn (omega arith)) (omega sides) (omega sides) (omega sides) (λ full. omega (arith, full .1 .1 .1 .0 refl (omega arith))) (omega arith) (omega sides) (omega sides) more-than-own
+more-than-own-row =
+    row (all-clear moreThanOwn refl) (all-middle moreThanOwn (omega arith))
+    (omega sides) (omega sides) (omega sides) (λ full. omega (arith, full .1 .1 .1 .0 refl (omega arith)))
+    (omega sides) (omega sides) (omega sides) more-than-own
     (each-hour _ (omega arith)) (each-hour _ (omega arith))
 
--- with prices in range, an hour that does not clear cannot balance either
-pub nobody-sells-alone : Marked (broken ∷ keeping 9 (broken ∷ keeping 1 [])) (rules nobodySells)
+-- where step prices are in range, an hour that does not clear is not in balance either
+pub nobody-sells-row : Marked (broken ∷ keeping 9 (broken ∷ keeping 1 [])) (rules nobodySells)
 unfolding computed
-nobody-sells-alone =
-    row nobody-sells (all-middle nobodySells (omega arith)) (omega sides) (omega sides) (omega sides) (omega sides) (omega arith) (omega sides) (omega sides) (omega arith)
-    (λ balance. omega (arith, balance 1 (hour 1 (omega arith) (omega arith)))) (each-hour _ (omega arith))
+nobody-sells-row =
+    row nobody-sells (all-middle nobodySells (omega arith))
+    (omega sides) (omega sides) (omega sides) (omega sides) (omega sides) (omega sides) (omega sides) (omega sides)
+    (λ balance. omega (arith, balance 1 (hour-counts 1 refl))) (each-hour _ (omega arith))
 
--- with a step at 0 it can
-pub sold-at-nothing-alone : Marked (broken ∷ keeping 11 []) (rules soldAtNothing)
+-- with a step out of range it can be
+pub sold-at-nothing-row : Marked (broken ∷ keeping 11 []) (rules soldAtNothing)
 unfolding computed nothingHour
-sold-at-nothing-alone =
-    row sold-at-nothing (all-middle soldAtNothing (omega (arith, ap priceIn no-price))) (omega sides) (omega sides) (omega sides) (omega sides) (omega arith) (omega sides) (omega sides) (omega arith)
+sold-at-nothing-row =
+    row sold-at-nothing (all-middle soldAtNothing (omega (arith, ap priceIn no-price)))
+    (omega sides) (omega sides) (omega sides) (omega sides) (omega sides) (omega sides) (omega sides) (omega sides)
     (each-hour _ (omega arith)) (each-hour _ (omega arith))
 
 -- NONE OF THEM OBEYS
-pub wrong-outcomes-refused : (¬ Obeys offMiddle) × (¬ Obeys worseSellServed) × (¬ Obeys worseBuyServed) × (¬ Obeys betterSellCut)
+pub wrong-outcomes-refused : (¬ Obeys offMiddleBetween) × (¬ Obeys offMiddle) × (¬ Obeys worseSellServed) × (¬ Obeys worseBuyServed) × (¬ Obeys betterSellCut)
     × (¬ Obeys betterBuyCut) × (¬ Obeys moreAtPrice) × (¬ Obeys moreThanOwn) × (¬ Obeys sellBlockOutside) × (¬ Obeys buyBlockOutside)
-    × (¬ Obeys unbalanced) × (¬ Obeys buyBlockForgotten) × (¬ Obeys nobodySells) × (¬ Obeys soldAtNothing)
+    × (¬ Obeys unbalanced) × (¬ Obeys blockUnmet) × (¬ Obeys oneTooMany) × (¬ Obeys buyBlockForgotten) × (¬ Obeys nobodySells)
+    × (¬ Obeys soldAtNothing)
 wrong-outcomes-refused = (
+  λ o. off-middle-between (o .middlePrice),
   λ o. off-middle (o .middlePrice),
   λ o. worse-sell-served (o .sellsAbove),
   λ o. worse-buy-served (o .buysBelow),
@@ -258,6 +304,8 @@ wrong-outcomes-refused = (
   λ o. sell-block-outside (o .blockSells),
   λ o. buy-block-outside (o .blockBuys),
   λ o. hour-unbalanced (o .balanced),
+  λ o. block-unmet (o .balanced),
+  λ o. one-too-many (o .tradedBuys),
   λ o. buy-block-forgotten (o .tradedBuys),
   λ o. nobody-sells (o .clearsAll),
   λ o. sold-at-nothing (o .clearsAll),

@@ -1,10 +1,11 @@
 -- CASES for the statements of demands 2 and 3: small days with outcomes that the statements must admit, and outcomes that a part of them must refuse.
--- `proofs/NotBest.antt`, `proofs/ContenderCases.antt` and `proofs/OutcomeRulesCases.antt` prove it of them. Definitions only. Assumes nothing.
+-- `proofs/NotBest.antt`, `proofs/ContenderCases.antt` and `proofs/OutcomeRulesCases.antt` prove it of them. The rules do not use them. Definitions
+-- only. Assumes nothing.
 use Prim.Native.Nat.{ℕ, zero, suc}
 use mathlib.Core.Bool.{Bool, true, false}
 use mathlib.Core.List.{List, [], _∷_, _++_}
 use lib.ListN.{getD, replicate}
-use Rattle.rules.specs.Orders.{Side, buy, sell, Order, Block}
+use Rattle.rules.specs.Orders.{buy, sell, Order, Block}
 use Rattle.rules.specs.Day.{Day, dayOf}
 use Rattle.rules.specs.OutcomeRules.{OutcomeRules}
 use Rattle.rules.specs.WorkedDays.{step, block, block12, baseWith}
@@ -25,6 +26,10 @@ s5 = baseDayOf (block12 1 2900 ∷ [])
 
 abbrev pub s6 : Day
 s6 = baseDayOf (block12 1 2900 ∷ block12 2 2900 ∷ [])
+
+-- S6 with the second block 100 cheaper: both together are outside their limits, and of the two alone the second brings more.
+abbrev pub uneven : Day
+uneven = baseDayOf (block12 1 2900 ∷ block12 2 2800 ∷ [])
 
 -- The day of a book of steps and blocks.
 abbrev pub dayWith : List Order → List Block → Day
@@ -130,6 +135,10 @@ right = outcomeWith rightDay rightPrices rightTraded rightShares rightShares
 abbrev pub offMiddle : Case
 offMiddle = outcomeWith rightDay (hourly 3500 4500 3000 5000 150000) rightTraded rightShares rightShares
 
+-- The prices of the hours between clear too, one cent below the middle.
+abbrev pub offMiddleBetween : Case
+offMiddleBetween = outcomeWith rightDay (hourly 4000 4000 3000 5000 149999) rightTraded rightShares rightShares
+
 -- The sell at 4000 is served in hour 3, at price 3000.
 abbrev pub worseSellServed : Case
 worseSellServed = outcomeWith rightDay rightPrices rightTraded (60 ∷ 30 ∷ 10 ∷ 100 ∷ []) rightShares
@@ -164,6 +173,21 @@ buyBlockOutside = outcomeWith (caseDay 4000 3999) rightPrices rightTraded rightS
 -- In hour 24 the sell gets 10 more than the buys.
 abbrev pub unbalanced : Case
 unbalanced = outcomeWith rightDay rightPrices (hourly 150 150 100 90 0) rightShares (60 ∷ 30 ∷ 0 ∷ 100 ∷ [])
+
+-- The sell block at 3000 alone is taken, and in hours 1 and 2 no step gives way to it: the steps balance, the hours do not.
+abbrev pub blockUnmet : Case
+blockUnmet =
+    record {
+      day = caseDay 3000 4000;
+      set = true ∷ false ∷ [];
+      price = hourly 3000 3000 3000 5000 150000;
+      traded = hourly 100 100 100 100 0;
+      quantities = right .quantities;
+    }
+
+-- The traded quantity of hour 24 is one too many.
+abbrev pub oneTooMany : Case
+oneTooMany = outcomeWith rightDay rightPrices (hourly 150 150 100 101 0) rightShares rightShares
 
 -- The traded quantity of hours 1 and 2 leaves the buy block out.
 abbrev pub buyBlockForgotten : Case
