@@ -1,35 +1,19 @@
--- The hours one after another: a part of the columns is an hour, what its steps get goes to the same places, and so hour after hour. Assumes nothing.
+-- The hours one after another: what an hour's steps get goes to its part of the columns, and so hour after hour. Assumes nothing.
 use Prim.Native.Nat.{ℕ, zero, suc, _+_, _-_, _≤_, _<_}
 use mathlib.Core.Path.{_≡_, refl, sym, _∙_}
 use mathlib.Core.List.{List, [], _∷_, _++_, append-assoc}
 use native.Mathlib.Omega.{arith}
-use native.Mathlib.Decide.{decLe}
-use native.Mathlib.Nat.{lt-of-not-le}
 use native.Mathlib.Numerals.{add-one}
-use lib.ListN.{length, take, drop, getD, set, length-set, length-append, take-append-drop}
-use lib.Seq.{slice, take-take, take-at, drop-at, length-take-le, getD-set-same, getD-set-other}
+use lib.ListN.{length, take, drop, getD, length-append, take-append-drop}
+use lib.Seq.{slice, take-take, take-at, drop-at, length-take-le}
 use borrow.Rule.Slice.PartMut.{putMid, postOf, same-len-mid, mid-len, take-put}
 use Rattle.rules.specs.Orders.{Step}
-use Rattle.rules.specs.Execution.{bought}
 use Rattle.rules.specs.Day.{sumTo}
 use Rattle.rules.proofs.DualityLaws.{value, cost}
-use Rattle.orders.specs.Columns.{stepsFrom}
-use Rattle.pricing.specs.Curves.{Columns, TradesOf}
-use Rattle.search.specs.Search.{Small}
-use Rattle.clearing.specs.Publish.{
-  FirstSmall,
-  HourDone,
-  HourPut,
-  PartSized,
-  StepsSized,
-  TradersSized,
-  HoursDone,
-  stepsAt,
-  salesAt,
-  buysAt,
-  inTurn,
-  getsAt,
-}
+use Rattle.pricing.specs.Curves.{TradesOf}
+use Rattle.search.specs.Search.{stepsAt}
+use Rattle.search.proofs.StepLaws.{mid-slice, steps-next}
+use Rattle.clearing.specs.Publish.{HourDone, HourPut, TradersSized, HoursDone, salesAt, buysAt, inTurn, getsAt}
 use Rattle.clearing.proofs.WorthLaws.{trades-fit}
 
 -- what is put into a part stands there
@@ -40,12 +24,12 @@ slice-put a e l out h k n =
     rw (← (append-assoc (take a l) out (postOf a (e - a) l)), take-at (take a l ++ out) (postOf a (e - a) l) e whole) (drop-at (take a l) out a la)
 
 -- so an hour's part is put
-pub hour-put : (sides prices quantities : List ℕ) (from to sales purchases price : ℕ) (before out : List ℕ) (b v c : ℕ) → from ≤ to →
+pub hour-put : (sides prices quantities : List ℕ) (from to sales purchases price : ℕ) (before out : List ℕ) (v c : ℕ) → from ≤ to →
     to ≤ length before → length out ≡ to - from →
     HourDone (take (to - from) (drop from sides)) (take (to - from) (drop from prices)) (take (to - from) (drop from quantities)) sales purchases price out
-    b v c →
-    HourPut sides prices quantities from to sales purchases price before (putMid from (to - from) before out) b v c
-hour-put sides prices quantities from to sales purchases price before out b v c h k n d =
+    v c →
+    HourPut sides prices quantities from to sales purchases price before (putMid from (to - from) before out) v c
+hour-put sides prices quantities from to sales purchases price before out v c h k n d =
     record {
       sameLength = same-len-mid from (to - from) before out (n ∙ sym (mid-len from to before k));
       front = take-put from (to - from) before out (omega arith);
@@ -83,43 +67,24 @@ module _ (ends sides prices quantities : List ℕ) (sales purchases price : ℕ 
   abbrev gets : ℕ → List ℕ
   gets = getsAt (stepsAt ends sides prices quantities) sales purchases price
 
-  pub hours-none : (values traded : List ℕ) → length traded ≡ 24 → getD ends 0 0 ≡ 0 →
-      HoursDone ends (stepsAt ends sides prices quantities) sales purchases price 0 values traded 0 0
+  pub hours-none : (values : List ℕ) → getD ends 0 0 ≡ 0 → HoursDone ends (stepsAt ends sides prices quantities) sales purchases price 0 values 0 0
   unfolding inTurn sumTo
-  hours-none values traded room e =
-      record {
-        room = room;
-        gets = rw e;
-        tradedIs = λ h a b. absurd (omega arith);
-        valueIs = refl;
-        costIs = refl;
-        valueFits = omega arith;
-        costFits = omega arith;
-      }
+  hours-none values e = record { gets = rw e; valueIs = refl; costIs = refl; valueFits = omega arith; costFits = omega arith }
 
-  pub hours-more : (h : ℕ) (values values′ traded : List ℕ) (v c b v′ c′ s u p : ℕ) → h < 24 →
+  pub hours-more : (h : ℕ) (values values′ : List ℕ) (v c v′ c′ s u p : ℕ) → h < 24 →
       s ≡ sales (h + 1) → u ≡ purchases (h + 1) → p ≡ price (h + 1) → getD ends h 0 ≤ getD ends (h + 1) 0 →
-      HoursDone ends (stepsAt ends sides prices quantities) sales purchases price h values traded v c →
-      HourPut sides prices quantities (getD ends h 0) (getD ends (h + 1) 0) s u p values values′ b v′ c′ →
-      HoursDone ends (stepsAt ends sides prices quantities) sales purchases price (h + 1) values′ (set traded h (b + u)) (v + v′) (c + c′)
-  hours-more h values values′ traded v c b v′ c′ s u p k es eu ep rise d put =
+      HoursDone ends (stepsAt ends sides prices quantities) sales purchases price h values v c →
+      HourPut sides prices quantities (getD ends h 0) (getD ends (h + 1) 0) s u p values values′ v′ c′ →
+      HoursDone ends (stepsAt ends sides prices quantities) sales purchases price (h + 1) values′ (v + v′) (c + c′)
+  hours-more h values values′ v c v′ c′ s u p k es eu ep rise d put =
       let from = getD ends h 0 in
       let to = getD ends (h + 1) 0 in
       let next = steps-next ends sides prices quantities h in
       let got : slice from to values′ ≡ gets (h + 1) = put .done .gets (h + 1) ∙ rw (next, es, eu, ep) in
-      let bought-is : b ≡ bought (steps (h + 1)) (gets (h + 1)) = put .done .buysIs (h + 1) ∙ rw (got, next) in
       let value-is : v′ ≡ value (steps (h + 1)) (gets (h + 1)) = put .done .valueIs (h + 1) ∙ rw (got, next) in
       let cost-is : c′ ≡ cost (steps (h + 1)) (gets (h + 1)) = put .done .costIs (h + 1) ∙ rw (got, next) in
       record {
-        room = length-set traded h (b + u) ∙ d .room;
         gets = take-split from to values′ rise ∙ rw (put .front, d .gets, got, inTurn-more gets h);
-        tradedIs = λ j a m. elim (decLe j h) [
-          | yes z ↦ getD-set-other traded h (j - 1) (b + u) 0 (λ e. omega arith) ∙ d .tradedIs j a z
-          | no z ↦
-              let e : j ≡ h + 1 = (let l = lt-of-not-le z in omega arith) in
-              let f : h + 1 - 1 ≡ h = omega arith in
-              rw (e, f, getD-set-same traded h (b + u) 0 (omega (arith, d .room))) (omega arith)
-        ];
         valueIs = omega (arith, d .valueIs, sumTo-more h (λ j. value (steps j) (gets j)));
         costIs = omega (arith, d .costIs, sumTo-more h (λ j. cost (steps j) (gets j)));
         valueFits = omega (arith, d .valueFits, put .done .valueFits);

@@ -1,5 +1,5 @@
 -- THE PUBLICATION IS THE RESULT: what is computed out of an accepted book's columns with the published set and its prices is what the definition
--- publishes: the steps' quantities hour after hour, the traded quantities, the welfare and the rows. Assumes nothing.
+-- publishes: the steps' quantities hour after hour, the welfare and the rows. Assumes nothing.
 use Prim.Native.Nat.{ℕ, zero, suc, _+_, _-_, _/_, _%_, _^_, _≤_, _<_}
 use mathlib.Core.Bool.{Bool, true, false, cond}
 use mathlib.Core.Path.{_≡_, refl, sym, ap, ap₂, _∙_}
@@ -27,12 +27,14 @@ use Rattle.orders.proofs.HourLaws.{hour-from-columns}
 use Rattle.orders.proofs.PlaceLaws.{block-place}
 use Rattle.orders.proofs.BridgeLaws.{blocks-from-columns, block-count, day-blocks, prices-in-range, hours-in-range}
 use Rattle.pricing.specs.Curves.{tradersFrom}
-use Rattle.search.specs.Search.{ofHour}
+use Rattle.search.specs.Search.{FirstSmall, ofHour, stepsAt}
+use Rattle.search.specs.Meaning.{DayOf, StepsAre}
+use Rattle.search.specs.declared.Day as code-day
 use Rattle.result.specs.Rows.{rowAt}
 use Rattle.result.specs.Result.{bytesOf, hourRows, recordRows, beside, blockRows, rowOf, resultBytes}
-use Rattle.clearing.specs.Publish.{FirstSmall, TradersSized, HoursDone, WorthOf, RowsOf, stepsAt, salesAt, buysAt, inTurn, getsAt}
+use Rattle.clearing.specs.Publish.{TradersSized, HoursDone, WorthOf, RowsOf, salesAt, buysAt, inTurn, getsAt}
 use Rattle.result.proofs.RowLaws.{records-same}
-use Rattle.clearing.proofs.HoursLaws.{small-take}
+use Rattle.search.proofs.StepLaws.{small-take}
 use Rattle.search.proofs.BranchLaws.{sumTo-in, daySum-plain}
 use Rattle.result.proofs.RowsLaws.{
   hourAfterHour,
@@ -45,6 +47,13 @@ use Rattle.result.proofs.RowsLaws.{
   blockRows-at,
 }
 use Rattle.result.proofs.PromiseLaws.{hours-length, hour-at, bytes-are}
+
+-- THE STEPS of the hours are the day's
+pub columns-steps : (b ends records sides prices quantities : List ℕ) → StepColumns b ends records sides prices quantities → Accepted b →
+    StepsAre (dayFrom b) (stepsAt ends sides prices quantities)
+unfolding stepsAt
+columns-steps b ends records sides prices quantities columns a h first last =
+    sym (hour-from-columns b ends records sides prices quantities columns a h first last)
 
 -- THE BLOCKS' TRADES go by their sides, hours and quantities alone
 traders-same : (b : List ℕ) (h : ℕ) (records sides hours prices quantities : List ℕ) (set : List Bool) → length records ≡ length sides →
@@ -95,12 +104,12 @@ rows-twice records values brecords bquantities bvals start rows₀ rows set none
     getD-take n bvals i 0 m ∙ at i m ∙ sym (same i m)) in
     second k small ∙ rw (first k small, e, none k)
 
--- AN ACCEPTED BOOK with its columns, the published set and its prices
-module _ (b ends records sides prices quantities brecords bsides bhours bprices bquantities middles : List ℕ) (set : ℕ) (a : Accepted b)
+-- AN ACCEPTED BOOK with its columns, the published set and its day
+module _ (b ends records sides prices quantities brecords bsides bhours bprices bquantities : List ℕ) (set : ℕ) (found : code-day.Day) (a : Accepted b)
     (columns : StepColumns b ends records sides prices quantities)
     (blocks : BlockColumns (length bsides) b (length bsides) brecords bsides bhours bprices bquantities)
     (chosen : decisions (length bsides) set ≡ outcome (dayFrom b))
-    (priced : (h : ℕ) → 1 ≤ h → h ≤ 24 → ofHour middles h ≡ setPrices (dayFrom b) (publishedBlocks b) h)
+    (of : DayOf (dayFrom b) (outcome (dayFrom b)) found)
     (sizeR : length bsides ≡ length brecords) (sizeH : length bsides ≡ length bhours) (sizeP : length bsides ≡ length bprices)
     (sizeQ : length bsides ≡ length bquantities) where
   abbrev steps : ℕ → List Step
@@ -113,11 +122,10 @@ module _ (b ends records sides prices quantities brecords bsides bhours bprices 
   purchases = buysAt bsides bhours bquantities set
 
   abbrev gets : ℕ → List ℕ
-  gets = getsAt (stepsAt ends sides prices quantities) (salesAt bsides bhours bquantities set) (buysAt bsides bhours bquantities set) (ofHour middles)
+  gets = getsAt (stepsAt ends sides prices quantities) (salesAt bsides bhours bquantities set) (buysAt bsides bhours bquantities set) (ofHour (found .prices))
 
-  steps-are : (h : ℕ) → 1 ≤ h → h ≤ 24 → steps h ≡ stepsIn h (dayFrom b .steps)
-  unfolding stepsAt
-  steps-are h first last = sym (hour-from-columns b ends records sides prices quantities columns a h first last)
+  steps-are : StepsAre (dayFrom b) (stepsAt ends sides prices quantities)
+  steps-are = columns-steps b ends records sides prices quantities columns a
 
   -- the day's blocks
   blocks-are : blocksFrom b brecords bsides bhours bprices bquantities ≡ dayFrom b .blocks
@@ -148,19 +156,15 @@ module _ (b ends records sides prices quantities brecords bsides bhours bprices 
 
   gets-are : (h : ℕ) → 1 ≤ h → h ≤ 24 → gets h ≡ executedIn b h
   unfolding executedIn
-  gets-are h first last = rw (steps-are h first last, sales-are h, purchases-are h, priced h first last)
+  gets-are h first last = rw (steps-are h first last, sales-are h, purchases-are h, of .pricesAre h first last)
 
-  module _ (values traded-r : List ℕ) (v c wv wc : ℕ)
+  module _ (values : List ℕ) (v c wv wc : ℕ)
       (hours : HoursDone ends (stepsAt ends sides prices quantities) (salesAt bsides bhours bquantities set) (buysAt bsides bhours bquantities set)
-      (ofHour middles) 24 values traded-r v c)
+      (ofHour (found .prices)) 24 values v c)
       (worth : WorthOf bsides bhours bprices bquantities set wv wc) where
     values-are : take (getD ends 24 0) values ≡ executedByHour b 24
     unfolding executedByHour
     values-are = hours .gets ∙ inTurn-same 24 gets (executedIn b) gets-are
-
-    traded-are : (h : ℕ) → 1 ≤ h → h ≤ 24 → ofHour traded-r h ≡ traded (dayFrom b) (publishedBlocks b) h
-    unfolding traded executedIn
-    traded-are h first last = hours .tradedIs h first last ∙ rw (gets-are h first last, steps-are h first last, purchases-are h)
 
     -- THE WELFARE
     abbrev S : List Block
@@ -224,42 +228,49 @@ module _ (b ends records sides prices quantities brecords bsides bhours bprices 
           ∙ rw (r, values-are, brecords-here) (rows-by-hour b a bvalues (rw (chosen-is b)) k)
 
       -- THE WHOLE
-      pub published-from : (result : List ℕ) (count w : ℕ) → length middles ≡ 24 → length traded-r ≡ 24 → count ≡ recordCount b → count ≤ 2048 →
+      pub published-from : (result : List ℕ) (count w : ℕ) → length (found .prices) ≡ 24 → length (found .quantities) ≡ 24 → count ≡ recordCount b → count ≤ 2048 →
           w ≡ v + wv - (c + wc) →
-          result ≡ bytesOf 8 w ++ (hourRows middles traded-r ++ recordRows (rowAt rows) (count - 1) 1) → result ≡ resultBytes b
+          result ≡ bytesOf 8 w ++ (hourRows (found .prices) (found .quantities) ++ recordRows (rowAt rows) (count - 1) 1) → result ≡ resultBytes b
       published-from result count w lm lt same small ew e =
           e ∙ rw (
             bytes-are b a,
             ew,
             welfare-are,
-            column-is middles (setPrices (dayFrom b) (publishedBlocks b)) lm priced,
-            column-is traded-r (traded (dayFrom b) (publishedBlocks b)) lt traded-are,
+            column-is (found .prices) (setPrices (dayFrom b) (publishedBlocks b)) lm (of .pricesAre),
+            column-is (found .quantities) (traded (dayFrom b) (publishedBlocks b)) lt (of .tradedAre),
             records-same (rowAt rows) (rowOf b) (count - 1) 1 (λ i x y. row-is i (omega arith)),
             same,
           )
 
--- THE BLOCKS' COLUMNS as the fronts of their arrays
-module _ (count : ℕ) (records sides hours prices quantities : List ℕ) (few : count ≤ 32) (lr : count ≤ length records) (ls : count ≤ length sides)
-    (lh : count ≤ length hours) (lp : count ≤ length prices) (lq : count ≤ length quantities) where
+-- THE BLOCKS' COLUMNS as the fronts of their arrays, which have room for them
+pub record Fronts (count : ℕ) (records sides hours prices quantities : List ℕ) : Type 0 where
+  pub few : count ≤ 32
+  pub inRecords : count ≤ length records
+  pub inSides : count ≤ length sides
+  pub inHours : count ≤ length hours
+  pub inPrices : count ≤ length prices
+  pub inQuantities : count ≤ length quantities
+
+module _ {count : ℕ} {records sides hours prices quantities : List ℕ} (f : Fronts count records sides hours prices quantities) where
   pub fronts-sized : FirstSmall count 50 quantities → TradersSized (take count sides) (take count hours) (take count quantities)
   fronts-sized small =
       record {
-        few = omega (arith, length-take-le count sides ls);
-        asManyHours = length-take-le count sides ls ∙ sym (length-take-le count hours lh);
-        asManyQuantities = length-take-le count sides ls ∙ sym (length-take-le count quantities lq);
+        few = omega (arith, f .few, length-take-le count sides (f .inSides));
+        asManyHours = length-take-le count sides (f .inSides) ∙ sym (length-take-le count hours (f .inHours));
+        asManyQuantities = length-take-le count sides (f .inSides) ∙ sym (length-take-le count quantities (f .inQuantities));
         quantitiesFit = small-take 50 count quantities small;
       }
 
   pub fronts-records : length (take count sides) ≡ length (take count records)
-  fronts-records = length-take-le count sides ls ∙ sym (length-take-le count records lr)
+  fronts-records = length-take-le count sides (f .inSides) ∙ sym (length-take-le count records (f .inRecords))
 
   pub fronts-prices : length (take count sides) ≡ length (take count prices)
-  fronts-prices = length-take-le count sides ls ∙ sym (length-take-le count prices lp)
+  fronts-prices = length-take-le count sides (f .inSides) ∙ sym (length-take-le count prices (f .inPrices))
 
   pub fronts-columns : (b : List ℕ) → BlockColumns 32 b count records sides hours prices quantities →
       BlockColumns (length (take count sides)) b (length (take count sides)) (take count records) (take count sides) (take count hours)
       (take count prices) (take count quantities)
-  fronts-columns b c = rw (length-take-le count sides ls) (blocks-in-front c)
+  fronts-columns b c = rw (length-take-le count sides (f .inSides)) (blocks-in-front c)
 
   pub fronts-chosen : (set : ℕ) (d : List Bool) → decisions count set ≡ d → decisions (length (take count sides)) set ≡ d
-  fronts-chosen set d e = rw (length-take-le count sides ls) e
+  fronts-chosen set d e = rw (length-take-le count sides (f .inSides)) e

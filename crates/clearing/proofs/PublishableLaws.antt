@@ -7,13 +7,10 @@ use lib.ListN.{length, getD}
 use Rattle.records.specs.Records.{recordCount}
 use Rattle.book.specs.Refusals.{Accepted}
 use Rattle.book.proofs.Accepted.{record-count}
-use Rattle.rules.specs.Hour.{Pricing, cleared, doesNotClear, pricing, priceIn}
-use Rattle.rules.specs.Day.{hourOf, setPrices}
+use Rattle.rules.specs.Day.{setPrices}
 use Rattle.rules.specs.Outcome.{outcome}
-use Rattle.rules.proofs.PricingLaws.{Clearable, clearable, Priced, pricing-is}
-use Rattle.rules.proofs.ChainLaws.{prices-in}
 use Rattle.rules.proofs.BestLaws.{outcome-first}
-use Rattle.rules.proofs.DayLaws.{empty-lawful, all-clear}
+use Rattle.rules.proofs.DayLaws.{empty-lawful}
 use Rattle.orders.specs.Bridge.{dayFrom}
 use Rattle.orders.specs.Columns.{StepColumns, BlockColumns}
 use Rattle.orders.specs.declared.Blocks.{Blocks}
@@ -21,30 +18,23 @@ use Rattle.orders.proofs.BridgeLaws.{prices-in-range, hours-in-range}
 use Rattle.orders.proofs.HourLaws.{ends-start, ends-rise, ends-fit}
 use Rattle.orders.proofs.PlaceLaws.{step-place, block-place}
 use Rattle.search.specs.Meaning.{DayOf}
-use Rattle.clearing.specs.Publish.{StepsSized, Publishable}
+use Rattle.search.specs.Search.{StepsSized}
+use Rattle.clearing.specs.Publish.{Publishable}
 use Rattle.search.specs.declared.Day as code-day
-use Rattle.search.proofs.BranchLaws.{counts}
+use Rattle.search.proofs.TradedLaws.{counts, price-positive}
 use Rattle.result.proofs.RowsLaws.{publishedBlocks}
 
 module _ (b : List ℕ) (a : Accepted b) where
   -- every hour of the outcome has a price
-  price-positive : (h : ℕ) → 1 ≤ h → h ≤ 24 → 1 ≤ setPrices (dayFrom b) (publishedBlocks b) h
-  unfolding setPrices
-  price-positive h first last =
+  outcome-priced : (h : ℕ) → 1 ≤ h → h ≤ 24 → 1 ≤ setPrices (dayFrom b) (publishedBlocks b) h
+  outcome-priced h first last =
       let day = dayFrom b in
       let prices = prices-in-range b a in
       let hours = hours-in-range b a in
-      let law = outcome-first day (empty-lawful day prices hours) .isLawful in
-      let hour = hourOf day (publishedBlocks b) h in
-      go (pricing hour) (pricing-is hour (prices-in h (day .steps) prices))
-      (clearable hour (setPrices day (publishedBlocks b) h) (all-clear day prices hours (outcome day) law h (counts (day .hours) h first last)))
-    where
-      go : (p : Pricing) → Priced (hourOf (dayFrom b) (publishedBlocks b) h) p → Clearable (hourOf (dayFrom b) (publishedBlocks b) h) → 1 ≤ priceIn p
-      go (cleared l u p) c k = omega (arith, c .isMiddle, c .positive, c .ordered)
-      go doesNotClear c k = absurd (c k)
+      price-positive day prices hours (outcome day) (outcome-first day (empty-lawful day prices hours) .isLawful) h (counts (day .hours) h first last)
 
   module _ (ends records sides prices quantities : List ℕ) (columns : StepColumns b ends records sides prices quantities) where
-    steps-sized : getD ends 24 0 ≤ length sides → getD ends 24 0 ≤ length prices → getD ends 24 0 ≤ length quantities →
+    pub steps-sized : getD ends 24 0 ≤ length sides → getD ends 24 0 ≤ length prices → getD ends 24 0 ≤ length quantities →
         StepsSized ends sides prices quantities
     steps-sized ls lp lq =
         record {
@@ -61,13 +51,12 @@ module _ (b : List ℕ) (a : Accepted b) where
     pub publishable : (blocks : Blocks) (day : code-day.Day) (count : ℕ) (result : List ℕ) →
         BlockColumns 32 b (blocks .count) (blocks .records) (blocks .sides) (blocks .hours) (blocks .prices) (blocks .quantities) →
         DayOf (dayFrom b) (outcome (dayFrom b)) day → count ≡ recordCount b → length result ≡ 196 + 4 * count →
-        getD ends 24 0 ≤ length records → getD ends 24 0 ≤ length sides → getD ends 24 0 ≤ length prices → getD ends 24 0 ≤ length quantities →
-        Publishable count ends records sides prices quantities blocks day result
-    publishable blocks day count result c d same size lr ls lp lq =
+        getD ends 24 0 ≤ length records → StepsSized ends sides prices quantities → Publishable count ends records sides prices quantities blocks day result
+    publishable blocks day count result c d same size lr sized =
         let place = block-place b (blocks .count) (blocks .records) (blocks .sides) (blocks .hours) (blocks .prices) (blocks .quantities) c a in
         let n = record-count b a in
         record {
-          steps = steps-sized ls lp lq;
+          steps = sized;
           inRecords = lr;
           fewBlocks = c .few;
           blockPricesFit = λ i k. place i k .priceRange .1;
@@ -75,6 +64,6 @@ module _ (b : List ℕ) (a : Accepted b) where
           priced = λ h k.
               let back : h + 1 - 1 ≡ h = omega arith in
               let p = rw back at (d .pricesAre (h + 1) (omega arith) (omega arith)) in
-              omega (arith, price-positive (h + 1) (omega arith) (omega arith));
+              omega (arith, outcome-priced (h + 1) (omega arith) (omega arith));
           buffer = (omega (arith, n .0), omega (arith, n .1), size);
         }

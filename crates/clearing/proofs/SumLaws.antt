@@ -1,4 +1,4 @@
--- What quantities of steps buy and are worth, one step at a time; and what an hour's steps get is within its columns. Assumes nothing.
+-- What quantities of steps are worth, one step at a time; and what an hour's steps get is within its columns. Assumes nothing.
 use Prim.Native.Nat.{ℕ, zero, suc, _+_, _*_, _≤_, _<_}
 use mathlib.Core.Path.{_≡_, refl, sym, _∙_}
 use mathlib.Core.List.{List, [], _∷_}
@@ -9,7 +9,6 @@ use lib.ListN.{length, drop, getD}
 use lib.Seq.{drop-cons}
 use Rattle.rules.specs.Orders.{Side, buy, sell, Step}
 use Rattle.rules.specs.Hour.{bySide}
-use Rattle.rules.specs.Execution.{bought}
 use Rattle.rules.specs.Contender.{Each, Within}
 use Rattle.rules.proofs.DualityLaws.{value, cost}
 use Rattle.rules.proofs.ExecutionLaws.{execution-within, execution-net}
@@ -23,35 +22,30 @@ pub product-le : (a b c d : ℕ) → a ≤ c → b ≤ d → a * b ≤ c * d
 product-le a b c d h k = le-trans (mul-le-mul-right b h) (mul-le-mul-left c k)
 
 -- ONE STEP, by its side
-module _ (q w bought-r value-r cost-r s : ℕ) where
-  abbrev Added : ℕ → ℕ → ℕ → Type 0
-  Added b v c =
-      (b ≡ bought-r + bySide (sideFor s) q 0) × (v ≡ value-r + bySide (sideFor s) w 0) × (c ≡ cost-r + bySide (sideFor s) 0 w)
+module _ (w value-r cost-r s : ℕ) where
+  abbrev Added : ℕ → ℕ → Type 0
+  Added v c = (v ≡ value-r + bySide (sideFor s) w 0) × (c ≡ cost-r + bySide (sideFor s) 0 w)
 
-  pub buy-added : s ≡ 0 → Added (bought-r + q) (value-r + w) cost-r
-  buy-added e = rw e (refl, refl, omega arith)
+  pub buy-added : s ≡ 0 → Added (value-r + w) cost-r
+  buy-added e = rw e (refl, omega arith)
 
-  pub sell-added : (s ≡ 0 → ⊥) → Added bought-r value-r (cost-r + w)
-  sell-added e = rw (side-sell s e) (omega arith, omega arith, refl)
+  pub sell-added : (s ≡ 0 → ⊥) → Added value-r (cost-r + w)
+  sell-added e = rw (side-sell s e) (omega arith, refl)
 
 -- ALL STEPS: the sums so far and those of the rest are the whole
-pub record Summing (sides prices values : List ℕ) (bought-r value-r cost-r i : ℕ) : Type 0 where
+pub record Summing (sides prices values : List ℕ) (value-r cost-r i : ℕ) : Type 0 where
   pub inside : i ≤ length sides
-  pub buysIs : (h : ℕ) → bought (stepsFrom h sides prices values) values ≡ bought-r + bought (restOf h sides prices values i) (drop i values)
   pub valueIs : (h : ℕ) → value (stepsFrom h sides prices values) values ≡ value-r + value (restOf h sides prices values i) (drop i values)
   pub costIs : (h : ℕ) → cost (stepsFrom h sides prices values) values ≡ cost-r + cost (restOf h sides prices values i) (drop i values)
-  pub boughtFits : bought-r ≤ i * 99999
   pub valueFits : value-r ≤ i * 29999700000
   pub costFits : cost-r ≤ i * 29999700000
 
-pub summing-none : (sides prices values : List ℕ) → Summing sides prices values 0 0 0 0
+pub summing-none : (sides prices values : List ℕ) → Summing sides prices values 0 0 0
 summing-none sides prices values =
     record {
       inside = omega arith;
-      buysIs = λ h. omega arith;
       valueIs = λ h. omega arith;
       costIs = λ h. omega arith;
-      boughtFits = omega arith;
       valueFits = omega arith;
       costFits = omega arith;
     }
@@ -59,10 +53,6 @@ summing-none sides prices values =
 bySide-le : (side : Side) (q : ℕ) → (bySide side q 0 ≤ q) × (bySide side 0 q ≤ q)
 bySide-le buy q = (omega arith, omega arith)
 bySide-le sell q = (omega arith, omega arith)
-
-bought-more : (s : Step) (l : List Step) (q : ℕ) (qs : List ℕ) → bought (s ∷ l) (q ∷ qs) ≡ bySide (s .side) q 0 + bought l qs
-unfolding bought
-bought-more s l q qs = refl
 
 value-more : (s : Step) (l : List Step) (q : ℕ) (qs : List ℕ) → value (s ∷ l) (q ∷ qs) ≡ bySide (s .side) (q * s .price) 0 + value l qs
 unfolding value
@@ -72,16 +62,16 @@ cost-more : (s : Step) (l : List Step) (q : ℕ) (qs : List ℕ) → cost (s ∷
 unfolding cost
 cost-more s l q qs = refl
 
-none : (qs : List ℕ) → (bought [] qs ≡ 0) × (value [] qs ≡ 0) × (cost [] qs ≡ 0)
-unfolding bought value cost
-none qs = (refl, refl, refl)
+none : (qs : List ℕ) → (value [] qs ≡ 0) × (cost [] qs ≡ 0)
+unfolding value cost
+none qs = (refl, refl)
 
 module _ (sides prices values : List ℕ) (columns : Columns sides prices values) where
-  pub summing-next : (b v c b′ v′ c′ i : ℕ) → Small 300000 prices → Small 99999 values → Summing sides prices values b v c i → i < length sides →
+  pub summing-next : (v c v′ c′ i : ℕ) → Small 300000 prices → Small 99999 values → Summing sides prices values v c i → i < length sides →
       let side = sideFor (getD sides i 0) in
       let w = getD values i 0 * getD prices i 0 in
-      b′ ≡ b + bySide side (getD values i 0) 0 → v′ ≡ v + bySide side w 0 → c′ ≡ c + bySide side 0 w → Summing sides prices values b′ v′ c′ (i + 1)
-  summing-next b v c b′ v′ c′ i sp sv s k eb ev ec =
+      v′ ≡ v + bySide side w 0 → c′ ≡ c + bySide side 0 w → Summing sides prices values v′ c′ (i + 1)
+  summing-next v c v′ c′ i sp sv s k ev ec =
       let q = getD values i 0 in
       let side = sideFor (getD sides i 0) in
       let kv : i < length values = omega (arith, columns .asManyQuantities) in
@@ -91,41 +81,36 @@ module _ (sides prices values : List ℕ) (columns : Columns sides prices values
       let most = product-le q (getD prices i 0) 99999 300000 (sv i) (sp i) in
       record {
         inside = omega arith;
-        buysIs = λ h. s .buysIs h ∙ rw (more h, drop-cons values i 0 kv, bought-more, add-one i) (omega arith);
         valueIs = λ h. s .valueIs h ∙ rw (more h, drop-cons values i 0 kv, value-more, add-one i) (omega arith);
         costIs = λ h. s .costIs h ∙ rw (more h, drop-cons values i 0 kv, cost-more, add-one i) (omega arith);
-        boughtFits = omega (arith, s .boughtFits, bySide-le side q, sv i);
         valueFits = omega (arith, s .valueFits, bySide-le side (q * getD prices i 0));
         costFits = omega (arith, s .costFits, bySide-le side (q * getD prices i 0));
       }
 
-  pub summing-all : (b v c i : ℕ) → Summing sides prices values b v c i → length sides ≤ i → SumsOf sides prices values b v c
-  summing-all b v c i s k =
+  pub summing-all : (v c i : ℕ) → Summing sides prices values v c i → length sides ≤ i → SumsOf sides prices values v c
+  summing-all v c i s k =
       let n = none (drop i values) in
       record {
-        buysIs = λ h. let e = rw (rest-end h sides prices values i k) at (s .buysIs h) in omega (arith, n);
         valueIs = λ h. let e = rw (rest-end h sides prices values i k) at (s .valueIs h) in omega (arith, n);
         costIs = λ h. let e = rw (rest-end h sides prices values i k) at (s .costIs h) in omega (arith, n);
-        boughtFits = omega (arith, s .boughtFits, s .inside, columns .notTooMany);
         valueFits = omega (arith, s .valueFits, s .inside, columns .notTooMany);
         costFits = omega (arith, s .costFits, s .inside, columns .notTooMany);
       }
 
--- THE STEPS' OWN QUANTITIES play no part in what other quantities buy and are worth
+-- THE STEPS' OWN QUANTITIES play no part in what other quantities are worth
 module _ (h : ℕ) where
   own-none : (sides prices q r values : List ℕ) → length q ≡ length r →
-      (bought (stepsFrom h sides prices q) values ≡ bought (stepsFrom h sides prices r) values)
-      × (value (stepsFrom h sides prices q) values ≡ value (stepsFrom h sides prices r) values)
+      (value (stepsFrom h sides prices q) values ≡ value (stepsFrom h sides prices r) values)
       × (cost (stepsFrom h sides prices q) values ≡ cost (stepsFrom h sides prices r) values)
-  unfolding bought value cost stepsFrom
-  own-none [] prices q r values e = (refl, refl, refl)
-  own-none (s ∷ sides) [] q r values e = (refl, refl, refl)
-  own-none (s ∷ sides) (p ∷ prices) [] [] values e = (refl, refl, refl)
+  unfolding value cost stepsFrom
+  own-none [] prices q r values e = (refl, refl)
+  own-none (s ∷ sides) [] q r values e = (refl, refl)
+  own-none (s ∷ sides) (p ∷ prices) [] [] values e = (refl, refl)
   own-none (s ∷ sides) (p ∷ prices) [] (y ∷ r) values e = absurd (omega arith)
   own-none (s ∷ sides) (p ∷ prices) (x ∷ q) [] values e = absurd (omega arith)
-  own-none (s ∷ sides) (p ∷ prices) (x ∷ q) (y ∷ r) [] e = (refl, refl, refl)
+  own-none (s ∷ sides) (p ∷ prices) (x ∷ q) (y ∷ r) [] e = (refl, refl)
   own-none (s ∷ sides) (p ∷ prices) (x ∷ q) (y ∷ r) (v ∷ values) e =
-      let t = own-none sides prices q r values (omega arith) in (rw (t .0), rw (t .1), rw (t .2))
+      let t = own-none sides prices q r values (omega arith) in (rw (t .0), rw (t .1))
 
 -- AN HOUR: what its steps get is within their own quantities
 within-own : (m h : ℕ) (sides prices quantities out : List ℕ) → Small m quantities → Each Within (stepsFrom h sides prices quantities) out → Small m out
@@ -150,16 +135,14 @@ executed-small m sides prices quantities out n price e small =
     within-own m 0 sides prices quantities out small (rw (e 0) (execution-within (hourWith 0 sides prices quantities n) price))
 
 -- an hour is done by its amounts, its shares and its sums
-pub hour-done : (sides prices quantities out : List ℕ) (sales purchases n price bought-r value-r cost-r : ℕ) →
+pub hour-done : (sides prices quantities out : List ℕ) (sales purchases n price value-r cost-r : ℕ) →
     length quantities ≡ length out → n + purchases ≡ 2097152 + sales → ExecutedOf sides prices quantities n price out →
-    SumsOf sides prices out bought-r value-r cost-r → HourDone sides prices quantities sales purchases price out bought-r value-r cost-r
-hour-done sides prices quantities out sales purchases n price bought-r value-r cost-r same e x s =
+    SumsOf sides prices out value-r cost-r → HourDone sides prices quantities sales purchases price out value-r cost-r
+hour-done sides prices quantities out sales purchases n price value-r cost-r same e x s =
     record {
       gets = λ h. x h ∙ execution-net (stepsFrom h sides prices quantities) n 2097152 sales purchases (omega arith) price;
-      buysIs = λ h. s .buysIs h ∙ sym (own-none h sides prices quantities out out same .0);
-      valueIs = λ h. s .valueIs h ∙ sym (own-none h sides prices quantities out out same .1);
-      costIs = λ h. s .costIs h ∙ sym (own-none h sides prices quantities out out same .2);
-      boughtFits = s .boughtFits;
+      valueIs = λ h. s .valueIs h ∙ sym (own-none h sides prices quantities out out same .0);
+      costIs = λ h. s .costIs h ∙ sym (own-none h sides prices quantities out out same .1);
       valueFits = s .valueFits;
       costFits = s .costFits;
     }

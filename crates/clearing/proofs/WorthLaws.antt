@@ -73,9 +73,8 @@ module _ (sides hours prices quantities : List ℕ) where
   abbrev allFrom : List ℕ → List ℕ → ℕ → List Block
   allFrom b records set = taken (blocksFrom b records sides hours prices quantities) (decisions (length sides) set)
 
-  pub record Worthed (set bought-r value-r cost-r rest i : ℕ) : Type 0 where
+  pub record Worthed (set value-r cost-r rest i : ℕ) : Type 0 where
     pub inside : i ≤ length sides
-    pub nothing : bought-r ≡ 0
     pub valueIs : (b records : List ℕ) (day-hours : ℕ) → length records ≡ length sides →
         blocksValue day-hours (allFrom b records set) ≡ value-r + blocksValue day-hours (restFrom b records i rest)
     pub costIs : (b records : List ℕ) (day-hours : ℕ) → length records ≡ length sides →
@@ -83,12 +82,11 @@ module _ (sides hours prices quantities : List ℕ) where
     pub valueFits : value-r ≤ i * 360000000
     pub costFits : cost-r ≤ i * 360000000
 
-  pub worthed-none : (set : ℕ) → Worthed set 0 0 0 set 0
+  pub worthed-none : (set : ℕ) → Worthed set 0 0 set 0
   worthed-none set =
       let e : length sides - 0 ≡ length sides = omega arith in
       record {
         inside = omega arith;
-        nothing = refl;
         valueIs = λ b records d same. rw e (omega arith);
         costIs = λ b records d same. rw e (omega arith);
         valueFits = omega arith;
@@ -140,15 +138,14 @@ module _ (sides hours prices quantities : List ℕ) where
           rest-more (λ b. bySide (b .side) 0 (b .quantity * (b .price * day.hourCount d b))) b records i rest same k
           ∙ rw (hour-count d (number b (getD records i 0)) (getD sides i 0) (getD hours i 0) (getD prices i 0) (getD quantities i 0), second-when)
 
-    pub worthed-next : (set bo v c rest i worth bo′ v′ c′ : ℕ) → Worthed set bo v c rest i → i < length sides → worth ≤ 360000000 →
+    pub worthed-next : (set v c rest i worth v′ c′ : ℕ) → Worthed set v c rest i → i < length sides → worth ≤ 360000000 →
         worth ≡ when (eqb (rest % 2) 1) (getD quantities i 0 * (getD prices i 0 * hourCount 24 (getD hours i 0))) →
-        bo′ ≡ bo + bySide (sideFor (getD sides i 0)) 0 0 → v′ ≡ v + bySide (sideFor (getD sides i 0)) worth 0 →
-        c′ ≡ c + bySide (sideFor (getD sides i 0)) 0 worth → Worthed set bo′ v′ c′ (rest / 2) (i + 1)
-    worthed-next set bo v c rest i worth bo′ v′ c′ s k small ew eb ev ec =
+        v′ ≡ v + bySide (sideFor (getD sides i 0)) worth 0 →
+        c′ ≡ c + bySide (sideFor (getD sides i 0)) 0 worth → Worthed set v′ c′ (rest / 2) (i + 1)
+    worthed-next set v c rest i worth v′ c′ s k small ew ev ec =
         let sd = sideFor (getD sides i 0) in
         record {
           inside = omega arith;
-          nothing = omega (arith, s .nothing, bySide-le sd 0);
           valueIs = λ b records d same. s .valueIs b records d same ∙ rw (value-more i rest k b records d same, ev, ew) (omega arith);
           costIs = λ b records d same. s .costIs b records d same ∙ rw (cost-more i rest k b records d same, ec, ew) (omega arith);
           valueFits = omega (arith, s .valueFits, bySide-le sd worth);
@@ -165,8 +162,8 @@ module _ (sides hours prices quantities : List ℕ) where
     unfolding blocksCost
     cost-none b records d i rest same k = rest-none _ b records i rest same k
 
-    pub worthed-all : (set bo v c rest i : ℕ) → Worthed set bo v c rest i → length sides ≤ i → WorthOf sides hours prices quantities set v c
-    worthed-all set bo v c rest i s k =
+    pub worthed-all : (set v c rest i : ℕ) → Worthed set v c rest i → length sides ≤ i → WorthOf sides hours prices quantities set v c
+    worthed-all set v c rest i s k =
         record {
           valueIs = λ b records d same. omega (arith, s .valueIs b records d same, value-none b records d i rest same k);
           costIs = λ b records d same. omega (arith, s .costIs b records d same, cost-none b records d i rest same k);

@@ -1,4 +1,4 @@
--- THE PUBLICATION out of columns: what the steps of each hour get, hour after hour, what is traded, and what it is worth; the result's bytes from them.
+-- THE PUBLICATION out of columns: what the steps of each hour get, hour after hour, and what it is worth; the result's bytes from them and from the day.
 -- These are the contracts of the functions of src/publish.rt; the promise of the clearing itself is in Promise. Definitions only. Assumes nothing.
 use Prim.Native.Nat.{ℕ, zero, suc, _+_, _-_, _*_, _/_, _%_, _^_, _≤_, _<_}
 use mathlib.Core.Bool.{cond}
@@ -10,8 +10,8 @@ use lib.Seq.{slice}
 use Rattle.records.specs.Records.{recordCount}
 use Rattle.book.specs.Refusals.{Accepted}
 use Rattle.rules.specs.Orders.{Step}
-use Rattle.rules.specs.Execution.{execution, bought}
-use Rattle.rules.specs.Day.{taken, decisions, overBlocks, sells, buys, sumTo, setPrices, blocksValue, blocksCost}
+use Rattle.rules.specs.Execution.{execution}
+use Rattle.rules.specs.Day.{taken, decisions, overBlocks, sells, buys, sumTo, blocksValue, blocksCost}
 use Rattle.rules.specs.Outcome.{outcome}
 use Rattle.rules.proofs.PricingLaws.{net}
 use Rattle.rules.proofs.DualityLaws.{value, cost}
@@ -19,38 +19,34 @@ use Rattle.orders.specs.Bridge.{dayFrom}
 use Rattle.orders.specs.Columns.{StepColumns, BlockColumns, stepsFrom, blocksFrom}
 use Rattle.orders.specs.declared.Blocks.{Blocks}
 use Rattle.pricing.specs.Curves.{tradersFrom}
-use Rattle.search.specs.Search.{Small, ofHour}
+use Rattle.search.specs.Search.{Small, FirstSmall, StepsSized}
 use Rattle.search.specs.Meaning.{DayOf}
 use Rattle.result.specs.Result.{beside, resultBytes}
 use Rattle.search.specs.declared.Day as code-day
 
 -- AN HOUR out of its columns
--- What its steps get at a price, and what that buys and is worth, whatever hour the columns are of.
-pub record HourDone (sides prices quantities : List ℕ) (sales purchases price : ℕ) (out : List ℕ) (bought-r value-r cost-r : ℕ) : Type 0 where
+-- What its steps get at a price, and what that is worth, whatever hour the columns are of.
+pub record HourDone (sides prices quantities : List ℕ) (sales purchases price : ℕ) (out : List ℕ) (value-r cost-r : ℕ) : Type 0 where
   pub gets : (h : ℕ) → out ≡ execution (net (stepsFrom h sides prices quantities) sales purchases) price
-  pub buysIs : (h : ℕ) → bought-r ≡ bought (stepsFrom h sides prices quantities) out
   pub valueIs : (h : ℕ) → value-r ≡ value (stepsFrom h sides prices quantities) out
   pub costIs : (h : ℕ) → cost-r ≡ cost (stepsFrom h sides prices quantities) out
-  pub boughtFits : bought-r ≤ 204797952
   pub valueFits : value-r ≤ 2 ^ 46
   pub costFits : cost-r ≤ 2 ^ 46
 
--- What quantities of an hour's steps buy and are worth; the steps' own quantities play no part in that.
-pub record SumsOf (sides prices values : List ℕ) (bought-r value-r cost-r : ℕ) : Type 0 where
-  pub buysIs : (h : ℕ) → bought-r ≡ bought (stepsFrom h sides prices values) values
+-- What quantities of an hour's steps are worth; the steps' own quantities play no part in that.
+pub record SumsOf (sides prices values : List ℕ) (value-r cost-r : ℕ) : Type 0 where
   pub valueIs : (h : ℕ) → value-r ≡ value (stepsFrom h sides prices values) values
   pub costIs : (h : ℕ) → cost-r ≡ cost (stepsFrom h sides prices values) values
-  pub boughtFits : bought-r ≤ 204797952
   pub valueFits : value-r ≤ 2 ^ 46
   pub costFits : cost-r ≤ 2 ^ 46
 
 -- The same for the part of the columns from one place to another; what stands in front of it stays.
 pub record HourPut (sides prices quantities : List ℕ) (from to sales purchases price : ℕ) (before values : List ℕ)
-    (bought-r value-r cost-r : ℕ) : Type 0 where
+    (value-r cost-r : ℕ) : Type 0 where
   pub sameLength : length values ≡ length before
   pub front : take from values ≡ take from before
   pub done : HourDone (slice from to sides) (slice from to prices) (slice from to quantities) sales purchases price (slice from to values)
-      bought-r value-r cost-r
+      value-r cost-r
 
 -- THE HOURS of the columns
 -- What the blocks of a set sell and buy in hour h.
@@ -69,12 +65,10 @@ inTurn q (suc n) = inTurn q n ++ q (suc n)
 abbrev pub getsAt : (steps : ℕ → List Step) (sales purchases price : ℕ → ℕ) → ℕ → List ℕ
 getsAt steps sales purchases price h = execution (net (steps h) (sales h) (purchases h)) (price h)
 
--- The hours 1 to n are done: what the steps get stands in front of the values, and with it what is traded in each hour, and the value and the cost.
-pub record HoursDone (ends : List ℕ) (steps : ℕ → List Step) (sales purchases price : ℕ → ℕ) (n : ℕ) (values traded : List ℕ)
-    (value-r cost-r : ℕ) : Type 0 where
-  pub room : length traded ≡ 24
+-- The hours 1 to n are done: what the steps get stands in front of the values, and with it its value and its cost.
+pub record HoursDone (ends : List ℕ) (steps : ℕ → List Step) (sales purchases price : ℕ → ℕ) (n : ℕ) (values : List ℕ) (value-r cost-r : ℕ) :
+    Type 0 where
   pub gets : take (getD ends n 0) values ≡ inTurn (getsAt steps sales purchases price) n
-  pub tradedIs : (h : ℕ) → 1 ≤ h → h ≤ n → ofHour traded h ≡ bought (steps h) (getsAt steps sales purchases price h) + purchases h
   pub valueIs : value-r ≡ sumTo n (λ h. value (steps h) (getsAt steps sales purchases price h))
   pub costIs : cost-r ≡ sumTo n (λ h. cost (steps h) (getsAt steps sales purchases price h))
   pub valueFits : value-r ≤ n * 2 ^ 46
@@ -89,8 +83,7 @@ pub record WorthOf (sides hours prices quantities : List ℕ) (set value-r cost-
   pub valueFits : value-r ≤ 2 ^ 46
   pub costFits : cost-r ≤ 2 ^ 46
 
--- WHAT IS ASKED of the columns, for safe arithmetic and indexing
--- .. of the blocks, by the columns that trades go by
+-- WHAT IS ASKED of the blocks, for safe arithmetic and indexing, by the columns that trades go by
 pub record TradersSized (sides hours quantities : List ℕ) : Type 0 where
   pub few : length sides ≤ 32
   pub asManyHours : length sides ≡ length hours
@@ -112,14 +105,13 @@ RowsOf records values brecords bquantities set rows =
     ((i : ℕ) → i < length brecords → getD bvalues i 0 ≡ cond (eqb (set / 2 ^ i % 2) 1) (getD bquantities i 0) 0) →
     (k : ℕ) → k < 2048 → getD rows k 0 ≡ beside k records values (beside k brecords bvalues 0)
 
--- THE RESULT, where the columns are an accepted book's, the set is the published one and the prices are its prices
+-- THE RESULT, where the columns are an accepted book's, the set is the published one and the day is its day
 abbrev pub PublishedFrom : (count : ℕ) (ends records sides prices quantities brecords bsides bhours bprices bquantities : List ℕ) (set : ℕ)
-    (middles result : List ℕ) → Type 0
-PublishedFrom count ends records sides prices quantities brecords bsides bhours bprices bquantities set middles result =
+    (day : code-day.Day) (result : List ℕ) → Type 0
+PublishedFrom count ends records sides prices quantities brecords bsides bhours bprices bquantities set day result =
     (b : List ℕ) → Accepted b → StepColumns b ends records sides prices quantities →
     BlockColumns (length bsides) b (length bsides) brecords bsides bhours bprices bquantities → decisions (length bsides) set ≡ outcome (dayFrom b) →
-    ((h : ℕ) → 1 ≤ h → h ≤ 24 → ofHour middles h ≡ setPrices (dayFrom b) (taken (dayFrom b .blocks) (outcome (dayFrom b))) h) →
-    count ≡ recordCount b → result ≡ resultBytes b
+    DayOf (dayFrom b) (outcome (dayFrom b)) day → count ≡ recordCount b → result ≡ resultBytes b
 
 abbrev pub PublishedIn : (count : ℕ) (ends records sides prices quantities : List ℕ) (blocks : Blocks) (set : ℕ) (day : code-day.Day) (result : List ℕ) → Type 0
 PublishedIn count ends records sides prices quantities blocks set day result =

@@ -44,7 +44,17 @@ fn clear_accepted(book: &[u8], result: &mut [u8])
     );
     let hours = prepared.hours;
     let columns = prepared.columns;
-    let best = find(&low, &gap, &hours, &columns, blocks.count as u32);
+    let best = find(
+        &low,
+        &gap,
+        &hours,
+        &columns,
+        &sides,
+        &prices,
+        &quantities,
+        &ends,
+        blocks.count as u32,
+    );
     publish(
         count,
         &sides,

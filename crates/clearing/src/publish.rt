@@ -1,5 +1,5 @@
-// The publication: what the steps of each hour get at its price, what is traded, the welfare, and with them the
-// result's bytes. Assumes nothing.
+// The publication: what the steps of each hour get at its price, the welfare, and with them and the day the result's
+// bytes. Assumes nothing.
 ghost use mathlib.Core.Path.{_≡_};
 ghost use Prim.Native.Nat.{_+_, _-_, _*_, _^_, _≤_};
 ghost use lib.ListN.{length, getD};
@@ -8,9 +8,9 @@ ghost use Rattle.records.specs.Records.{hourCount};
 ghost use Rattle.rules.specs.Hour.{bySide, when};
 ghost use Rattle.orders.specs.Columns.{sideFor};
 ghost use Rattle.pricing.specs.Curves.{Columns};
-ghost use Rattle.search.specs.Search.{Small, ofHour};
-ghost use Rattle.clearing.specs.Publish.{HourDone, HourPut, PartSized, SumsOf, WorthOf, HoursDone, StepsSized, TradersSized, Priced};
-ghost use Rattle.clearing.specs.Publish.{stepsAt, salesAt, buysAt, Buffer, RowsOf, PublishedFrom, PublishedIn, Publishable};
+ghost use Rattle.search.specs.Search.{Small, ofHour, PartSized, StepsSized, stepsAt};
+ghost use Rattle.clearing.specs.Publish.{HourDone, HourPut, SumsOf, WorthOf, HoursDone, TradersSized, Priced};
+ghost use Rattle.clearing.specs.Publish.{salesAt, buysAt, Buffer, RowsOf, PublishedFrom, PublishedIn, Publishable};
 use orders::Blocks;
 use pricing::blocks::trades_of;
 use pricing::execution::amounts_at;
@@ -21,22 +21,19 @@ use result::with_rows;
 use result::write_result;
 use search::Day;
 
-// What quantities of steps buy, and what they are worth: the value of the buys and the cost of the sells.
+// What quantities are worth: the value of the buys and the cost of the sells.
 pub struct Sums {
-    pub bought: u64,
     pub value: u64,
     pub cost: u64,
 }
 
 impl Sums {
-    // One quantity more, with what it is worth.
-    fn add(mut self, side: u8, quantity: u64, worth: u64) -> Sums
-        requires { ⌜ (self .bought ≤ 2 ^ 62) × (self .value ≤ 2 ^ 62) × (self .cost ≤ 2 ^ 62) × (quantity ≤ 2 ^ 62) × (worth ≤ 2 ^ 62) ⌝ }
-        ensures { λ r. ⌜ (r .bought ≡ self .bought + bySide (sideFor side) quantity 0) × (r .value ≡ self .value + bySide (sideFor side) worth 0)
-            × (r .cost ≡ self .cost + bySide (sideFor side) 0 worth) ⌝ }
+    // What one quantity more is worth.
+    fn add(mut self, side: u8, worth: u64) -> Sums
+        requires { ⌜ (self .value ≤ 2 ^ 62) × (self .cost ≤ 2 ^ 62) × (worth ≤ 2 ^ 62) ⌝ }
+        ensures { λ r. ⌜ (r .value ≡ self .value + bySide (sideFor side) worth 0) × (r .cost ≡ self .cost + bySide (sideFor side) 0 worth) ⌝ }
     {
         if side == 0 {
-            self.bought += quantity;
             self.value += worth;
         } else {
             self.cost += worth;
@@ -48,18 +45,13 @@ impl Sums {
 // The sums of the columns' steps with a quantity for each.
 fn sums_of(sides: &[u8], prices: &[u32], values: &[u32]) -> Sums
     requires { ⌜ Columns (now sides) (now prices) (now values) × Small 300000 (now prices) × Small 99999 (now values) ⌝ }
-    ensures { λ r. ⌜ SumsOf (now (sides .entry)) (now (prices .entry)) (now (values .entry)) (r .bought) (r .value) (r .cost) ⌝ }
+    ensures { λ r. ⌜ SumsOf (now (sides .entry)) (now (prices .entry)) (now (values .entry)) (r .value) (r .cost) ⌝ }
 {
-    let mut sums = Sums {
-        bought: 0,
-        value: 0,
-        cost: 0,
-    };
+    let mut sums = Sums { value: 0, cost: 0 };
     let mut i: usize = 0;
     while i < sides.len() {
-        let quantity = values[i] as u64;
-        let worth = quantity * (prices[i] as u64);
-        sums = sums.add(sides[i], quantity, worth);
+        let worth = (values[i] as u64) * (prices[i] as u64);
+        sums = sums.add(sides[i], worth);
         i += 1;
     }
     sums
@@ -77,8 +69,8 @@ fn fill_hour(
 ) -> Sums
     requires { ⌜ Columns (now sides) (now prices) (now quantities) × (length (now sides) ≡ length (now out)) × (1 ≤ price) × (sales ≤ 1600)
         × (buys ≤ 1600) × Small 300000 (now prices) × Small 99999 (now quantities) ⌝ }
-    ensures { λ r. ⌜ HourDone (now (sides .entry)) (now (prices .entry)) (now (quantities .entry)) sales buys price (now (out .exit)) (r .bought)
-        (r .value) (r .cost) ⌝ }
+    ensures { λ r. ⌜ HourDone (now (sides .entry)) (now (prices .entry)) (now (quantities .entry)) sales buys price (now (out .exit)) (r .value)
+        (r .cost) ⌝ }
 {
     let net = (2097152 + sales - buys) as u32;
     let amounts = amounts_at(sides, prices, quantities, net, price);
@@ -101,7 +93,7 @@ fn put_hour(
     requires { ⌜ PartSized (now sides) (now prices) (now quantities) from to × (to ≤ length (now values)) × (1 ≤ price) × (sales ≤ 1600)
         × (buys ≤ 1600) ⌝ }
     ensures { λ r. ⌜ HourPut (now (sides .entry)) (now (prices .entry)) (now (quantities .entry)) from to sales buys price (now (values .entry))
-        (now (values .exit)) (r .bought) (r .value) (r .cost) ⌝ }
+        (now (values .exit)) (r .value) (r .cost) ⌝ }
 {
     fill_hour(
         &sides[from..to],
@@ -131,30 +123,19 @@ fn blocks_worth(sides: &[u8], hours: &[u32], prices: &[u32], quantities: &[u32],
     requires { ⌜ TradersSized (now sides) (now hours) (now quantities) × (length (now sides) ≡ length (now prices)) × Small 300000 (now prices) ⌝ }
     ensures { λ r. ⌜ WorthOf (now (sides .entry)) (now (hours .entry)) (now (prices .entry)) (now (quantities .entry)) set (r .value) (r .cost) ⌝ }
 {
-    let mut sums = Sums {
-        bought: 0,
-        value: 0,
-        cost: 0,
-    };
+    let mut sums = Sums { value: 0, cost: 0 };
     let mut rest = set;
     let mut i: usize = 0;
     while i < sides.len() {
         let worth = block_worth(rest % 2, hours[i], prices[i], quantities[i]);
-        sums = sums.add(sides[i], 0, worth);
+        sums = sums.add(sides[i], worth);
         rest = rest / 2;
         i += 1;
     }
     sums
 }
 
-// What is traded in each hour, and the value and the cost of all steps.
-pub struct Hours {
-    pub traded: [u32; 24],
-    pub value: u64,
-    pub cost: u64,
-}
-
-// What the steps of each hour get, hour after hour, into values.
+// What the steps of each hour get, hour after hour, into values, and the value and the cost of all of it.
 fn fill_hours(
     sides: &[u8],
     prices: &[u32],
@@ -166,15 +147,14 @@ fn fill_hours(
     set: u32,
     middles: [u32; 24],
     values: &mut [u32],
-) -> Hours
+) -> Sums
     requires { ⌜ StepsSized ends (now sides) (now prices) (now quantities) × TradersSized (now bsides) (now bhours) (now bquantities)
         × Priced middles × (getD ends 24 0 ≤ length (now values)) ⌝ }
     ensures { λ r. ⌜ HoursDone ends (stepsAt ends (now (sides .entry)) (now (prices .entry)) (now (quantities .entry)))
         (salesAt (now (bsides .entry)) (now (bhours .entry)) (now (bquantities .entry)) set)
         (buysAt (now (bsides .entry)) (now (bhours .entry)) (now (bquantities .entry)) set)
-        (ofHour middles) 24 (now (values .exit)) (r .traded) (r .value) (r .cost) ⌝ }
+        (ofHour middles) 24 (now (values .exit)) (r .value) (r .cost) ⌝ }
 {
-    let mut traded = [0u32; 24];
     let mut value: u64 = 0;
     let mut cost: u64 = 0;
     let mut h: usize = 0;
@@ -193,16 +173,11 @@ fn fill_hours(
             middles[h],
             values,
         );
-        traded[h] = (sums.bought + trades.buys) as u32;
         value += sums.value;
         cost += sums.cost;
         h += 1;
     }
-    Hours {
-        traded: traded,
-        value: value,
-        cost: cost,
-    }
+    Sums { value, cost }
 }
 
 // The difference, or 0.
@@ -229,7 +204,7 @@ fn rows_of(
     with_rows(rows, records, values)
 }
 
-// The result out of the columns, the set and its prices.
+// The result out of the columns, the set and its day.
 fn publish_columns(
     count: usize,
     sides: &[u8],
@@ -243,19 +218,21 @@ fn publish_columns(
     bprices: &[u32],
     bquantities: &[u32],
     set: u32,
-    middles: [u32; 24],
+    day: Day,
     result: &mut [u8],
 )
     requires { ⌜ StepsSized ends (now sides) (now prices) (now quantities) × (getD ends 24 0 ≤ length (now records))
         × TradersSized (now bsides) (now bhours) (now bquantities) × (length (now bsides) ≡ length (now brecords))
-        × (length (now bsides) ≡ length (now bprices)) × Small 300000 (now bprices) × Priced middles × Buffer count (now result) ⌝ }
+        × (length (now bsides) ≡ length (now bprices)) × Small 300000 (now bprices) × Priced (day .prices) × Buffer count (now result) ⌝ }
     ensures { λ _. ⌜ PublishedFrom count ends (now (records .entry)) (now (sides .entry)) (now (prices .entry)) (now (quantities .entry))
         (now (brecords .entry)) (now (bsides .entry)) (now (bhours .entry)) (now (bprices .entry))
-        (now (bquantities .entry)) set middles (now (result .exit)) ⌝ }
+        (now (bquantities .entry)) set day (now (result .exit)) ⌝ }
 {
     let n = ends[24] as usize;
+    let middles = day.prices;
+    let traded = day.quantities;
     let mut values = [0; 2048];
-    let hours = fill_hours(
+    let steps = fill_hours(
         sides,
         prices,
         quantities,
@@ -268,9 +245,8 @@ fn publish_columns(
         &mut values,
     );
     let worth = blocks_worth(bsides, bhours, bprices, bquantities, set);
-    let welfare = less(hours.value + worth.value, hours.cost + worth.cost);
+    let welfare = less(steps.value + worth.value, steps.cost + worth.cost);
     let rows = rows_of(&records[..n], &values[..n], brecords, bquantities, set);
-    let traded = hours.traded;
     write_result(result, count, welfare, middles, traded, &rows);
 }
 
@@ -297,7 +273,6 @@ pub fn publish(
     let bhours = blocks.hours;
     let bprices = blocks.prices;
     let bquantities = blocks.quantities;
-    let middles = day.prices;
     publish_columns(
         count,
         sides,
@@ -311,7 +286,7 @@ pub fn publish(
         &bprices[..m],
         &bquantities[..m],
         set,
-        middles,
+        day,
         result,
     );
 }

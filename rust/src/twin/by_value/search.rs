@@ -1,8 +1,9 @@
 // Written by `twin_source` from crates/search/src/lib.rt.
 // The search over the blocks: each first taken and then left out, by loss at fixed hourly prices. Its tables hold, for each hour (a row of 1,602 places,
 // hour 1 first), the hour's prices and gaps at each place; a place is what the taken blocks sell and the left-out blocks would buy in the hour.
+use crate::twin::by_value::pricing::execution::traded_at;
 
-// The price of each hour, and the quantity at which its blocks stand (its place).
+// The price and the traded quantity of each hour.
 #[derive(Clone, Copy)]
 pub struct Day {
     pub prices: [u32; 24],
@@ -127,41 +128,6 @@ pub struct Node {
     pub places: [u32; 24],
 }
 
-// All blocks are decided: the set becomes the best where it is lawful and loses less.
-fn decide(
-    low: &[u32],
-    gap: &[u32],
-    hours: &[u32],
-    blocks: &[u32],
-    count: u32,
-    node: Node,
-    best: Best,
-) -> Best
-{
-    let places = node.places;
-    let gaps = gaps_at(gap, &hours[0..24], &hours[24..48], places);
-    if !gaps.clears {
-        return best;
-    }
-    let total = node.loss + gaps.sum;
-    if best.limit <= total {
-        return best;
-    }
-    let prices = prices_at(low, places);
-    if !keeps_limits(blocks, count as usize, node.set, &prices, &prices) {
-        return best;
-    }
-    let day = Day {
-        prices: prices,
-        quantities: places,
-    };
-    Best {
-        limit: total,
-        set: node.set,
-        day: day,
-    }
-}
-
 // 1 where the test passes, else 0.
 fn number_of(test: bool) -> u32
 {
@@ -180,6 +146,122 @@ fn moved_where(test: bool, places: [u32; 24], blocks: &[u32], i: usize) -> [u32;
         h += 1;
     }
     r
+}
+
+// What blocks sell and buy in each hour.
+#[derive(Clone, Copy)]
+pub struct Trades {
+    pub sales: [u32; 24],
+    pub buys: [u32; 24],
+}
+
+// What the first count blocks that the set holds sell and buy.
+fn set_trades(blocks: &[u32], count: usize, set: u32) -> Trades
+{
+    let mut sales = [0; 24];
+    let mut buys = [0; 24];
+    let mut i = count;
+    while 0 < i {
+        i -= 1;
+        let chosen = (set >> (i as u32)) % 2 == 1;
+        let sold = moved_where(chosen & (blocks[i] != 0), sales, blocks, i);
+        let bought = moved_where(chosen & (blocks[i] == 0), buys, blocks, i);
+        sales = sold;
+        buys = bought;
+    }
+    Trades { sales, buys }
+}
+
+// What is traded in an hour at its price, with what the blocks sell and buy; its steps stand from one place of the columns to another.
+fn hour_traded(
+    sides: &[u8],
+    prices: &[u32],
+    quantities: &[u32],
+    from: usize,
+    to: usize,
+    sales: u32,
+    buys: u32,
+    price: u32,
+) -> u32
+{
+    traded_at(
+        &sides[from..to],
+        &prices[from..to],
+        &quantities[from..to],
+        sales,
+        buys,
+        price,
+    )
+}
+
+// What is traded in each hour at its price.
+fn traded_in(
+    sides: &[u8],
+    prices: &[u32],
+    quantities: &[u32],
+    ends: &[u16],
+    trades: Trades,
+    middles: [u32; 24],
+) -> [u32; 24]
+{
+    let sales = trades.sales;
+    let buys = trades.buys;
+    let mut traded = [0; 24];
+    let mut h: usize = 0;
+    while h < 24 {
+        traded[h] = hour_traded(
+            sides,
+            prices,
+            quantities,
+            ends[h] as usize,
+            ends[h + 1] as usize,
+            sales[h],
+            buys[h],
+            middles[h],
+        );
+        h += 1;
+    }
+    traded
+}
+
+// All blocks are decided: the set becomes the best where it is lawful and loses less, with its day.
+fn decide(
+    low: &[u32],
+    gap: &[u32],
+    hours: &[u32],
+    blocks: &[u32],
+    sides: &[u8],
+    prices: &[u32],
+    quantities: &[u32],
+    ends: &[u16],
+    count: u32,
+    node: Node,
+    best: Best,
+) -> Best
+{
+    let places = node.places;
+    let gaps = gaps_at(gap, &hours[0..24], &hours[24..48], places);
+    if !gaps.clears {
+        return best;
+    }
+    let total = node.loss + gaps.sum;
+    if best.limit <= total {
+        return best;
+    }
+    let middles = prices_at(low, places);
+    if !keeps_limits(blocks, count as usize, node.set, &middles, &middles) {
+        return best;
+    }
+    let trades = set_trades(blocks, count as usize, node.set);
+    let day = Day {
+        prices: middles,
+        quantities: traded_in(sides, prices, quantities, ends, trades, middles),
+    };
+    Best {
+        limit: total,
+        set: node.set,
+        day: day,
+    }
 }
 
 // The node with block number at taken: a sell moves the places on in its hours.
@@ -473,6 +555,10 @@ fn explore(
     gap: &[u32],
     hours: &[u32],
     blocks: &[u32],
+    sides: &[u8],
+    prices: &[u32],
+    quantities: &[u32],
+    ends: &[u16],
     count: u32,
     left: u32,
     out: u32,
@@ -488,25 +574,89 @@ fn explore(
         return best;
     }
     if left == 0 {
-        return decide(low, gap, hours, blocks, count, node, best);
+        return decide(
+            low,
+            gap,
+            hours,
+            blocks,
+            sides,
+            prices,
+            quantities,
+            ends,
+            count,
+            node,
+            best,
+        );
     }
     let at = count - left;
     let after = left - 1;
     let still = judged.out / 2;
     let without = leave(blocks, at, node);
     if is_out(judged.out, 0) | is_barred(blocks, at as usize, node.set) {
-        return explore(low, gap, hours, blocks, count, after, still, without, best);
+        return explore(
+            low,
+            gap,
+            hours,
+            blocks,
+            sides,
+            prices,
+            quantities,
+            ends,
+            count,
+            after,
+            still,
+            without,
+            best,
+        );
     }
     let with = take(blocks, at, node);
-    let taken = explore(low, gap, hours, blocks, count, after, still, with, best);
+    let taken = explore(
+        low,
+        gap,
+        hours,
+        blocks,
+        sides,
+        prices,
+        quantities,
+        ends,
+        count,
+        after,
+        still,
+        with,
+        best,
+    );
     if is_due(blocks, at as usize, node.set) {
         return taken;
     }
-    explore(low, gap, hours, blocks, count, after, still, without, taken)
+    explore(
+        low,
+        gap,
+        hours,
+        blocks,
+        sides,
+        prices,
+        quantities,
+        ends,
+        count,
+        after,
+        still,
+        without,
+        taken,
+    )
 }
 
 // The published set: a pass with a small threshold first, doubled until a pass finds a set. A pass that finds one has found the published one.
-pub fn find(low: &[u32], gap: &[u32], hours: &[u32], blocks: &[u32], count: u32) -> Best
+pub fn find(
+    low: &[u32],
+    gap: &[u32],
+    hours: &[u32],
+    blocks: &[u32],
+    sides: &[u8],
+    prices: &[u32],
+    quantities: &[u32],
+    ends: &[u16],
+    count: u32,
+) -> Best
 {
     let day = Day {
         prices: [0; 24],
@@ -524,7 +674,21 @@ pub fn find(low: &[u32], gap: &[u32], hours: &[u32], blocks: &[u32], count: u32)
             set: 0,
             day: day,
         };
-        let found = explore(low, gap, hours, blocks, count, count, 0, root, start);
+        let found = explore(
+            low,
+            gap,
+            hours,
+            blocks,
+            sides,
+            prices,
+            quantities,
+            ends,
+            count,
+            count,
+            0,
+            root,
+            start,
+        );
         if found.limit < limit {
             return found;
         }
@@ -535,5 +699,19 @@ pub fn find(low: &[u32], gap: &[u32], hours: &[u32], blocks: &[u32], count: u32)
         set: 0,
         day: day,
     };
-    explore(low, gap, hours, blocks, count, count, 0, root, start)
+    explore(
+        low,
+        gap,
+        hours,
+        blocks,
+        sides,
+        prices,
+        quantities,
+        ends,
+        count,
+        count,
+        0,
+        root,
+        start,
+    )
 }

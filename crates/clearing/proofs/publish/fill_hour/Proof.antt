@@ -45,7 +45,7 @@ returns c =
     let m = o .before .before in
     let s = m .before .before .before .before .before in
     let pre = s .pre in
-    hour-done _ _ _ _ (s .args .sales) (s .args .buys) (2097152 + s .args .sales - s .args .buys) _ _ _ _
+    hour-done _ _ _ _ (s .args .sales) (s .args .buys) (2097152 + s .args .sales - s .args .buys) _ _ _
     (omega (arith, pre .0 .asManyQuantities, pre .1, o .share-out .kept .1 .1 .1 .1 .1 .0)) (omega (arith, pre .4))
     (executed-by _ _ _ _ _ _ _ _ (m .amounts-at .ensures) (o .share-out .ensures)) (c .sums-of .ensures)
 

@@ -3,27 +3,28 @@ use Prim.Native.Nat.{_+_, _-_, _≤_}
 use mathlib.Core.Path.{_≡_, refl, _∙_}
 use native.Mathlib.Omega.{arith}
 use lib.ListN.{length}
-use Rattle.search.specs.Search.{ofHour}
-use Rattle.clearing.specs.Publish.{HoursDone, stepsAt, salesAt, buysAt}
-use Rattle.clearing.proofs.HoursLaws.{trades-are, trades-most, hour-inside, hour-part, hours-none, hours-more}
+use Rattle.search.specs.Search.{ofHour, stepsAt}
+use Rattle.search.proofs.StepLaws.{hour-inside, hour-part}
+use Rattle.clearing.specs.Publish.{HoursDone, salesAt, buysAt}
+use Rattle.clearing.proofs.HoursLaws.{trades-are, trades-most, hours-none, hours-more}
 use borrow.Author.Needs.{needs}
 use Rattle.clearing.proofs.publish.fill_hours.Statement.{statement}
 use Rattle.clearing.proofs.publish.fill_hours.Tie as tie
 
 abbrev Inv-loop : tie.InvT-loop
-Inv-loop sides prices quantities bsides bhours bquantities set values₀ ends middles traded₀ value₀ cost₀ h₀ values traded value cost h =
+Inv-loop sides prices quantities bsides bhours bquantities set values₀ ends middles value₀ cost₀ h₀ values value cost h =
     (length values ≡ length values₀) × (h ≤ 24)
     × HoursDone ends (stepsAt ends sides prices quantities) (salesAt bsides bhours bquantities set) (buysAt bsides bhours bquantities set)
-    (ofHour middles) h values traded value cost
+    (ofHour middles) h values value cost
 
 abbrev μ-loop : tie.MeasureT-loop
-μ-loop sides prices quantities bsides bhours bquantities set values₀ ends middles traded₀ value₀ cost₀ h₀ values traded value cost h =
+μ-loop sides prices quantities bsides bhours bquantities set values₀ ends middles value₀ cost₀ h₀ values value cost h =
     24 - h
 
 loop-holds : tie.Need-loop-holds Inv-loop μ-loop
 loop-holds c =
     let s = c .before .before .before .before .before .before .before in
-    (refl, omega arith, hours-none _ _ _ _ _ _ _ _ _ refl (s .pre .0 .start))
+    (refl, omega arith, hours-none _ _ _ _ _ _ _ _ (s .pre .0 .start))
 
 mul-from : tie.Need-mul-from Inv-loop μ-loop
 mul-from c = search needs
@@ -70,28 +71,6 @@ put-hour-requires c κs =
     let inside = hour-inside _ _ _ _ (v .loop .h) (s .pre .0) h in
     (hour-part _ _ _ _ (v .loop .h) (s .pre .0) h, omega (arith, s .pre .3, v .loop .inv .0), s .pre .2 (v .loop .h) h, t .0, t .1)
 
-add-traded : tie.Need-add-traded Inv-loop μ-loop
-add-traded c =
-    let p = c .before .before .before .before in
-    let w = p .before .before in
-    let s = w .before .before .before .before .before .before .before .before .before .before in
-    let t = trades-most _ _ _ _ _ _ _ (s .pre .1) (w .trades-of .ensures) in
-    record { fits = omega (arith, t .1, p .put-hour .ensures .done .boughtFits) }
-
-cast-traded : tie.Need-cast-traded Inv-loop μ-loop
-cast-traded c =
-    let p = c .before .before .before .before in
-    let w = p .before .before in
-    let s = w .before .before .before .before .before .before .before .before .before .before in
-    let t = trades-most _ _ _ _ _ _ _ (s .pre .1) (w .trades-of .ensures) in
-    record { fits = omega (arith, t .1, p .put-hour .ensures .done .boughtFits) }
-
-mul-traded : tie.Need-mul-traded Inv-loop μ-loop
-mul-traded c = search needs
-
-array-write-traded : tie.Need-array-write-traded Inv-loop μ-loop
-array-write-traded c = search needs
-
 add-value : tie.Need-add-value Inv-loop μ-loop
 add-value c = search needs
 
@@ -106,7 +85,7 @@ loop-less c = search needs
 
 loop-again : tie.Need-loop-again Inv-loop μ-loop
 loop-again c =
-    let p = c .before .before .before .before .before .before in
+    let p = c .before .before .before .before in
     let w = p .before .before in
     let v = w .before .before in
     let h = w .before .loop-test .taken in
@@ -115,7 +94,7 @@ loop-again c =
     let one : v .loop .h + 1 - 1 ≡ v .loop .h = omega arith in (
       p .put-hour .ensures .sameLength ∙ v .loop .inv .0,
       omega arith,
-      hours-more _ _ _ _ _ _ _ (v .loop .h) _ _ _ _ _ _ _ _ _ _ _ h (t .0) (t .1) (rw one) (s .pre .0 .rise (v .loop .h) h) (v .loop .inv .2)
+      hours-more _ _ _ _ _ _ _ (v .loop .h) _ _ _ _ _ _ _ _ _ h (t .0) (t .1) (rw one) (s .pre .0 .rise (v .loop .h) h) (v .loop .inv .2)
           (p .put-hour .ensures),
     )
 
@@ -148,10 +127,6 @@ fill-hours-spec =
     mul-put-hour
     array-read-put-hour
     put-hour-requires
-    add-traded
-    cast-traded
-    mul-traded
-    array-write-traded
     add-value
     add-cost
     add-h

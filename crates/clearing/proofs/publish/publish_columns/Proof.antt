@@ -9,9 +9,25 @@ use borrow.Author.Needs.{needs}
 use Rattle.clearing.proofs.publish.publish_columns.Statement.{statement}
 use Rattle.clearing.proofs.publish.publish_columns.Tie as tie
 
--- an array of 24
-size : (s : tie.Start) → length (s .args .middles) ≡ 24
-size s = search needs
+-- THE STATES on the way: the start behind the hours, the hours behind the welfare
+abbrev start : tie.After-fill-hours → tie.Start
+start c = c .before .before .before .before .before .before .before .before .before .before .before .before .before .before
+
+abbrev filled : tie.After-less → tie.After-fill-hours
+filled c = c .before .before .before .before .before .before .before
+
+-- arrays of 24
+prices-size : (s : tie.Start) → length (s .args .day .prices) ≡ 24
+prices-size s = search needs
+
+traded-size : (s : tie.Start) → length (s .args .day .quantities) ≡ 24
+traded-size s = search needs
+
+-- the values have room for the steps
+room : (f : tie.After-fill-hours) → getD (start f .args .t6) 24 0 ≤ length (f .fill-hours .last .1 .1 .1 .1 .1 .1 .1 .1 .1 .0)
+room f =
+    let whole : length (f .fill-hours .last .1 .1 .1 .1 .1 .1 .1 .1 .1 .0) ≡ 2048 = f .fill-hours .kept .1 .1 .1 .1 .1 .1 .1 .1 .1 .0 ∙ refl in
+    omega (arith, start f .pre .0 .fit)
 
 array-read-n : tie.Need-array-read-n
 array-read-n c = search needs
@@ -38,44 +54,25 @@ less-requires : tie.Need-less-requires
 less-requires c κs = search needs
 
 slice-aggregate-rows-of : tie.Need-slice-aggregate-rows-of
-slice-aggregate-rows-of c =
-    let m = c .before .before .before .before .before .before .before .before .before .before in
-    sym (length-take-le _ _ (m .before .before .before .before .before .before .before .before .before .before .pre .1))
+slice-aggregate-rows-of c = sym (length-take-le _ _ (start (filled (c .before)) .pre .1))
 
 array-share-prefix-values : tie.Need-array-share-prefix-values
-array-share-prefix-values c =
-    let l = c .before in
-    let f = l .before .before .before .before .before .before .before in
-    let s = f .before .before .before .before .before .before .before .before .before .before .before .before in
-    let whole : length (f .fill-hours .last .1 .1 .1 .1 .1 .1 .1 .1 .1 .0) ≡ 2048 = f .fill-hours .kept .1 .1 .1 .1 .1 .1 .1 .1 .1 .0 ∙ refl in
-    let fits : getD (s .args .t6) 24 0 ≤ length (f .fill-hours .last .1 .1 .1 .1 .1 .1 .1 .1 .1 .0) = omega (arith, s .pre .0 .fit) in
-    fits
+array-share-prefix-values c = room (filled (c .before))
 
 slice-aggregate-rows-of-2 : tie.Need-slice-aggregate-rows-of-2
-slice-aggregate-rows-of-2 c =
-    let l = c .before .before in
-    let f = l .before .before .before .before .before .before .before in
-    let s = f .before .before .before .before .before .before .before .before .before .before .before .before in
-    let whole : length (f .fill-hours .last .1 .1 .1 .1 .1 .1 .1 .1 .1 .0) ≡ 2048 = f .fill-hours .kept .1 .1 .1 .1 .1 .1 .1 .1 .1 .0 ∙ refl in
-    let fits : getD (s .args .t6) 24 0 ≤ length (f .fill-hours .last .1 .1 .1 .1 .1 .1 .1 .1 .1 .0) = omega (arith, s .pre .0 .fit) in
-    sym (length-take-le _ _ fits)
+slice-aggregate-rows-of-2 c = sym (length-take-le _ _ (room (filled (c .before .before))))
 
 rows-of-requires : tie.Need-rows-of-requires
 rows-of-requires c κs =
-    let l = c .before .before in
-    let f = l .before .before .before .before .before .before .before in
-    let s = f .before .before .before .before .before .before .before .before .before .before .before .before in
-    let whole : length (f .fill-hours .last .1 .1 .1 .1 .1 .1 .1 .1 .1 .0) ≡ 2048 = f .fill-hours .kept .1 .1 .1 .1 .1 .1 .1 .1 .1 .0 ∙ refl in
-    let fits : getD (s .args .t6) 24 0 ≤ length (f .fill-hours .last .1 .1 .1 .1 .1 .1 .1 .1 .1 .0) = omega (arith, s .pre .0 .fit) in (
-      length-take-le _ _ (s .pre .1) ∙ sym (length-take-le _ _ fits),
-      omega (arith, s .pre .3, s .pre .2 .asManyQuantities),
-      omega (arith, s .pre .3, s .pre .2 .few),
+    let f = filled (c .before .before) in
+    let p = start f .pre in (
+      length-take-le _ _ (p .1) ∙ sym (length-take-le _ _ (room f)),
+      omega (arith, p .3, p .2 .asManyQuantities),
+      omega (arith, p .3, p .2 .few),
     )
 
 write-result-requires : tie.Need-write-result-requires
-write-result-requires c κs =
-    let m = c .before .before .before .before .before .before .before .before .before .before .before .before .before in
-    m .before .before .before .before .before .before .before .before .before .before .before .before .pre .7
+write-result-requires c κs = start (filled (c .before .before .before .before .before)) .pre .7
 
 same-length : tie.Need-same-length
 same-length c = search needs
@@ -83,15 +80,15 @@ same-length c = search needs
 returns : tie.Need-returns
 returns c =
     let w = c .before .before in
-    let r = w .before .before .before .before in
+    let r = w .before .before .before in
     let l = r .before .before .before in
     let g = l .before .before .before .before .before in
-    let f = l .before .before .before .before .before .before .before in
-    let s = f .before .before .before .before .before .before .before .before .before .before .before .before in
-    λ b a steps blocks chosen priced same.
-    published-from b _ _ _ _ _ _ _ _ _ _ _ (s .args .set) a steps blocks chosen priced (s .pre .3) (s .pre .2 .asManyHours) (s .pre .4)
-    (s .pre .2 .asManyQuantities) _ (f .fill-hours .result .traded) _ _ _ _ (f .fill-hours .ensures) (g .blocks-worth .ensures) (r .rows-of .result)
-    (r .rows-of .ensures) _ (s .args .count) _ (size s) (f .fill-hours .ensures .room) same (s .pre .7 .1) (l .less .ensures) (w .write-result .ensures)
+    let f = filled l in
+    let s = start f in
+    λ b a steps blocks chosen of same.
+    published-from b _ _ _ _ _ _ _ _ _ _ (s .args .set) (s .args .day) a steps blocks chosen of (s .pre .3) (s .pre .2 .asManyHours) (s .pre .4)
+    (s .pre .2 .asManyQuantities) _ _ _ _ _ (f .fill-hours .ensures) (g .blocks-worth .ensures) (r .rows-of .result) (r .rows-of .ensures) _
+    (s .args .count) _ (prices-size s) (traded-size s) same (s .pre .7 .1) (l .less .ensures) (w .write-result .ensures)
 
 pub publish-columns-spec : {M : Type 1} → statement M
 publish-columns-spec =

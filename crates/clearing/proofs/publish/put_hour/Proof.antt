@@ -1,7 +1,8 @@
 -- `clearing::publish::put_hour` meets its contract: the part is an hour's columns, and what is put into it stands there. Assumes nothing.
 use mathlib.Core.Path.{sym, _∙_}
 use borrow.Rule.Slice.PartMut.{mid-len}
-use Rattle.clearing.proofs.HoursLaws.{small-part, part-columns, hour-put}
+use Rattle.search.proofs.StepLaws.{small-part, part-columns}
+use Rattle.clearing.proofs.HoursLaws.{hour-put}
 use borrow.Author.Needs.{needs}
 use Rattle.clearing.proofs.publish.put_hour.Statement.{statement}
 use Rattle.clearing.proofs.publish.put_hour.Tie as tie
@@ -71,7 +72,7 @@ returns : tie.Need-returns
 returns c =
     let s = c .before .before .before .before .before .before .before .before .before .before .before in
     let p = s .pre .0 in
-    hour-put _ _ _ (s .args .from) (s .args .to) _ _ _ _ _ _ _ _ (p .ordered) (s .pre .1)
+    hour-put _ _ _ (s .args .from) (s .args .to) _ _ _ _ _ _ _ (p .ordered) (s .pre .1)
     (c .before .before .fill-hour .kept .1 .1 .1 .1 .1 .1 .0 ∙ mid-len (s .args .from) (s .args .to) _ (s .pre .1)) (c .before .before .fill-hour .ensures)
 
 pub put-hour-spec : {M : Type 1} → statement M

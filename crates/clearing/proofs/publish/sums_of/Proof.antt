@@ -8,24 +8,13 @@ use Rattle.clearing.proofs.publish.sums_of.Statement.{statement}
 use Rattle.clearing.proofs.publish.sums_of.Tie as tie
 
 abbrev Inv-loop : tie.InvT-loop
-Inv-loop sides prices values sums₀ i₀ sums i = Summing sides prices values (sums .bought) (sums .value) (sums .cost) i
+Inv-loop sides prices values sums₀ i₀ sums i = Summing sides prices values (sums .value) (sums .cost) i
 
 abbrev μ-loop : tie.MeasureT-loop
 μ-loop sides prices values sums₀ i₀ sums i = length sides - i
 
 loop-holds : tie.Need-loop-holds Inv-loop μ-loop
 loop-holds c = summing-none _ _ _
-
-mul-quantity : tie.Need-mul-quantity Inv-loop μ-loop
-mul-quantity c = search needs
-
-shared-slice-read-quantity : tie.Need-shared-slice-read-quantity Inv-loop μ-loop
-shared-slice-read-quantity c = search needs
-
-cast-quantity : tie.Need-cast-quantity Inv-loop μ-loop
-cast-quantity c =
-    let v = c .before .before in
-    record { fits = omega (arith, v .before .before .before .before .pre .2 (v .loop .i)) }
 
 mul-worth : tie.Need-mul-worth Inv-loop μ-loop
 mul-worth c = search needs
@@ -35,11 +24,22 @@ shared-slice-read-worth c = search needs
 
 cast-worth : tie.Need-cast-worth Inv-loop μ-loop
 cast-worth c =
+    let v = c .before .before in
+    record { fits = omega (arith, v .before .before .before .before .pre .2 (v .loop .i)) }
+
+mul-worth-2 : tie.Need-mul-worth-2 Inv-loop μ-loop
+mul-worth-2 c = search needs
+
+shared-slice-read-worth-2 : tie.Need-shared-slice-read-worth-2 Inv-loop μ-loop
+shared-slice-read-worth-2 c = search needs
+
+cast-worth-2 : tie.Need-cast-worth-2 Inv-loop μ-loop
+cast-worth-2 c =
     let v = c .before .before .before in
     record { fits = omega (arith, v .before .before .before .before .pre .1 (v .loop .i)) }
 
-mul-worth-2 : tie.Need-mul-worth-2 Inv-loop μ-loop
-mul-worth-2 c =
+mul-worth-3 : tie.Need-mul-worth-3 Inv-loop μ-loop
+mul-worth-3 c =
     let v = c .before .before .before in
     let pre = v .before .before .before .before .pre in
     record { fits = omega (arith, product-le _ _ 99999 300000 (pre .2 (v .loop .i)) (pre .1 (v .loop .i))) }
@@ -52,10 +52,8 @@ add-requires c κs =
     let v = c .before .before .before .before in
     let pre = v .before .before .before .before .pre in
     let k = v .loop .inv in (
-      omega (arith, k .boughtFits, k .inside, pre .0 .notTooMany),
       omega (arith, k .valueFits, k .inside, pre .0 .notTooMany),
       omega (arith, k .costFits, k .inside, pre .0 .notTooMany),
-      omega (arith, pre .2 (v .loop .i)),
       omega (arith, product-le _ _ 99999 300000 (pre .2 (v .loop .i)) (pre .1 (v .loop .i))),
     )
 
@@ -69,11 +67,11 @@ loop-again : tie.Need-loop-again Inv-loop μ-loop
 loop-again c =
     let v = c .before .before .before .before .before in
     let pre = v .before .before .before .before .pre in
-    summing-next _ _ _ (pre .0) _ _ _ _ _ _ _ (pre .1) (pre .2) (v .loop .inv) (c .before .before .before .before .loop-test .taken)
-    (c .add .ensures .0) (c .add .ensures .1) (c .add .ensures .2)
+    summing-next _ _ _ (pre .0) _ _ _ _ _ (pre .1) (pre .2) (v .loop .inv) (c .before .before .before .before .loop-test .taken)
+    (c .add .ensures .0) (c .add .ensures .1)
 
 returns : tie.Need-returns Inv-loop μ-loop
-returns c = summing-all _ _ _ (c .before .before .before .before .before .pre .0) _ _ _ _ (c .before .loop .inv) (c .loop-test .left)
+returns c = summing-all _ _ _ (c .before .before .before .before .before .pre .0) _ _ _ (c .before .loop .inv) (c .loop-test .left)
 
 pub sums-of-spec : {M : Type 1} → statement M
 sums-of-spec =
@@ -82,13 +80,13 @@ sums-of-spec =
     Inv-loop
     μ-loop
     loop-holds
-    mul-quantity
-    shared-slice-read-quantity
-    cast-quantity
     mul-worth
     shared-slice-read-worth
     cast-worth
     mul-worth-2
+    shared-slice-read-worth-2
+    cast-worth-2
+    mul-worth-3
     shared-slice-read-add
     add-requires
     add-i

@@ -1,6 +1,6 @@
 // Written by `twin_source` from crates/clearing/src/publish.rt.
-// The publication: what the steps of each hour get at its price, what is traded, the welfare, and with them the
-// result's bytes. Assumes nothing.
+// The publication: what the steps of each hour get at its price, the welfare, and with them and the day the result's
+// bytes. Assumes nothing.
 use crate::twin::by_value::clearing::result::block_values;
 use crate::twin::by_value::clearing::result::with_rows;
 use crate::twin::by_value::clearing::result::write_result;
@@ -11,20 +11,18 @@ use crate::twin::by_value::pricing::execution::share_out;
 use crate::twin::by_value::records::hour_count;
 use crate::twin::by_value::search::Day;
 
-// What quantities of steps buy, and what they are worth: the value of the buys and the cost of the sells.
+// What quantities are worth: the value of the buys and the cost of the sells.
 #[derive(Clone, Copy)]
 pub struct Sums {
-    pub bought: u64,
     pub value: u64,
     pub cost: u64,
 }
 
 impl Sums {
-    // One quantity more, with what it is worth.
-    fn add(mut self, side: u8, quantity: u64, worth: u64) -> Sums
+    // What one quantity more is worth.
+    fn add(mut self, side: u8, worth: u64) -> Sums
     {
         if side == 0 {
-            self.bought += quantity;
             self.value += worth;
         } else {
             self.cost += worth;
@@ -36,16 +34,11 @@ impl Sums {
 // The sums of the columns' steps with a quantity for each.
 fn sums_of(sides: &[u8], prices: &[u32], values: &[u32]) -> Sums
 {
-    let mut sums = Sums {
-        bought: 0,
-        value: 0,
-        cost: 0,
-    };
+    let mut sums = Sums { value: 0, cost: 0 };
     let mut i: usize = 0;
     while i < sides.len() {
-        let quantity = values[i] as u64;
-        let worth = quantity * (prices[i] as u64);
-        sums = sums.add(sides[i], quantity, worth);
+        let worth = (values[i] as u64) * (prices[i] as u64);
+        sums = sums.add(sides[i], worth);
         i += 1;
     }
     sums
@@ -105,31 +98,19 @@ fn block_worth(chosen: u32, hours: u32, price: u32, quantity: u32) -> u64
 // The value and the cost of the blocks that the set holds, the lowest bit for the first block.
 fn blocks_worth(sides: &[u8], hours: &[u32], prices: &[u32], quantities: &[u32], set: u32) -> Sums
 {
-    let mut sums = Sums {
-        bought: 0,
-        value: 0,
-        cost: 0,
-    };
+    let mut sums = Sums { value: 0, cost: 0 };
     let mut rest = set;
     let mut i: usize = 0;
     while i < sides.len() {
         let worth = block_worth(rest % 2, hours[i], prices[i], quantities[i]);
-        sums = sums.add(sides[i], 0, worth);
+        sums = sums.add(sides[i], worth);
         rest = rest / 2;
         i += 1;
     }
     sums
 }
 
-// What is traded in each hour, and the value and the cost of all steps.
-#[derive(Clone, Copy)]
-pub struct Hours {
-    pub traded: [u32; 24],
-    pub value: u64,
-    pub cost: u64,
-}
-
-// What the steps of each hour get, hour after hour, into values.
+// What the steps of each hour get, hour after hour, into values, and the value and the cost of all of it.
 fn fill_hours(
     sides: &[u8],
     prices: &[u32],
@@ -141,9 +122,8 @@ fn fill_hours(
     set: u32,
     middles: [u32; 24],
     values: &mut [u32],
-) -> Hours
+) -> Sums
 {
-    let mut traded = [0u32; 24];
     let mut value: u64 = 0;
     let mut cost: u64 = 0;
     let mut h: usize = 0;
@@ -162,16 +142,11 @@ fn fill_hours(
             middles[h],
             values,
         );
-        traded[h] = (sums.bought + trades.buys) as u32;
         value += sums.value;
         cost += sums.cost;
         h += 1;
     }
-    Hours {
-        traded: traded,
-        value: value,
-        cost: cost,
-    }
+    Sums { value, cost }
 }
 
 // The difference, or 0.
@@ -195,7 +170,7 @@ fn rows_of(
     with_rows(rows, records, values)
 }
 
-// The result out of the columns, the set and its prices.
+// The result out of the columns, the set and its day.
 fn publish_columns(
     count: usize,
     sides: &[u8],
@@ -209,13 +184,15 @@ fn publish_columns(
     bprices: &[u32],
     bquantities: &[u32],
     set: u32,
-    middles: [u32; 24],
+    day: Day,
     result: &mut [u8],
 )
 {
     let n = ends[24] as usize;
+    let middles = day.prices;
+    let traded = day.quantities;
     let mut values = [0; 2048];
-    let hours = fill_hours(
+    let steps = fill_hours(
         sides,
         prices,
         quantities,
@@ -228,9 +205,8 @@ fn publish_columns(
         &mut values,
     );
     let worth = blocks_worth(bsides, bhours, bprices, bquantities, set);
-    let welfare = less(hours.value + worth.value, hours.cost + worth.cost);
+    let welfare = less(steps.value + worth.value, steps.cost + worth.cost);
     let rows = rows_of(&records[..n], &values[..n], brecords, bquantities, set);
-    let traded = hours.traded;
     write_result(result, count, welfare, middles, traded, &rows);
 }
 
@@ -254,7 +230,6 @@ pub fn publish(
     let bhours = blocks.hours;
     let bprices = blocks.prices;
     let bquantities = blocks.quantities;
-    let middles = day.prices;
     publish_columns(
         count,
         sides,
@@ -268,7 +243,7 @@ pub fn publish(
         &bprices[..m],
         &bquantities[..m],
         set,
-        middles,
+        day,
         result,
     );
 }

@@ -1,6 +1,7 @@
 // Written by `twin_source` from crates/pricing/src/execution.rt.
 // The executed quantities of an hour at its price: strictly better steps in full, those at the price by the sharing rule, the others nothing.
 use crate::twin::by_value::pricing::hour::totals_at;
+use crate::twin::by_value::pricing::hour::totals_between;
 
 // What is left for the steps at the price: of the buys, and of the sells.
 #[derive(Clone, Copy)]
@@ -33,6 +34,26 @@ pub fn amounts_at(sides: &[u8], prices: &[u32], quantities: &[u32], net: u32, pr
         buys: buys,
         sells: sells,
     }
+}
+
+// One less, or 0.
+fn one_less(price: u32) -> u32
+{
+    if 1 <= price { price - 1 } else { 0 }
+}
+
+// What is traded in an hour at a clearing price, with what the blocks sell and buy.
+pub fn traded_at(
+    sides: &[u8],
+    prices: &[u32],
+    quantities: &[u32],
+    sales: u32,
+    buys: u32,
+    price: u32,
+) -> u32
+{
+    let totals = totals_between(sides, prices, quantities, one_less(price), price);
+    lesser(totals.above + (buys as u64), totals.upto + (sales as u64)) as u32
 }
 
 impl Amounts {

@@ -2,10 +2,11 @@
 // The price of an hour from its columns and N: the totals of its steps at a price, and the two ends of the clearing prices by bisection.
 use crate::twin::by_value::pricing::HourAnswer;
 
-// What steps buy strictly above a price, and sell at or below it.
+// What steps buy strictly above one price, and sell at or below another, or the same.
 #[derive(Clone, Copy)]
 pub struct Totals {
-    pub price: u32,
+    pub over: u32,
+    pub to: u32,
     pub above: u64,
     pub upto: u64,
 }
@@ -14,13 +15,12 @@ impl Totals {
     // One order more.
     fn add(mut self, side: u8, price: u32, quantity: u32) -> Totals
     {
-        let p = self.price;
         if side == 0 {
-            if p < price {
+            if self.over < price {
                 self.above += quantity as u64;
             }
         } else {
-            if price <= p {
+            if price <= self.to {
                 self.upto += quantity as u64;
             }
         }
@@ -28,11 +28,18 @@ impl Totals {
     }
 }
 
-// The totals of all steps of the columns, one order at a time.
-pub fn totals_at(sides: &[u8], prices: &[u32], quantities: &[u32], price: u32) -> Totals
+// The totals of all steps of the columns, one order at a time: what they buy over one price, and what they sell up to another.
+pub fn totals_between(
+    sides: &[u8],
+    prices: &[u32],
+    quantities: &[u32],
+    over: u32,
+    to: u32,
+) -> Totals
 {
     let mut totals = Totals {
-        price: price,
+        over: over,
+        to: to,
         above: 0,
         upto: 0,
     };
@@ -42,6 +49,12 @@ pub fn totals_at(sides: &[u8], prices: &[u32], quantities: &[u32], price: u32) -
         i += 1;
     }
     totals
+}
+
+// The totals at one price.
+pub fn totals_at(sides: &[u8], prices: &[u32], quantities: &[u32], price: u32) -> Totals
+{
+    totals_between(sides, prices, quantities, price, price)
 }
 
 // The least price at which the steps and N cover a margin, by bisection; the highest price where they do at none below it.

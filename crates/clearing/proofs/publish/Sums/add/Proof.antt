@@ -10,14 +10,11 @@ add-self c = search needs
 add-self-2 : tie.Need-add-self-2
 add-self-2 c = search needs
 
-add-self-3 : tie.Need-add-self-3
-add-self-3 c = search needs
-
 returns : tie.Need-returns
-returns c = buy-added _ _ _ _ _ _ (c .before .before .if1 .taken)
+returns c = buy-added _ _ _ _ (c .before .if1 .taken)
 
 returns-2 : tie.Need-returns-2
-returns-2 c = sell-added _ _ _ _ _ _ (c .before .if1 .left)
+returns-2 c = sell-added _ _ _ _ (c .before .if1 .left)
 
 pub add-spec : {M : Type 1} → statement M
-add-spec = tie.close (tie.spec add-self add-self-2 add-self-3 returns returns-2)
+add-spec = tie.close (tie.spec add-self add-self-2 returns returns-2)
