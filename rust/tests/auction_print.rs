@@ -12,7 +12,7 @@ use auction_listing::books::{
     count, reader_book, small_book, small_orders, thirty_two_blocks, Dice, Orders, StepOrder,
 };
 use auction_listing::paper::{self, Side};
-use auction_listing::twin::by_value::clearing::{self, Clearing};
+use auction_listing::twin::by_value::{clearing, result::Clearing};
 use sample_files::{names, path, sample};
 use std::fs::File;
 use std::io::Write;

@@ -11,7 +11,7 @@ mod large_stack;
 use auction_listing::books::{count, Expected, Family, FAMILIES};
 use auction_listing::paper::{self, Book, HourAnswer, Published};
 use auction_listing::proved;
-use auction_listing::twin::by_value::clearing::{self, Clearing};
+use auction_listing::twin::by_value::{clearing, result::Clearing};
 use large_stack::with_stack;
 use std::fs;
 use std::ops::RangeInclusive;

@@ -3,7 +3,7 @@
 
 use auction_listing::books::{edge_books, reader_book, small_book, worked_days, FAMILIES};
 use auction_listing::paper::{self, Published};
-use auction_listing::twin::by_value::clearing::{self, Clearing};
+use auction_listing::twin::by_value::{clearing, result::Clearing};
 use auction_listing::twin::count::{self, Nodes};
 use auction_listing::twin::in_place::{self, Workspace};
 use auction_listing::twin::source::differences;

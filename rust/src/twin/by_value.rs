@@ -18,6 +18,9 @@ pub mod pricing;
 pub mod records;
 #[allow(clippy::all, unused)]
 #[rustfmt::skip]
+pub mod result;
+#[allow(clippy::all, unused)]
+#[rustfmt::skip]
 pub mod search;
 #[allow(clippy::all, unused)]
 #[rustfmt::skip]

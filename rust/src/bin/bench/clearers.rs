@@ -1,7 +1,7 @@
 //! The three programs that are timed.
 
 use auction_listing::proved;
-use auction_listing::twin::by_value::clearing::{self, Clearing};
+use auction_listing::twin::by_value::{clearing, result::Clearing};
 use auction_listing::twin::in_place::{self, Workspace};
 
 #[derive(Clone, Copy, Debug, PartialEq, Eq)]

@@ -6,18 +6,11 @@ use crate::twin::by_value::book::read;
 use crate::twin::by_value::orders::blocks_of;
 use crate::twin::by_value::orders::steps_of;
 use crate::twin::by_value::records::record_count;
+use crate::twin::by_value::result::Clearing;
 use crate::twin::by_value::search::find;
 use crate::twin::by_value::setup::prepare;
 
 mod publish; // the published set as the result
-mod result; // the result's bytes
-
-// What a clearing answers: the outcome is published, or refused with its number.
-#[derive(Clone, Copy)]
-pub enum Clearing {
-    Published,
-    Refused(u8),
-}
 
 // The outcome of an accepted book into a result of the right size.
 fn clear_accepted(book: &[u8], result: &mut [u8])

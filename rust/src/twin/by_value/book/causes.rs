@@ -82,8 +82,8 @@ pub fn refusal_of(book: &[u8]) -> u8
     }
     let head = has_wrong_head(book);
     let broken = has_broken_chain(book);
-    let steps = survey_of(book, STEP, first_step(book));
-    let blocks = survey_of(book, BLOCK, first_block(book));
+    let steps = survey_of(book, first_step(book));
+    let blocks = survey_of(book, first_block(book));
     let wrong = steps.outside | blocks.outside;
     let short = are_short(steps.length, blocks.length, record_count(book));
     let many = has_too_many_blocks(book);

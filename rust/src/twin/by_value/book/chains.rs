@@ -58,8 +58,8 @@ pub struct Survey {
     pub outside: bool,
 }
 
-// The survey of the chain of this kind that starts at first.
-pub fn survey_of(book: &[u8], kind: u8, first: u16) -> Survey
+// The survey of the chain that starts at first.
+pub fn survey_of(book: &[u8], first: u16) -> Survey
 {
     let mut left = record_count(book);
     let mut i = first;
@@ -70,7 +70,7 @@ pub fn survey_of(book: &[u8], kind: u8, first: u16) -> Survey
             return Survey { length, outside };
         }
         length += 1;
-        outside = outside | is_out_of_range(book, kind, i);
+        outside = outside | is_out_of_range(book, i);
         i = next_of(book, i);
         left -= 1;
     }

@@ -1,14 +1,13 @@
 // Written by `twin_source` from crates/book/src/ranges.rt.
 // The ranges of a record's fields (document 01, "The book in bytes"): cause 4 at one record, and the limits of an edition. Assumes nothing.
 use crate::twin::by_value::records::Block;
-use crate::twin::by_value::records::STEP;
+use crate::twin::by_value::records::Record;
 use crate::twin::by_value::records::Step;
-use crate::twin::by_value::records::block_at;
 use crate::twin::by_value::records::edition_of;
 use crate::twin::by_value::records::hour_byte;
 use crate::twin::by_value::records::hour_count;
+use crate::twin::by_value::records::record_at;
 use crate::twin::by_value::records::side_byte;
-use crate::twin::by_value::records::step_at;
 
 // Whether x is from low to high.
 pub fn is_within(low: u32, x: u32, high: u32) -> bool
@@ -52,25 +51,27 @@ fn block_fits(edition: u8, block: Block) -> bool
         & is_within(1, block.quantity as u32, most_block_quantity(edition))
 }
 
-// Whether record i of the step chain has its fields in range.
-fn is_step_in_range(book: &[u8], i: u16) -> bool
+// Whether record i, a step, has its fields in range.
+fn is_step_in_range(book: &[u8], i: u16, step: Step) -> bool
 {
-    is_within(0, side_byte(book, i) as u32, 1) & step_fits(step_at(book, i))
+    is_within(0, side_byte(book, i) as u32, 1) & step_fits(step)
 }
 
-// Whether record i of the block chain has its fields in range.
-fn is_block_in_range(book: &[u8], i: u16) -> bool
+// Whether record i, a block, has its fields in range.
+fn is_block_in_range(book: &[u8], i: u16, block: Block) -> bool
 {
     is_within(0, side_byte(book, i) as u32, 1)
         & (hour_byte(book, i) == 0)
-        & block_fits(edition_of(book), block_at(book, i))
+        & block_fits(edition_of(book), block)
 }
 
-// Whether record i of a chain of this kind has a field outside its range.
-pub fn is_out_of_range(book: &[u8], kind: u8, i: u16) -> bool
+// Whether record i has a field outside its range.
+pub fn is_out_of_range(book: &[u8], i: u16) -> bool
 {
-    if kind == STEP {
-        return !is_step_in_range(book, i);
+    let found = record_at(book, i);
+    match found {
+        Record::Step(step) => !is_step_in_range(book, i, step),
+        Record::Block(block) => !is_block_in_range(book, i, block),
+        Record::Other => false,
     }
-    !is_block_in_range(book, i)
 }

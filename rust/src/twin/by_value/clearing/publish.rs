@@ -1,14 +1,14 @@
 // Written by `twin_source` from crates/clearing/src/publish.rt.
 // The publication: what the steps of each hour get at its price, the welfare, and with them and the day the result's
 // bytes. Assumes nothing.
-use crate::twin::by_value::clearing::result::block_values;
-use crate::twin::by_value::clearing::result::with_rows;
-use crate::twin::by_value::clearing::result::write_result;
 use crate::twin::by_value::orders::Blocks;
 use crate::twin::by_value::pricing::blocks::trades_of;
 use crate::twin::by_value::pricing::execution::amounts_at;
 use crate::twin::by_value::pricing::execution::share_out;
 use crate::twin::by_value::records::hour_count;
+use crate::twin::by_value::result::block_values;
+use crate::twin::by_value::result::with_rows;
+use crate::twin::by_value::result::write_result;
 use crate::twin::by_value::search::Day;
 
 // What quantities are worth: the value of the buys and the cost of the sells.

@@ -1,5 +1,20 @@
-// Written by `twin_source` from crates/clearing/src/result.rt.
-// The result's bytes: 8 bytes welfare, the price and the traded quantity of each hour, the row of each record. Numbers stand high byte first.
+// Written by `twin_source` from crates/result/src/lib.rt.
+// The result of a clearing: the answer, and the result's bytes: 8 bytes welfare, the price and the traded quantity of each hour, the row of each record.
+// Numbers stand high byte first. What a clearing promises of them is in specs/Promise. Assumes nothing.
+
+mod numbers; // the numbers of a result read again
+
+pub use numbers::price_in;
+pub use numbers::row_in;
+pub use numbers::traded_in;
+pub use numbers::welfare_in;
+
+// What a clearing answers: the outcome is published, or refused with its number.
+#[derive(Clone, Copy)]
+pub enum Clearing {
+    Published,
+    Refused(u8),
+}
 
 // Four bytes from `at` on.
 fn put32(result: &mut [u8], at: usize, value: u32)
