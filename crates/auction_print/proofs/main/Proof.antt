@@ -1,5 +1,5 @@
 -- `main` ends and stays within its buffers. Assumes nothing.
-use Rattle.sheet.proofs.TextLaws.{put-counts}
+use Rattle.text.proofs.TextLaws.{put-counts}
 use borrow.Author.Needs.{needs}
 use Rattle.auction_print.proofs.main.Statement.{statement}
 use Rattle.auction_print.proofs.main.Tie as tie

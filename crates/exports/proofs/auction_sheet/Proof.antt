@@ -23,11 +23,11 @@ returns c =
     (count, without-room _ _ (omega (arith, c .if1 .taken)))
 
 array-share-prefix-bytes : tie.Need-array-share-prefix-bytes
-array-share-prefix-bytes c = put-counts _ 0 _ _ _ (c .before .sheet .ensures .0) (c .before .sheet .ensures .1) .0
+array-share-prefix-bytes c = put-counts _ 0 _ _ _ (c .before .before .sheet .ensures .0) (c .before .before .sheet .ensures .1) .0
 
 slice-aggregate-put-text : tie.Need-slice-aggregate-put-text
 slice-aggregate-put-text c =
-    put-counts _ 0 _ _ _ (c .before .before .sheet .ensures .0) (c .before .before .sheet .ensures .1) .1
+    put-counts _ 0 _ _ _ (c .before .before .before .sheet .ensures .0) (c .before .before .before .sheet .ensures .1) .1
 
 put-text-requires : tie.Need-put-text-requires
 put-text-requires c κs =
@@ -46,7 +46,7 @@ returns-2 c =
     let start = sheet .before .before .before .before in
     let written = sheet .sheet .ensures .0 in
     let count : sheet .sheet .result ≡ length (sheetOf (start .args .book .now)) = omega (arith, written .ends) in
-    let copied : c .before .before .put-text .last .1 .0 ≡ splice (start .args .out .now) 0 (sheetOf (start .args .book .now)) =
+    let copied : c .before .before .put-text .last .0 ≡ splice (start .args .out .now) 0 (sheetOf (start .args .book .now)) =
     c .before .before .put-text .ensures .written ∙ rw (put-front _ _ _ _ written) in
     (count, with-room _ _ _ (omega (arith, c .before .before .before .before .before .if1 .left)) copied)
 

@@ -1,5 +1,5 @@
 -- `print_sheet` ends and stays within its buffers. Assumes nothing.
-use Rattle.sheet.proofs.TextLaws.{put-counts}
+use Rattle.text.proofs.TextLaws.{put-counts}
 use borrow.Author.Needs.{needs}
 use Rattle.sample_sheets.proofs.print_sheet.Statement.{statement}
 use Rattle.sample_sheets.proofs.print_sheet.Tie as tie
