@@ -4,10 +4,11 @@ use mathlib.Core.Path.{_≡_, refl, _∙_}
 use mathlib.Core.List.{List, [], _∷_}
 use native.Mathlib.Omega.{arith}
 use native.Mathlib.Numerals.{add-one}
-use lib.Dec.{ltb, leb}
+use mathlib.Core.Bool.{Bool, true, false, cond, not, _&&_}
+use lib.Dec.{eqb, ltb, leb}
 use lib.ListN.{length, drop, getD, drop-of-length-le}
 use lib.Seq.{drop-cons}
-use borrow.Author.Tests.{lt-ltb, le-ltb, le-leb, lt-leb}
+use borrow.Author.Tests.{ne-eqb}
 use Rattle.rules.specs.Orders.{Side, buy, sell, Step}
 use Rattle.rules.specs.Hour.{bySide, when, buysAbove, sellsTo}
 use Rattle.rules.proofs.CurveLaws.{when-zero, when-le}
@@ -19,22 +20,26 @@ pub side-sell : (s : ℕ) → (s ≡ 0 → ⊥) → sideFor s ≡ sell
 side-sell zero h = absurd (h refl)
 side-sell (suc s) h = refl
 
--- ONE ORDER, by the way it goes: what is added to the buys over p, and to the sells up to t
+-- ONE ORDER: what is added to the buys over p, and to the sells up to t
+times-when : (t : Bool) (x : ℕ) → cond t 1 0 * x ≡ when t x
+times-when true x = omega arith
+times-when false x = omega arith
+
+-- what is added is at most the quantity
+pub added-le : (n q : ℕ) → n ≤ 1 → n * q ≤ q
+added-le zero q k = omega arith
+added-le (suc n) q k = let z : n ≡ 0 = omega arith in rw z (omega arith)
+
 module _ (p t x q a u : ℕ) where
   abbrev Added : Side → ℕ → ℕ → Type 0
   Added side a′ u′ = (a′ ≡ a + when (ltb p x) (bySide side q 0)) × (u′ ≡ u + when (leb x t) (bySide side 0 q))
 
-  pub buy-above : (s : ℕ) → s ≡ 0 → p < x → Added (sideFor s) (a + q) u
-  buy-above s e h = rw (e, lt-ltb p x h) (omega arith, omega (arith, when-zero (leb x t)))
-
-  pub buy-not : (s : ℕ) → s ≡ 0 → x ≤ p → Added (sideFor s) a u
-  buy-not s e h = rw (e, le-ltb p x h) (omega arith, omega (arith, when-zero (leb x t)))
-
-  pub sell-upto : (s : ℕ) → (s ≡ 0 → ⊥) → x ≤ t → Added (sideFor s) a (u + q)
-  sell-upto s e h = rw (side-sell s e, le-leb x t h) (omega (arith, when-zero (ltb p x)), omega arith)
-
-  pub sell-not : (s : ℕ) → (s ≡ 0 → ⊥) → t < x → Added (sideFor s) a u
-  sell-not s e h = rw (side-sell s e, lt-leb x t h) (omega (arith, when-zero (ltb p x)), omega arith)
+  pub order-added : (s n m : ℕ) → n ≡ cond (eqb s 0 && ltb p x) 1 0 → m ≡ cond (not (eqb s 0) && leb x t) 1 0 →
+      Added (sideFor s) (a + n * q) (u + m * q)
+  order-added zero n m en em = (rw (en, times-when (ltb p x) q), rw em (omega (arith, when-zero (leb x t))))
+  order-added (suc s) n m en em =
+      let sells : eqb (suc s) 0 ≡ false = ne-eqb (suc s) 0 (omega arith) in
+      (rw (en, sells) (omega (arith, when-zero (ltb p x))), rw (em, sells, times-when (leb x t) q))
 
 -- THE REST OF THE COLUMNS
 abbrev pub restOf : ℕ → List ℕ → List ℕ → List ℕ → ℕ → List Step

@@ -1,6 +1,7 @@
 // The price of an hour from its columns and N: the totals of its steps at a price, and the two ends of the clearing prices by bisection.
 ghost use mathlib.Core.Path.{_≡_};
 ghost use Prim.Native.Nat.{ℕ, _+_, _*_, _^_, _≤_, _<_};
+ghost use mathlib.Core.Bool.{cond};
 ghost use lib.Dec.{ltb, leb};
 ghost use Rattle.rules.specs.Hour.{bySide, when};
 ghost use Rattle.orders.specs.Columns.{sideFor};
@@ -16,21 +17,23 @@ pub struct Totals {
     pub upto: u64,
 }
 
+// 1 where the test passes, else 0.
+fn number_of(test: bool) -> u64
+    ensures { λ r. ⌜ (r ≡ cond test 1 0) × (r ≤ 1) ⌝ }
+{
+    if test { 1 } else { 0 }
+}
+
 impl Totals {
-    // One order more.
+    // One order more; with no branch, which would be hard to foretell.
     fn add(mut self, side: u8, price: u32, quantity: u32) -> Totals
         requires { ⌜ (self .above ≤ 2 ^ 62) × (self .upto ≤ 2 ^ 62) ⌝ }
         ensures { λ r. ⌜ (r .over ≡ self .over) × (r .to ≡ self .to) × (r .above ≡ self .above + when (ltb (self .over) price) (bySide (sideFor side) quantity 0)) × (r .upto ≡ self .upto + when (leb price (self .to)) (bySide (sideFor side) 0 quantity)) ⌝ }
     {
-        if side == 0 {
-            if self.over < price {
-                self.above += quantity as u64;
-            }
-        } else {
-            if price <= self.to {
-                self.upto += quantity as u64;
-            }
-        }
+        let bought = number_of((side == 0) & (self.over < price));
+        let sold = number_of((side != 0) & (price <= self.to));
+        self.above += bought * (quantity as u64);
+        self.upto += sold * (quantity as u64);
         self
     }
 }
