@@ -11,19 +11,20 @@ pub struct Totals {
     pub upto: u64,
 }
 
+// 1 where the test passes, else 0.
+fn number_of(test: bool) -> u64
+{
+    if test { 1 } else { 0 }
+}
+
 impl Totals {
-    // One order more.
+    // One order more; with no branch, which would be hard to foretell.
     fn add(mut self, side: u8, price: u32, quantity: u32) -> Totals
     {
-        if side == 0 {
-            if self.over < price {
-                self.above += quantity as u64;
-            }
-        } else {
-            if price <= self.to {
-                self.upto += quantity as u64;
-            }
-        }
+        let bought = number_of((side == 0) & (self.over < price));
+        let sold = number_of((side != 0) & (price <= self.to));
+        self.above += bought * (quantity as u64);
+        self.upto += sold * (quantity as u64);
         self
     }
 }
