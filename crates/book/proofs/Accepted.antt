@@ -6,7 +6,7 @@ use mathlib.Core.Path.{_≡_, refl, sym, _∙_}
 use mathlib.Core.List.{List}
 use mathlib.Core.Bool.{Bool, true, false, cond, not, _||_, _&&_, true≢false}
 use native.Mathlib.Omega.{arith}
-use borrow.Author.Tests.{eq-eqb, ne-eqb, eqb-true, leb-true, ltb-false, le-leb, not-false}
+use borrow.Author.Tests.{eq-eqb, ne-eqb, eqb-true, leb-true, ltb-false, le-leb, le-ltb, not-false}
 use lib.Dec.{eqb, leb, ltb}
 use lib.ListN.{length}
 use Rattle.records.specs.Bytes.{nonzero}
@@ -216,34 +216,40 @@ pub record BlockRecord (b : List ℕ) (i : ℕ) : Type 0 where
   pub noHour : hourByte b i ≡ 0
   pub fields : BlockBounds (limits (edition b)) (blockAt b i)
 
-step-record : (b : List ℕ) (i : ℕ) → ((0 < i) × Placed b 1 0 i) × (outOfRange b i ≡ false) → StepRecord b i
+-- A record below R is whole
+whole : (b : List ℕ) (i : ℕ) → length b ≡ 16 * recordCount b → i < recordCount b → ltb (length b) (16 * i + 16) ≡ false
+whole b i size h = le-ltb (length b) (16 * i + 16) (omega arith)
+
+step-record : (b : List ℕ) → length b ≡ 16 * recordCount b → (i : ℕ) → ((0 < i) × Placed b 1 0 i) × (outOfRange b i ≡ false) → StepRecord b i
 unfolding outOfRange recordInRange stepInRange recordAt
-step-record b i h =
-    let read : recordAt b i ≡ record-of.Step (stepAt b i) = rw (eq-eqb _ _ (h .0 .1 .ofKind)) in
+step-record b size i h =
+    let place = h .0 .1 in
+    let read : recordAt b i ≡ record-of.Step (stepAt b i) = rw (whole b i size (place .below), eq-eqb _ _ (place .ofKind)) in
     let r : stepInRange b i (stepAt b i) ≡ true = not-false _ (rw read at (h .1)) in
     let side = within 0 (sideByte b i) 1 in
     record {
       positive = h .0 .0;
-      inside = h .0 .1 .below;
-      ofKind = h .0 .1 .ofKind;
+      inside = place .below;
+      ofKind = place .ofKind;
       read = read;
       side = bounds _ _ _ (and-left side (stepFits (stepAt b i)) r) .1;
       fields = step-bounds _ (and-right side _ r);
     }
 
-block-record : (b : List ℕ) (i : ℕ) → ((0 < i) × Placed b 2 0 i) × (outOfRange b i ≡ false) → BlockRecord b i
+block-record : (b : List ℕ) → length b ≡ 16 * recordCount b → (i : ℕ) → ((0 < i) × Placed b 2 0 i) × (outOfRange b i ≡ false) → BlockRecord b i
 unfolding outOfRange recordInRange blockInRange recordAt
-block-record b i h =
-    let other = ne-eqb (kind b i) 1 (λ e. let k = h .0 .1 .ofKind in omega arith) in
-    let read : recordAt b i ≡ record-of.Block (blockAt b i) = rw (other, eq-eqb _ _ (h .0 .1 .ofKind)) in
+block-record b size i h =
+    let place = h .0 .1 in
+    let other = ne-eqb (kind b i) 1 (λ e. let k = place .ofKind in omega arith) in
+    let read : recordAt b i ≡ record-of.Block (blockAt b i) = rw (whole b i size (place .below), other, eq-eqb _ _ (place .ofKind)) in
     let r : blockInRange b i (blockAt b i) ≡ true = not-false _ (rw read at (h .1)) in
     let side = within 0 (sideByte b i) 1 in
     let none = eqb (hourByte b i) 0 in
     let s = and-left (side && none) (blockFits (limits (edition b)) (blockAt b i)) r in
     record {
       positive = h .0 .0;
-      inside = h .0 .1 .below;
-      ofKind = h .0 .1 .ofKind;
+      inside = place .below;
+      ofKind = place .ofKind;
       read = read;
       side = bounds _ _ _ (and-left side none s) .1;
       noHour = eqb-true _ _ (and-right side none s);
@@ -255,7 +261,7 @@ pub step-records : (b : List ℕ) → Accepted b → Each (StepRecord b) (stepCh
 unfolding wrongField
 step-records b a =
     let s = stepChain b in
-    each-map (λ i. ((0 < i) × Placed b 1 0 i) × (outOfRange b i ≡ false)) (StepRecord b) s (step-record b)
+    each-map (λ i. ((0 < i) × Placed b 1 0 i) × (outOfRange b i ≡ false)) (StepRecord b) s (step-record b (size b a))
     (each-both (λ i. (0 < i) × Placed b 1 0 i) (λ i. outOfRange b i ≡ false) s
     (each-both (λ i. 0 < i) (Placed b 1 0) s
     (chain-positive (recordCount b) b (firstStep b))
@@ -267,7 +273,7 @@ pub block-records : (b : List ℕ) → Accepted b → Each (BlockRecord b) (bloc
 unfolding wrongField
 block-records b a =
     let s = blockChain b in
-    each-map (λ i. ((0 < i) × Placed b 2 0 i) × (outOfRange b i ≡ false)) (BlockRecord b) s (block-record b)
+    each-map (λ i. ((0 < i) × Placed b 2 0 i) × (outOfRange b i ≡ false)) (BlockRecord b) s (block-record b (size b a))
     (each-both (λ i. (0 < i) × Placed b 2 0 i) (λ i. outOfRange b i ≡ false) s
     (each-both (λ i. 0 < i) (Placed b 2 0) s
     (chain-positive (recordCount b) b (firstBlock b))

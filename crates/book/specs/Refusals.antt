@@ -54,7 +54,7 @@ stepInRange b i s = within 0 (sideByte b i) 1 && stepFits s
 unfoldable pub blockInRange : List ℕ → ℕ → Block → Bool
 blockInRange b i s = within 0 (sideByte b i) 1 && eqb (hourByte b i) 0 && blockFits (limits (edition b)) s
 
--- Record i, read as what it is, has its fields in their ranges; one that is neither has no fields (on a chain it is cause 3)
+-- Record i, read as what it is, has its fields in their ranges; one that is neither has none (on a chain it is cause 1 or 3)
 unfoldable pub recordInRange : List ℕ → ℕ → Record → Bool
 recordInRange b i (record-of.Step s) = stepInRange b i s
 recordInRange b i (record-of.Block s) = blockInRange b i s

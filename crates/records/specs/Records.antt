@@ -3,7 +3,8 @@
 use Prim.Native.Nat.{ℕ, zero, suc, _+_, _-_, _*_, _/_, _%_, _^_}
 use mathlib.Core.List.{List}
 use mathlib.Core.Bool.{Bool, cond}
-use lib.Dec.{eqb}
+use lib.Dec.{eqb, ltb}
+use lib.ListN.{length}
 use Rattle.records.specs.Bytes.{byteAt, u16At, u24At, u32At}
 use Rattle.records.specs.declared.Side.{Side}
 use Rattle.records.specs.declared.Side.the-variants.{Buy, Sell}
@@ -84,11 +85,11 @@ blockAt b k =
       quantity = u16At b (16 * k + 14);
     }
 
--- Record k as its kind says: a step, a block, or neither
+-- Record k as its kind says: a step, a block, or neither; neither too where the book ends before the record does
 unfoldable pub recordAt : List ℕ → ℕ → Record
 recordAt b k =
-    cond (eqb (kind b k) 1) (record-of.Step (stepAt b k))
-    (cond (eqb (kind b k) 2) (record-of.Block (blockAt b k)) record-of.Other)
+    cond (ltb (length b) (16 * k + 16)) record-of.Other
+    (cond (eqb (kind b k) 1) (record-of.Step (stepAt b k)) (cond (eqb (kind b k) 2) (record-of.Block (blockAt b k)) record-of.Other))
 
 -- Hour h is among a block's hours x: 24 bits, hour h with the weight 2 to the power h − 1
 abbrev pub holdsHour : ℕ → ℕ → Bool
