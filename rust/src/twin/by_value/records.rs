@@ -1,6 +1,7 @@
 // Written by `twin_source` from crates/records/src/lib.rt.
 // The records of a book, layer 1 of document 01: the head's fields and those of record k at their bytes, and a record as a step or a block.
-// Nothing is judged here: every call takes any bytes, ends, and has no `requires`; a missing byte reads as 0. Assumes nothing.
+// Nothing is judged here: every call takes any bytes, ends, and has no `requires`. A missing byte reads as 0, and a
+// record that the book ends within is neither a step nor a block. Assumes nothing.
 mod bytes; // numbers in the bytes
 mod records; // the fields of the head and of a record
 

@@ -107,9 +107,13 @@ pub fn block_at(book: &[u8], k: u16) -> Block
     }
 }
 
-// Record k as its kind says.
+// Record k as its kind says, where it is whole.
 pub fn record_at(book: &[u8], k: u16) -> Record
 {
+    let behind = 16 * (k as usize) + 16;
+    if book.len() < behind {
+        return Record::Other;
+    }
     let kind = kind_of(book, k);
     if kind == STEP {
         return Record::Step(step_at(book, k));
