@@ -178,11 +178,11 @@ same-test side side′ sum sum′ limit limit′ a b c = rw (a, b, c)
 
 -- THE DAY AT ITS TABLES
 -- the price at a place, by the price table
-pub price-at-table : (day : Day) (p rest : ℕ → ℕ) (low gap first last blocks : List ℕ) (count : ℕ) → Known day p rest low gap first last blocks count →
-    (places prices : List ℕ) → PricesOf low places prices → (h : ℕ) → 1 ≤ h → h ≤ 24 → ofHour places h ≤ 1600 →
+pub price-at-table : {day : Day} {p rest : ℕ → ℕ} {low gap first last blocks : List ℕ} {count : ℕ} → Known day p rest low gap first last blocks count →
+    {places prices : List ℕ} → PricesOf low places prices → (h : ℕ) → 1 ≤ h → h ≤ 24 → ofHour places h ≤ 1600 →
     ofHour prices h ≡ pricesAt day (ofHour places) h
 unfolding pricesAt tablePrice
-price-at-table day p rest low gap first last blocks count known places prices priced h a b fits =
+price-at-table {day} known {places} priced h a b fits =
     let i = ofHour places h in
     let off = overBlocks (buys h) (day .blocks) in
     omega (
@@ -193,8 +193,8 @@ price-at-table day p rest low gap first last blocks count known places prices pr
       unit-net (stepsIn h (day .steps)) (i + 1) (suc off) i off (omega arith),
     )
 
-module _ (day : Day) (p rest : ℕ → ℕ) (low gap first last blocks : List ℕ) (count : ℕ) (known : Known day p rest low gap first last blocks count)
-    (set loss : ℕ) (places : List ℕ) (d : List Bool) (branch : Branch day p d set loss places) (whole : length d ≡ count) where
+module _ {day : Day} {p rest : ℕ → ℕ} {low gap first last blocks : List ℕ} {count : ℕ} (known : Known day p rest low gap first last blocks count)
+    {set loss : ℕ} {places : List ℕ} {d : List Bool} (branch : Branch day p d set loss places) (whole : length d ≡ count) where
   size : length d ≡ length (day .blocks)
   size = whole ∙ sym (known .counted)
 
@@ -232,13 +232,13 @@ module _ (day : Day) (p rest : ℕ → ℕ) (low gap first last blocks : List �
         )
 
     -- the prices by the price table
-    module _ (prices : List ℕ) (priced : PricesOf low places prices) where
+    module _ {prices : List ℕ} (priced : PricesOf low places prices) where
       price-at : (h : ℕ) → 1 ≤ h → h ≤ 24 → ofHour prices h ≡ pricesAt day (place (day .blocks) d) h
       unfolding pricesAt
       price-at h a b =
           let e = branch .placesAre h a b in
           let fits : ofHour places h ≤ 1600 = omega (arith, place-fits h a b) in
-          rw e at (price-at-table day p rest low gap first last blocks count known places prices priced h a b fits)
+          rw e at (price-at-table known priced h a b fits)
 
       pub prices-are : (h : ℕ) → 1 ≤ h → h ≤ 24 → ofHour prices h ≡ setPrices day (taken (day .blocks) d) h
       prices-are h a b = price-at h a b ∙ sym (price-at-place day d size (known .prices) (known .hours) h (clear-at h a b))
@@ -278,7 +278,7 @@ module _ (day : Day) (p rest : ℕ → ℕ) (low gap first last blocks : List �
           sym (keeps-same j s) ∙ rw (block-at (day .blocks) j (s .block) _ other (s .next)) at t)) e
 
 -- WHAT COMES BACK
-module _ (day : Day) (p rest : ℕ → ℕ) (count left : ℕ) (d : List Bool) (best : Best) where
+module _ {day : Day} {p rest : ℕ → ℕ} {count left : ℕ} {d : List Bool} {best : Best} where
   -- the best as it was
   pub as-it-was : ((t : List Bool) → length t ≡ left → lawful day (d ++ t) ≡ true → best .limit ≤ lossAbove day p rest (d ++ t)) →
       Outcome day p rest count left d best best
@@ -301,56 +301,49 @@ module _ (day : Day) (p rest : ℕ → ℕ) (count : ℕ) (d : List Bool) (set :
       }
 
 -- A DECIDED SET, one law for each way out
-module _ (low gap first last blocks : List ℕ) (steps : ℕ → List Step) (count set loss : ℕ) (places : List ℕ) (best : Best) (clears : Bool) (sum : ℕ)
-    (gapped : GapsOf gap first last places clears sum) where
-  leaf-as-it-was : (day : Day) (p rest : ℕ → ℕ) (d : List Bool) → (lawful day d ≡ true → best .limit ≤ lossAbove day p rest d) →
-      Outcome day p rest count 0 d best best
-  leaf-as-it-was day p rest d f = record {
-    explored = by-loss.leaf-kept day (InTurn day p) (lossAbove day p rest) d (bestAs count best) (λ law _. f law);
-    same = λ _. refl;
-    found = λ k. absurd (omega arith);
-  }
+leaf-as-it-was : {day : Day} {p rest : ℕ → ℕ} {count : ℕ} {d : List Bool} {best : Best} → (lawful day d ≡ true → best .limit ≤ lossAbove day p rest d) →
+    Outcome day p rest count 0 d best best
+leaf-as-it-was {day} {p} {rest} {count} {d} {best} f = record {
+  explored = by-loss.leaf-kept day (InTurn day p) (lossAbove day p rest) d (bestAs count best) (λ law _. f law);
+  same = λ _. refl;
+  found = λ k. absurd (omega arith);
+}
 
+module _ {gap first last places : List ℕ} {clears : Bool} {sum : ℕ} (gapped : GapsOf gap first last places clears sum) where
   -- some hour does not clear
-  pub decided-unclear : clears ≡ false → Decided low gap first last blocks steps count set loss places best best
+  pub decided-unclear : {low blocks : List ℕ} {steps : ℕ → List Step} {count set loss : ℕ} {best : Best} → clears ≡ false →
+      Decided low gap first last blocks steps count set loss places best best
   decided-unclear e day p rest d same known branch whole room =
-      leaf-as-it-was day p rest d
-      (λ law. absurd (gapped .notInRange e (lawful-in-range day p rest low gap first last blocks count known set loss places d branch whole law)))
+      leaf-as-it-was (λ law. absurd (gapped .notInRange e (lawful-in-range known branch whole law)))
 
   module _ (e : clears ≡ true) where
-    loss-here : (day : Day) (p rest : ℕ → ℕ) (d : List Bool) → Known day p rest low gap first last blocks count → Branch day p d set loss places →
-        length d ≡ count → lossAbove day p rest d ≡ loss + sum
+    loss-here : {day : Day} {p rest : ℕ → ℕ} {low blocks : List ℕ} {count set loss : ℕ} {d : List Bool} →
+        Known day p rest low gap first last blocks count → Branch day p d set loss places → length d ≡ count → lossAbove day p rest d ≡ loss + sum
     unfolding lossAbove
-    loss-here day p rest d known branch whole =
-        omega (arith, loss-is day p rest low gap first last blocks count known set loss places d branch whole (gapped .inRange e) sum (gapped .sumIs e))
+    loss-here known branch whole = omega (arith, loss-is known branch whole (gapped .inRange e) sum (gapped .sumIs e))
 
     -- it loses as much as the best or more
-    pub decided-worse : best .limit ≤ loss + sum → Decided low gap first last blocks steps count set loss places best best
-    decided-worse k day p rest d same known branch whole room =
-        leaf-as-it-was day p rest d (λ law. omega (arith, loss-here day p rest d known branch whole))
+    pub decided-worse : {low blocks : List ℕ} {steps : ℕ → List Step} {count set loss : ℕ} {best : Best} → best .limit ≤ loss + sum →
+        Decided low gap first last blocks steps count set loss places best best
+    decided-worse k day p rest d same known branch whole room = leaf-as-it-was (λ law. omega (arith, loss-here known branch whole))
 
-    module _ (prices : List ℕ) (priced : PricesOf low places prices) where
+    module _ {low prices : List ℕ} (priced : PricesOf low places prices) {blocks : List ℕ} {steps : ℕ → List Step} {count set loss : ℕ} {best : Best} where
       -- a block misses its limit
       pub decided-broken : allKeep blocks set prices prices count ≡ false → Decided low gap first last blocks steps count set loss places best best
       decided-broken k day p rest d same known branch whole room =
-          leaf-as-it-was day p rest d (λ law. absurd (limits-broken day p rest low gap first last blocks count known set loss places d branch whole
-          (gapped .inRange e) prices priced k law))
+          leaf-as-it-was (λ law. absurd (limits-broken known branch whole (gapped .inRange e) priced k law))
 
       -- it is lawful and loses less
-      pub decided-better : allKeep blocks set prices prices count ≡ true → loss + sum < best .limit → (sales purchases quantities : List ℕ) →
+      pub decided-better : allKeep blocks set prices prices count ≡ true → loss + sum < best .limit → {sales purchases quantities : List ℕ} →
           SetTrades blocks count set sales purchases → TradedIn steps sales purchases prices quantities →
           Decided low gap first last blocks steps count set loss places best
           record { limit = loss + sum; set = set; day = record { prices = prices; quantities = quantities } }
-      decided-better k less sales purchases quantities sets trades day p rest d same known branch whole room =
+      decided-better k less {sales} {purchases} {quantities} sets trades day p rest d same known branch whole room =
           let in-range = gapped .inRange e in
-          let law = limits-kept day p rest low gap first last blocks count known set loss places d branch whole in-range prices priced k in
-          let is = prices-are day p rest low gap first last blocks count known set loss places d branch whole in-range prices priced in
-          newly-found day p rest count d set best _ (rw whole at (branch .setIs)) room refl (sym (loss-here day p rest d known branch whole)) less law
-          record {
-            pricesAre = is;
-            tradedAre = traded-are day p rest low gap first last blocks count known steps same set d whole (branch .setIs) law
-                sales purchases prices quantities sets is trades;
-          }
+          let law = limits-kept known branch whole in-range priced k in
+          let is = prices-are known branch whole in-range priced in
+          newly-found day p rest count d set best _ (rw whole at (branch .setIs)) room refl (sym (loss-here known branch whole)) less law
+          record { pricesAre = is; tradedAre = traded-are known same whole (branch .setIs) law prices quantities sets is trades }
 
 -- ONE MORE BLOCK, in the code's numbers
 -- the node with the block taken, and with it left out
@@ -391,8 +384,8 @@ module _ (blocks : List ℕ) (at : ℕ) (node : Node) (moved : List ℕ) (sized 
   )
 
 -- the branch with the block taken, and with it left out
-module _ (day : Day) (p rest : ℕ → ℕ) (low gap first last blocks : List ℕ) (count : ℕ) (known : Known day p rest low gap first last blocks count)
-    (d : List Bool) (node r : Node) (branch : Branch day p d (node .set) (node .loss) (node .places)) (room : node .set < 2 ^ length d)
+module _ {day : Day} {p rest : ℕ → ℕ} {low gap first last blocks : List ℕ} {count : ℕ} (known : Known day p rest low gap first last blocks count)
+    {d : List Bool} (node r : Node) (branch : Branch day p d (node .set) (node .loss) (node .places)) (room : node .set < 2 ^ length d)
     (k : length d < count) where
   S : Shown day p blocks (length d)
   S = known .shown (length d) k
@@ -405,7 +398,7 @@ module _ (day : Day) (p rest : ℕ → ℕ) (low gap first last blocks : List �
     setIs = rw (longer true, t .setIs, bits-taken (length d) (node .set) room, branch .setIs);
     lossIs = t .lossIs ∙ rw (branch .lossIs, ← (S .againstIs)) (sym (losses-taken (day .hours) p (day .blocks) d (S .block) _ (S .next)));
     placesAre = λ h a b.
-        t .placesAre h a b ∙ rw (branch .placesAre h a b, ← (sells-at day p blocks (length d) S h a b)) (sym (place-taken (day .blocks) d (S .block) _ (S .next) h));
+        t .placesAre h a b ∙ rw (branch .placesAre h a b, ← (sells-at S h a b)) (sym (place-taken (day .blocks) d (S .block) _ (S .next) h));
   }
 
   pub branch-left : LeftTo blocks (length d) node r → Branch day p (d ++ (false ∷ [])) (r .set) (r .loss) (r .places)
@@ -413,191 +406,194 @@ module _ (day : Day) (p rest : ℕ → ℕ) (low gap first last blocks : List �
     setIs = rw (longer false, t .setIs, bits-left (length d) (node .set) room, branch .setIs);
     lossIs = t .lossIs ∙ rw (branch .lossIs, ← (S .gainIs)) (sym (losses-left (day .hours) p (day .blocks) d (S .block) _ (S .next)));
     placesAre = λ h a b.
-        t .placesAre h a b ∙ rw (branch .placesAre h a b, ← (buys-at day p blocks (length d) S h a b)) (sym (place-left (day .blocks) d (S .block) _ (S .next) h));
+        t .placesAre h a b ∙ rw (branch .placesAre h a b, ← (buys-at S h a b)) (sym (place-left (day .blocks) d (S .block) _ (S .next) h));
   }
 
 -- a set of fewer than 32 blocks and one more fits 32 bits
 pub set-room : (at set b : ℕ) → at < 32 → set < 2 ^ at → b ≡ 2 ^ at → set + b < 2 ^ 32
 set-room at set b k room e = rw e (omega (arith, bits-room at set room, pow-mono {i = suc at} {j = 32} k))
 
--- A BRANCH, one law for each way out
-module _ (low gap first last blocks : List ℕ) (count : ℕ) where
+-- LAWFUL SETS at the tables
+module _ {day : Day} {p rest : ℕ → ℕ} {low gap first last blocks : List ℕ} {count : ℕ} (known : Known day p rest low gap first last blocks count) where
   -- a lawful set's places are in range
-  pub lawful-place : (day : Day) (p rest : ℕ → ℕ) → Known day p rest low gap first last blocks count → (s : List Bool) → length s ≡ count →
+  pub lawful-place : (s : List Bool) → length s ≡ count →
       lawful day s ≡ true → (h : ℕ) → 1 ≤ h → h ≤ 24 → (ofHour first h ≤ place (day .blocks) s h) × (place (day .blocks) s h ≤ ofHour last h)
-  lawful-place day p rest known s size law h a b =
+  lawful-place s size law h a b =
       let n : length s ≡ length (day .blocks) = size ∙ sym (known .counted) in
       let i = place (day .blocks) s h in
       known .clearsOnly h i a b (place-within (day .blocks) s h n) (lawful-clears day s n (known .prices) (known .hours) law h (counts (day .hours) h a b))
 
   -- and its gaps by the table
-  pub gap-of-lawful : (day : Day) (p rest : ℕ → ℕ) → Known day p rest low gap first last blocks count → (s : List Bool) → length s ≡ count →
+  pub gap-of-lawful : (s : List Bool) → length s ≡ count →
       lawful day s ≡ true → (h : ℕ) → Counts (day .hours) h →
       slack (p h) (hourOf day (taken (day .blocks) s) h) ≡ cell gap h (place (day .blocks) s h) + rest h
-  gap-of-lawful day p rest known s size law h c =
-      let r = lawful-place day p rest known s size law h (c .first) (c .last) in
+  gap-of-lawful s size law h c =
+      let r = lawful-place s size law h (c .first) (c .last) in
       slack-at-place day s (size ∙ sym (known .counted)) h (p h)
       ∙ known .gapIs h (place (day .blocks) s h) (c .first) (c .last) (r .0) (r .1)
 
   -- what the tables leave off is no more
-  pub rest-below : (day : Day) (p rest : ℕ → ℕ) → Known day p rest low gap first last blocks count → (s : List Bool) → length s ≡ count →
+  pub rest-below : (s : List Bool) → length s ≡ count →
       lawful day s ≡ true → (h : ℕ) → Counts (day .hours) h → rest h ≤ slack (p h) (hourOf day (taken (day .blocks) s) h)
-  rest-below day p rest known s size law h c = omega (arith, gap-of-lawful day p rest known s size law h c)
+  rest-below s size law h c = omega (arith, gap-of-lawful s size law h c)
 
-  module _ (turn : List ℕ) (steps : ℕ → List Step) where
-    -- the branch is dropped
-    pub explored-dropped : (left out : ℕ) (node : Node) (best : Best) → DroppedFrom low gap first last turn blocks count left out node (best .limit) →
-        ExploredFrom low gap first last turn blocks steps count left out node best best
-    explored-dropped left out node best dropped day p rest d same at = as-it-was day p rest count left d best (λ t l law. dropped day p rest d t at l law)
+-- THE BLOCKS THAT ARE OUT
+-- the next block is decided: what is out of the branch stays out, and the next bit is the lowest
+out-next : (day : Day) (p rest : ℕ → ℕ) (d : List Bool) (x : Bool) (left limit less out : ℕ) → 0 < left → less ≤ limit →
+    OutOf day p rest d left limit out → OutOf day p rest (d ++ (x ∷ [])) (left - 1) less (out / 2)
+out-next day p rest d x left limit less out pos le f t k l law low inside is =
+    let e : 1 + k ≡ suc k = omega arith in
+    f (x ∷ t) (suc k) (omega arith) (rw decided-next at law) (omega (arith, rw (decided-next d x t) at low)) (omega arith)
+    (rw (← (rw e at (shr-shr out 1 k))) is)
 
-    -- the branch is judged: what is out of it then
-    pub explored-judged : (left out r-out : ℕ) (node : Node) (best r : Best) (isDropped : Bool) → isDropped ≡ false →
-        JudgedFrom low gap first last turn blocks count left out node (best .limit) isDropped r-out →
-        ExploredFrom low gap first last turn blocks steps count left r-out node best r → ExploredFrom low gap first last turn blocks steps count left out node best r
-    explored-judged left out r-out node best r isDropped e judged f day p rest d same at =
-        f day p rest d same record {
-          known = at .known;
-          turning = at .turning;
-          branch = at .branch;
-          size = at .size;
-          outOf = judged .outOf e day p rest d at;
-        }
+out-not : (day : Day) (p rest : ℕ → ℕ) (d : List Bool) (left limit out : ℕ) → 0 < left → OutOf day p rest d left limit out → isOut out 0 ≡ true →
+    (t : List Bool) → length t ≡ left - 1 → lawful day (d ++ (true ∷ t)) ≡ true → limit ≤ lossAbove day p rest (d ++ (true ∷ t))
+out-not day p rest d left limit out pos f is t l law = elim (native.Mathlib.Decide.decLe limit (lossAbove day p rest (d ++ (true ∷ t)))) [
+  | yes k ↦ k
+  | no k ↦ clash refl (f (true ∷ t) 0 (omega arith) law (native.Mathlib.Nat.lt-of-not-le k) pos is)
+]
 
-    -- no block is left
-    pub explored-decided : (left out : ℕ) (node : Node) (best r : Best) → left ≡ 0 → node .set < 2 ^ count →
-        Decided low gap first last blocks steps count (node .set) (node .loss) (node .places) best r →
-        ExploredFrom low gap first last turn blocks steps count left out node best r
-    explored-decided left out node best r e room f day p rest d same at =
-        rw e (f day p rest d same (at .known) (at .branch) (omega (arith, at .size)) room)
+-- TWINS
+decided-bit : {day : Day} {p : ℕ → ℕ} {d : List Bool} {set loss : ℕ} {places : List ℕ} → Branch day p d set loss places → (a : ℕ) → a < length d →
+    getD d a false ≡ eqb (set / 2 ^ a % 2) 1
+decided-bit {d = d} {set} branch a k = rw (← (branch .setIs)) (bits-at (length d) set a k)
 
-    -- the next block is decided: what is out of the branch stays out, and the next bit is the lowest
-    out-next : (day : Day) (p rest : ℕ → ℕ) (d : List Bool) (x : Bool) (left limit less out : ℕ) → 0 < left → less ≤ limit →
-        OutOf day p rest d left limit out → OutOf day p rest (d ++ (x ∷ [])) (left - 1) less (out / 2)
-    out-next day p rest d x left limit less out pos le f t k l law low inside is =
-        let e : 1 + k ≡ suc k = omega arith in
-        f (x ∷ t) (suc k) (omega arith) (rw decided-next at law) (omega (arith, rw (decided-next d x t) at low)) (omega arith)
-        (rw (← (rw e at (shr-shr out 1 k))) is)
+-- a block is in no completion that counts: a twin that is taken before it is left out, or it is out
+barred-not : {day : Day} {p rest : ℕ → ℕ} {low gap first last blocks : List ℕ} {count : ℕ} → Known day p rest low gap first last blocks count →
+    {d : List Bool} {set loss : ℕ} {places : List ℕ} → Branch day p d set loss places → length d < count → isBarred blocks (length d) set ≡ true → (t : List Bool) → InTurn day p (d ++ (true ∷ t)) → ⊥
+unfolding isBarred
+barred-not {day} {p} {blocks = blocks} known {d} {set} branch k barred t kept =
+    let tests = both (not (eqb (aheadAt blocks (length d)) 0)) (eqb (set / 2 ^ (aheadAt blocks (length d) - 1) % 2) 0) barred in
+    let some = eqb-false (aheadAt blocks (length d)) 0 (not-true _ (tests .0)) in
+    let is : aheadAt blocks (length d) ≡ suc (aheadAt blocks (length d) - 1) = omega arith in
+    let twin = known .ahead (length d) (aheadAt blocks (length d) - 1) k is in
+    let zero-bit = eqb-true (set / 2 ^ (aheadAt blocks (length d) - 1) % 2) 0 (tests .1) in
+    let without : getD d (aheadAt blocks (length d) - 1) false ≡ false =
+    decided-bit branch (aheadAt blocks (length d) - 1) (twin .0) ∙ ne-eqb (set / 2 ^ (aheadAt blocks (length d) - 1) % 2) 1 (λ e. omega arith) in
+    turn-left day p d (aheadAt blocks (length d) - 1) (twin .0) (twin .1) without t kept
 
-    module _ (left out : ℕ) (node : Node) (limit : ℕ) (pos : 0 < left) (le : left ≤ count) (room : node .set < 2 ^ (count - left))
-        (day : Day) (p rest : ℕ → ℕ) (d : List Bool) (here : At low gap first last turn blocks count left node limit out day p rest d) where
-      at-is : count - left ≡ length d
-      at-is = omega (arith, here .size)
+-- A BRANCH, one law for each way out
+module _ {low gap first last turn blocks : List ℕ} {count : ℕ} where
+  -- the branch is dropped
+  pub explored-dropped : {steps : ℕ → List Step} {left out : ℕ} {node : Node} {best : Best} → DroppedFrom low gap first last turn blocks count left out node (best .limit) →
+      ExploredFrom low gap first last turn blocks steps count left out node best best
+  explored-dropped dropped day p rest d same at = as-it-was (λ t l law. dropped day p rest d t at l law)
 
-      one-more : length d < count
-      one-more = omega (arith, here .size)
-
-      room-here : node .set < 2 ^ length d
-      room-here = rw (← at-is) room
-
-      pub at-taken : (r : Node) (less : ℕ) → TakenTo blocks (count - left) node r → less ≤ limit →
-          At low gap first last turn blocks count (left - 1) r less (out / 2) day p rest (d ++ (true ∷ []))
-      at-taken r less t small = record {
-        known = here .known;
-        turning = here .turning;
-        branch = branch-taken day p rest low gap first last blocks count (here .known) d node r (here .branch) room-here one-more (rw at-is at t);
-        size = omega (arith, length-append d (true ∷ []), here .size);
-        outOf = out-next day p rest d true left limit less out pos small (here .outOf);
+  -- the branch is judged: what is out of it then
+  pub explored-judged : {steps : ℕ → List Step} {left out r-out : ℕ} {node : Node} {best r : Best} {isDropped : Bool} → isDropped ≡ false →
+      JudgedFrom low gap first last turn blocks count left out node (best .limit) isDropped r-out →
+      ExploredFrom low gap first last turn blocks steps count left r-out node best r → ExploredFrom low gap first last turn blocks steps count left out node best r
+  explored-judged e judged f day p rest d same at =
+      f day p rest d same record {
+        known = at .known;
+        turning = at .turning;
+        branch = at .branch;
+        size = at .size;
+        outOf = judged .outOf e day p rest d at;
       }
 
-      pub at-left : (r : Node) (less : ℕ) → LeftTo blocks (count - left) node r → less ≤ limit →
-          At low gap first last turn blocks count (left - 1) r less (out / 2) day p rest (d ++ (false ∷ []))
-      at-left r less t small = record {
-        known = here .known;
-        turning = here .turning;
-        branch = branch-left day p rest low gap first last blocks count (here .known) d node r (here .branch) room-here one-more (rw at-is at t);
-        size = omega (arith, length-append d (false ∷ []), here .size);
-        outOf = out-next day p rest d false left limit less out pos small (here .outOf);
+  -- no block is left
+  pub explored-decided : {steps : ℕ → List Step} {left out : ℕ} {node : Node} {best r : Best} → left ≡ 0 → node .set < 2 ^ count →
+      Decided low gap first last blocks steps count (node .set) (node .loss) (node .places) best r →
+      ExploredFrom low gap first last turn blocks steps count left out node best r
+  explored-decided e room f day p rest d same at =
+      rw e (f day p rest d same (at .known) (at .branch) (omega (arith, at .size)) room)
+
+  module _ {left out : ℕ} {node : Node} {limit : ℕ} (pos : 0 < left) (le : left ≤ count) (room : node .set < 2 ^ (count - left))
+      {day : Day} {p rest : ℕ → ℕ} {d : List Bool} (here : At low gap first last turn blocks count left node limit out day p rest d) where
+    at-is : count - left ≡ length d
+    at-is = omega (arith, here .size)
+
+    one-more : length d < count
+    one-more = omega (arith, here .size)
+
+    room-here : node .set < 2 ^ length d
+    room-here = rw (← at-is) room
+
+    pub at-taken : {r : Node} (less : ℕ) → TakenTo blocks (count - left) node r → less ≤ limit →
+        At low gap first last turn blocks count (left - 1) r less (out / 2) day p rest (d ++ (true ∷ []))
+    at-taken {r} less t small = record {
+      known = here .known;
+      turning = here .turning;
+      branch = branch-taken (here .known) node r (here .branch) room-here one-more (rw at-is at t);
+      size = omega (arith, length-append d (true ∷ []), here .size);
+      outOf = out-next day p rest d true left limit less out pos small (here .outOf);
+    }
+
+    pub at-left : {r : Node} (less : ℕ) → LeftTo blocks (count - left) node r → less ≤ limit →
+        At low gap first last turn blocks count (left - 1) r less (out / 2) day p rest (d ++ (false ∷ []))
+    at-left {r} less t small = record {
+      known = here .known;
+      turning = here .turning;
+      branch = branch-left (here .known) node r (here .branch) room-here one-more (rw at-is at t);
+      size = omega (arith, length-append d (false ∷ []), here .size);
+      outOf = out-next day p rest d false left limit less out pos small (here .outOf);
+    }
+
+  -- a block is taken and then left out
+  pub explored-both : {steps : ℕ → List Step} {left out : ℕ} {node taken-node left-node : Node} {best m r : Best} → 0 < left → left ≤ count →
+      node .set < 2 ^ (count - left) → TakenTo blocks (count - left) node taken-node → LeftTo blocks (count - left) node left-node →
+      ExploredFrom low gap first last turn blocks steps count (left - 1) (out / 2) taken-node best m →
+      ExploredFrom low gap first last turn blocks steps count (left - 1) (out / 2) left-node m r →
+      ExploredFrom low gap first last turn blocks steps count left out node best r
+  explored-both {left = left} {best = best} {m} {r} pos le room t l f g day p rest d same at =
+      let a = f day p rest (d ++ (true ∷ [])) same (at-taken pos le room at (best .limit) t (omega arith)) in
+      let lower₁ : m .limit ≤ best .limit = a .explored .noMore in
+      let b = g day p rest (d ++ (false ∷ [])) same (at-left pos le room at (m .limit) l lower₁) in
+      let one : suc (left - 1) ≡ left = omega arith in
+      let lower₂ : r .limit ≤ m .limit = b .explored .noMore in
+      record {
+        explored = rw one at (by-loss.joined day (InTurn day p) (lossAbove day p rest) (left - 1) d _ _ _ (a .explored) (b .explored));
+        same = λ e. b .same (omega arith) ∙ a .same (omega arith);
+        found = λ less. by-which less a b lower₂ (eq-or-lt-of-le lower₂);
+      }
+    where
+      by-which : {day : Day} {p rest : ℕ → ℕ} {dt dl : List Bool} → r .limit < best .limit →
+          Outcome day p rest count (left - 1) dt best m → Outcome day p rest count (left - 1) dl m r → r .limit ≤ m .limit →
+          (r .limit ≡ m .limit) ⊎ (r .limit < m .limit) → (r .set < 2 ^ count) × DayOf day (decisions count (r .set)) (r .day)
+      by-which less a b le (inl e) = rw (b .same e) (a .found (omega arith))
+      by-which less a b le (inr e) = b .found e
+
+  pub explored-left : {steps : ℕ → List Step} {left out : ℕ} {node left-node : Node} {best r : Best} → 0 < left → left ≤ count → node .set < 2 ^ (count - left) →
+      (isOut out 0 || isBarred blocks (count - left) (node .set)) ≡ true → LeftTo blocks (count - left) node left-node →
+      ExploredFrom low gap first last turn blocks steps count (left - 1) (out / 2) left-node best r →
+      ExploredFrom low gap first last turn blocks steps count left out node best r
+  explored-left {left = left} {out} {node} {best = best} pos le room barred l g day p rest d same at =
+      let here : count - left ≡ length d = omega (arith, at .size) in
+      let b = g day p rest (d ++ (false ∷ [])) same (at-left pos le room at (best .limit) l (omega arith)) in
+      let one : suc (left - 1) ≡ left = omega arith in
+      record {
+        explored = rw one at (by-loss.only-left day (InTurn day p) (lossAbove day p rest) (left - 1) d _ _
+            (λ t lt law kept. by-test (λ u. (u || isBarred blocks (length d) (node .set)) ≡ true → isOut out 0 ≡ u → best .limit ≤ lossAbove day p rest (d ++ (true ∷ t))) (isOut out 0)
+            (λ is _ _. out-not day p rest d left (best .limit) out pos (at .outOf) is t lt law)
+            (λ _ is _. absurd (barred-not (at .known) (at .branch) (omega (arith, at .size)) is t kept))
+            (rw here at barred) refl)
+            (b .explored));
+        same = b .same;
+        found = b .found;
       }
 
-    -- a block is taken and then left out
-    pub explored-both : (left out : ℕ) (node taken-node left-node : Node) (best m r : Best) → 0 < left → left ≤ count →
-        node .set < 2 ^ (count - left) → TakenTo blocks (count - left) node taken-node → LeftTo blocks (count - left) node left-node →
-        ExploredFrom low gap first last turn blocks steps count (left - 1) (out / 2) taken-node best m →
-        ExploredFrom low gap first last turn blocks steps count (left - 1) (out / 2) left-node m r →
-        ExploredFrom low gap first last turn blocks steps count left out node best r
-    explored-both left out node nt nl best m r pos le room t l f g day p rest d same at =
-        let a = f day p rest (d ++ (true ∷ [])) same (at-taken left out node (best .limit) pos le room day p rest d at nt (best .limit) t (omega arith)) in
-        let lower₁ : m .limit ≤ best .limit = a .explored .noMore in
-        let b = g day p rest (d ++ (false ∷ [])) same (at-left left out node (best .limit) pos le room day p rest d at nl (m .limit) l lower₁) in
-        let one : suc (left - 1) ≡ left = omega arith in
-        let lower₂ : r .limit ≤ m .limit = b .explored .noMore in
-        record {
-          explored = rw one at (by-loss.joined day (InTurn day p) (lossAbove day p rest) (left - 1) d _ _ _ (a .explored) (b .explored));
-          same = λ e. b .same (omega arith) ∙ a .same (omega arith);
-          found = λ less. by-which less a b lower₂ (eq-or-lt-of-le lower₂);
-        }
-      where
-        by-which : {day : Day} {p rest : ℕ → ℕ} {dt dl : List Bool} → r .limit < best .limit →
-            Outcome day p rest count (left - 1) dt best m → Outcome day p rest count (left - 1) dl m r → r .limit ≤ m .limit →
-            (r .limit ≡ m .limit) ⊎ (r .limit < m .limit) → (r .set < 2 ^ count) × DayOf day (decisions count (r .set)) (r .day)
-        by-which less a b le (inl e) = rw (b .same e) (a .found (omega arith))
-        by-which less a b le (inr e) = b .found e
-
-    decided-bit : (day : Day) (p : ℕ → ℕ) (d : List Bool) (set loss : ℕ) (places : List ℕ) → Branch day p d set loss places → (a : ℕ) → a < length d →
-        getD d a false ≡ eqb (set / 2 ^ a % 2) 1
-    decided-bit day p d set loss places branch a k = rw (← (branch .setIs)) (bits-at (length d) set a k)
-
-    -- a block is in no completion that counts: a twin that is taken before it is left out, or it is out
-    barred-not : (day : Day) (p rest : ℕ → ℕ) (d : List Bool) (set loss : ℕ) (places : List ℕ) → Known day p rest low gap first last blocks count →
-        Branch day p d set loss places → length d < count → isBarred blocks (length d) set ≡ true → (t : List Bool) → InTurn day p (d ++ (true ∷ t)) → ⊥
-    unfolding isBarred
-    barred-not day p rest d set loss places known branch k barred t kept =
-        let tests = both (not (eqb (aheadAt blocks (length d)) 0)) (eqb (set / 2 ^ (aheadAt blocks (length d) - 1) % 2) 0) barred in
-        let some = eqb-false (aheadAt blocks (length d)) 0 (not-true _ (tests .0)) in
-        let is : aheadAt blocks (length d) ≡ suc (aheadAt blocks (length d) - 1) = omega arith in
-        let twin = known .ahead (length d) (aheadAt blocks (length d) - 1) k is in
-        let zero-bit = eqb-true (set / 2 ^ (aheadAt blocks (length d) - 1) % 2) 0 (tests .1) in
-        let without : getD d (aheadAt blocks (length d) - 1) false ≡ false =
-        decided-bit day p d _ _ _ branch (aheadAt blocks (length d) - 1) (twin .0) ∙ ne-eqb (set / 2 ^ (aheadAt blocks (length d) - 1) % 2) 1 (λ e. omega arith) in
-        turn-left day p d (aheadAt blocks (length d) - 1) (twin .0) (twin .1) without t kept
-
-    out-not : (day : Day) (p rest : ℕ → ℕ) (d : List Bool) (left limit out : ℕ) → 0 < left → OutOf day p rest d left limit out → isOut out 0 ≡ true →
-        (t : List Bool) → length t ≡ left - 1 → lawful day (d ++ (true ∷ t)) ≡ true → limit ≤ lossAbove day p rest (d ++ (true ∷ t))
-    out-not day p rest d left limit out pos f is t l law = elim (native.Mathlib.Decide.decLe limit (lossAbove day p rest (d ++ (true ∷ t)))) [
-      | yes k ↦ k
-      | no k ↦ clash refl (f (true ∷ t) 0 (omega arith) law (native.Mathlib.Nat.lt-of-not-le k) pos is)
-    ]
-
-    pub explored-left : (left out : ℕ) (node left-node : Node) (best r : Best) → 0 < left → left ≤ count → node .set < 2 ^ (count - left) →
-        (isOut out 0 || isBarred blocks (count - left) (node .set)) ≡ true → LeftTo blocks (count - left) node left-node →
-        ExploredFrom low gap first last turn blocks steps count (left - 1) (out / 2) left-node best r →
-        ExploredFrom low gap first last turn blocks steps count left out node best r
-    explored-left left out node nl best r pos le room barred l g day p rest d same at =
-        let here : count - left ≡ length d = omega (arith, at .size) in
-        let b = g day p rest (d ++ (false ∷ [])) same (at-left left out node (best .limit) pos le room day p rest d at nl (best .limit) l (omega arith)) in
-        let one : suc (left - 1) ≡ left = omega arith in
-        record {
-          explored = rw one at (by-loss.only-left day (InTurn day p) (lossAbove day p rest) (left - 1) d _ _
-              (λ t lt law kept. by-test (λ u. (u || isBarred blocks (length d) (node .set)) ≡ true → isOut out 0 ≡ u → best .limit ≤ lossAbove day p rest (d ++ (true ∷ t))) (isOut out 0)
-              (λ is _ _. out-not day p rest d left (best .limit) out pos (at .outOf) is t lt law)
-              (λ _ is _. absurd (barred-not day p rest d _ _ _ (at .known) (at .branch) (omega (arith, at .size)) is t kept))
-              (rw here at barred) refl)
-              (b .explored));
-          same = b .same;
-          found = b .found;
-        }
-
-    pub explored-taken : (left out : ℕ) (node taken-node : Node) (best r : Best) → 0 < left → left ≤ count → node .set < 2 ^ (count - left) →
-        isDue blocks (count - left) (node .set) ≡ true → TakenTo blocks (count - left) node taken-node →
-        ExploredFrom low gap first last turn blocks steps count (left - 1) (out / 2) taken-node best r →
-        ExploredFrom low gap first last turn blocks steps count left out node best r
-    unfolding isDue
-    explored-taken left out node nt best r pos le room due t f day p rest d same at =
-        let here : count - left ≡ length d = omega (arith, at .size) in
-        let k : length d < count = omega (arith, at .size) in
-        let known = at .known in
-        let branch = at .branch in
-        let b = f day p rest (d ++ (true ∷ [])) same (at-taken left out node (best .limit) pos le room day p rest d at nt (best .limit) t (omega arith)) in
-        let one : suc (left - 1) ≡ left = omega arith in
-        let tests = both (not (eqb (behindAt blocks (length d)) 0)) (eqb (node .set / 2 ^ (behindAt blocks (length d) - 1) % 2) 1) (rw here at due) in
-        let some = eqb-false (behindAt blocks (length d)) 0 (not-true _ (tests .0)) in
-        let is : behindAt blocks (length d) ≡ suc (behindAt blocks (length d) - 1) = omega arith in
-        let twin = known .behind (length d) (behindAt blocks (length d) - 1) k is in
-        let inside : getD d (behindAt blocks (length d) - 1) false ≡ true =
-        decided-bit day p d _ _ _ branch (behindAt blocks (length d) - 1) (twin .0) ∙ tests .1 in
-        record {
-          explored = rw one at (by-loss.only-taken day (InTurn day p) (lossAbove day p rest) (left - 1) d _ _
-              (λ s _ _ kept. turn-taken day p d (behindAt blocks (length d) - 1) (twin .0) (twin .1) inside s kept) (b .explored));
-          same = b .same;
-          found = b .found;
-        }
+  pub explored-taken : {steps : ℕ → List Step} {left out : ℕ} {node taken-node : Node} {best r : Best} → 0 < left → left ≤ count → node .set < 2 ^ (count - left) →
+      isDue blocks (count - left) (node .set) ≡ true → TakenTo blocks (count - left) node taken-node →
+      ExploredFrom low gap first last turn blocks steps count (left - 1) (out / 2) taken-node best r →
+      ExploredFrom low gap first last turn blocks steps count left out node best r
+  unfolding isDue
+  explored-taken {left = left} {node = node} {best = best} pos le room due t f day p rest d same at =
+      let here : count - left ≡ length d = omega (arith, at .size) in
+      let k : length d < count = omega (arith, at .size) in
+      let known = at .known in
+      let branch = at .branch in
+      let b = f day p rest (d ++ (true ∷ [])) same (at-taken pos le room at (best .limit) t (omega arith)) in
+      let one : suc (left - 1) ≡ left = omega arith in
+      let tests = both (not (eqb (behindAt blocks (length d)) 0)) (eqb (node .set / 2 ^ (behindAt blocks (length d) - 1) % 2) 1) (rw here at due) in
+      let some = eqb-false (behindAt blocks (length d)) 0 (not-true _ (tests .0)) in
+      let is : behindAt blocks (length d) ≡ suc (behindAt blocks (length d) - 1) = omega arith in
+      let twin = known .behind (length d) (behindAt blocks (length d) - 1) k is in
+      let inside : getD d (behindAt blocks (length d) - 1) false ≡ true =
+      decided-bit branch (behindAt blocks (length d) - 1) (twin .0) ∙ tests .1 in
+      record {
+        explored = rw one at (by-loss.only-taken day (InTurn day p) (lossAbove day p rest) (left - 1) d _ _
+            (λ s _ _ kept. turn-taken day p d (behindAt blocks (length d) - 1) (twin .0) (twin .1) inside s kept) (b .explored));
+        same = b .same;
+        found = b .found;
+      }

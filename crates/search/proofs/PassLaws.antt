@@ -50,8 +50,8 @@ unfolding sumTo
 sum-fits zero m f k = omega arith
 sum-fits (suc n) m f k = omega (arith, sum-fits n m f k, k (suc n))
 
-module _ (low gap first last blocks : List ℕ) (count : ℕ) (few : count ≤ 32) (small : (i : ℕ) → getD blocks i 0 < 2 ^ 32) (smallGap : (i : ℕ) → getD gap i 0 < 2 ^ 32)
-    (day : Day) (p rest : ℕ → ℕ) (known : Known day p rest low gap first last blocks count) where
+module _ {low gap first last blocks : List ℕ} {count : ℕ} (few : count ≤ 32) (small : (i : ℕ) → getD blocks i 0 < 2 ^ 32) (smallGap : (i : ℕ) → getD gap i 0 < 2 ^ 32)
+    {day : Day} {p rest : ℕ → ℕ} (known : Known day p rest low gap first last blocks count) where
   -- all gains together
   gains-fit : (n j : ℕ) → j + n ≡ count → overBlocks (gain (day .hours) p) (drop j (day .blocks)) ≤ n * 2 ^ 32
   gains-fit zero j e = none (day .blocks) j (omega (arith, known .counted))
@@ -77,7 +77,7 @@ module _ (low gap first last blocks : List ℕ) (count : ℕ) (few : count ≤ 3
         gains-fit count 0 (omega arith),
         daySum-plain (day .hours) g,
         sumTo-in 24 g (λ h. at h + rest h)
-            (λ h a b. gap-of-lawful low gap first last blocks count day p rest known none size law h (counts (day .hours) h a b)),
+            (λ h a b. gap-of-lawful known none size law h (counts (day .hours) h a b)),
         sumTo-add 24 at rest,
         daySum-plain (day .hours) rest,
         sum-fits 24 (2 ^ 32) at (λ h. omega (arith, smallGap ((h - 1) * 1602 + place (day .blocks) none h))),
@@ -87,9 +87,9 @@ module _ (low gap first last blocks : List ℕ) (count : ℕ) (few : count ≤ 3
   unfolding lossAbove
   adds =
       by-loss.adds-less day (lossOf day p) (lossAbove day p rest) _ (daySum (day .hours) rest) (by-loss.loss-adds day (known .prices) (known .hours) p)
-      (λ set size law. omega (arith, bound-with day p [] set 0 rest (omega arith) (rest-below low gap first last blocks count day p rest known set (size ∙ known .counted) law)))
+      (λ set size law. omega (arith, bound-with day p [] set 0 rest (omega arith) (rest-below known set (size ∙ known .counted) law)))
 
-  module _ (turn : List ℕ) (steps : ℕ → List Step) (turning : Turning gap first last turn) (same : StepsAre day steps) (best r : Best)
+  module _ {turn : List ℕ} {steps : ℕ → List Step} (turning : Turning gap first last turn) (same : StepsAre day steps) {best r : Best}
       (pass : ExploredFrom low gap first last turn blocks steps count count 0 root best r) where
     outcome-of : Outcome day p rest count count [] best r
     outcome-of = pass day p rest [] same record {

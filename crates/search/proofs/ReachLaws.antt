@@ -154,7 +154,7 @@ module _ (blocks : List ℕ) (out : Bool) (loss limit i row : ℕ) where
       go false false = (omega arith, omega arith)
 
 -- THE PLACE OF THE REST at a loss below the limit, where it takes no block that is out
-module _ (day : Day) (p rest : ℕ → ℕ) (low gap first last blocks : List ℕ) (count : ℕ) (known : Known day p rest low gap first last blocks count)
+module _ {day : Day} {p rest : ℕ → ℕ} {low gap first last blocks : List ℕ} {count : ℕ} (known : Known day p rest low gap first last blocks count)
     (at out loss limit h : ℕ) (hour-first : 1 ≤ h) (hour-last : h ≤ 24) where
   abbrev must : ℕ → ℕ → ℕ
   must = addedIn blocks (mustFrom blocks at out loss limit) h
@@ -188,14 +188,14 @@ module _ (day : Day) (p rest : ℕ → ℕ) (low gap first last blocks : List �
       let k′ : loss + (against (day .hours) p (s .block) + losses (day .hours) p (drop (suc i) (day .blocks)) t) < limit = rw (s .next) at k in
       let one = taken-adds blocks (isOut out (i - at)) loss limit i (rowAt blocks i h) (first-not-out n i t f) (omega (arith, s .againstIs)) in
       let more = rest-within n (suc i) t (omega arith) (omega arith) (suc-inj l) (avoids-next n i true t le f) (omega arith) in
-      let adds = sells-at day p blocks i s h hour-first hour-last in
+      let adds = sells-at s h hour-first hour-last in
       rw (s .next) (omega arith, omega arith)
   rest-within (suc n) i (false ∷ t) le e l f k =
       let s = known .shown i (omega arith) in
       let k′ : loss + (gain (day .hours) p (s .block) + losses (day .hours) p (drop (suc i) (day .blocks)) t) < limit = rw (s .next) at k in
       let one = left-adds blocks (isOut out (i - at)) loss limit i (rowAt blocks i h) (omega (arith, s .gainIs)) in
       let more = rest-within n (suc i) t (omega arith) (omega arith) (suc-inj l) (avoids-next n i false t le f) (omega arith) in
-      let adds = buys-at day p blocks i s h hour-first hour-last in
+      let adds = buys-at s h hour-first hour-last in
       rw (s .next) (omega arith, omega arith)
 
 -- LIMITS AT THE BEST PRICES WITHIN REACH, by the columns
@@ -203,17 +203,17 @@ same-could : (side side′ : Side) (floor floor′ cap cap′ limit limit′ : �
     testSide side (leb floor limit) (leb limit cap) ≡ testSide side′ (leb floor′ limit′) (leb limit′ cap′)
 same-could side side′ floor floor′ cap cap′ limit limit′ a b c d = rw (a, b, c, d)
 
-module _ (day : Day) (p rest : ℕ → ℕ) (low gap first last blocks : List ℕ) (count : ℕ) (known : Known day p rest low gap first last blocks count)
-    (from to high lowest : List ℕ) (priced-high : PricesOf low from high) (priced-low : PricesOf low to lowest)
+module _ {day : Day} {p rest : ℕ → ℕ} {low gap first last blocks : List ℕ} {count : ℕ} (known : Known day p rest low gap first last blocks count)
+    {from to high lowest : List ℕ} (priced-high : PricesOf low from high) (priced-low : PricesOf low to lowest)
     (from-fits : (h : ℕ) → 1 ≤ h → h ≤ 24 → ofHour from h ≤ 1600) (to-fits : (h : ℕ) → 1 ≤ h → h ≤ 24 → ofHour to h ≤ 1600)
-    (j : ℕ) (s : Shown day p blocks j) where
+    {j : ℕ} (s : Shown day p blocks j) where
   -- the sum of prices at places, by the table
   sum-same : (at prices : List ℕ) → PricesOf low at prices → ((h : ℕ) → 1 ≤ h → h ≤ 24 → ofHour at h ≤ 1600) →
       priceSum (day .hours) (pricesAt day (ofHour at)) (s .block) ≡ sumOfHours prices (hoursAt blocks j)
   unfolding priceSum sumOfHours
   sum-same at prices priced fits =
       daySum-plain (day .hours) _
-      ∙ sumTo-in 24 _ _ (λ h a b. rw (s .runsIs h, ← (price-at-table day p rest low gap first last blocks count known at prices priced h a b (fits h a b))))
+      ∙ sumTo-in 24 _ _ (λ h a b. rw (s .runsIs h, ← (price-at-table known priced h a b (fits h a b))))
 
   could-same : keepsAt (sideAt blocks j) (hoursAt blocks j) (limitAt blocks j) high lowest
       ≡ couldKeep (day .hours) (pricesAt day (ofHour from)) (pricesAt day (ofHour to)) (s .block)
@@ -241,7 +241,7 @@ either-out true keeps k e = refl
 either-out false keeps k e = clash e (rw k)
 
 -- ONE LAW FOR EACH REASON to drop a branch
-module _ (low gap first last turn blocks : List ℕ) (count left out : ℕ) (node : Node) (limit : ℕ) where
+module _ {low gap first last turn blocks : List ℕ} {count left out : ℕ} {node : Node} {limit : ℕ} where
   -- the decided blocks lose as much already
   pub dropped-by-loss : limit ≤ node .loss → DroppedFrom low gap first last turn blocks count left out node limit
   unfolding lossAbove
@@ -249,21 +249,21 @@ module _ (low gap first last turn blocks : List ℕ) (count left out : ℕ) (nod
       omega (
         arith,
         at .branch .lossIs,
-        bound-with day p d t 0 rest (omega arith) (rest-below low gap first last blocks count day p rest (at .known) (d ++ t) (length-append d t ∙ rw l (at .size)) law),
+        bound-with day p d t 0 rest (omega arith) (rest-below (at .known) (d ++ t) (length-append d t ∙ rw l (at .size)) law),
       )
 
   -- a branch that is dropped, and one that is not looked into
-  pub judged-dropped : (r : ℕ) → DroppedFrom low gap first last turn blocks count left out node limit →
+  pub judged-dropped : {r : ℕ} → DroppedFrom low gap first last turn blocks count left out node limit →
       JudgedFrom low gap first last turn blocks count left out node limit true r
-  judged-dropped r drop = record { dropped = λ _. drop; outOf = λ z. clash refl z }
+  judged-dropped drop = record { dropped = λ _. drop; outOf = λ z. clash refl z }
 
   pub judged-as-it-was : JudgedFrom low gap first last turn blocks count left out node limit false out
   judged-as-it-was = record { dropped = λ z. clash z refl; outOf = λ _ day p rest d at. at .outOf }
 
-  module _ (least free : List ℕ) (added : RestOf blocks count (count - left) out (node .loss) limit (node .places) least free)
-      (balances : Bool) (from to : List ℕ) (reach : ReachOf first last least free balances from to) where
+  module _ {least free : List ℕ} (added : RestOf blocks count (count - left) out (node .loss) limit (node .places) least free)
+      {balances : Bool} {from to : List ℕ} (reach : ReachOf first last least free balances from to) where
     -- a lawful completion that loses less has its places from `from` to `to`
-    module _ (day : Day) (p rest : ℕ → ℕ) (d t : List Bool) (at : At low gap first last turn blocks count left node limit out day p rest d)
+    module _ {day : Day} {p rest : ℕ → ℕ} {d : List Bool} (t : List Bool) (at : At low gap first last turn blocks count left node limit out day p rest d)
         (l : length t ≡ left) (law : lawful day (d ++ t) ≡ true) where
       known : Known day p rest low gap first last blocks count
       known = at .known
@@ -284,7 +284,7 @@ module _ (low gap first last turn blocks : List ℕ) (count left out : ℕ) (nod
             arith,
             branch .lossIs,
             bound-with day p d t (losses (day .hours) p (drop (length d) (day .blocks)) t) rest (omega arith)
-                (rest-below low gap first last blocks count day p rest known (d ++ t) whole law),
+                (rest-below known (d ++ t) whole law),
           )
 
       in-reach : lossAbove day p rest (d ++ t) < limit → (h : ℕ) → 1 ≤ h → h ≤ 24 →
@@ -292,11 +292,11 @@ module _ (low gap first last turn blocks : List ℕ) (count left out : ℕ) (nod
       in-reach k h a b =
           let here : count - left ≡ length d = omega arith in
           let after : count - length d ≡ left = omega arith in
-          let range = lawful-place low gap first last blocks count day p rest known (d ++ t) whole law h a b in
+          let range = lawful-place known (d ++ t) whole law h a b in
           let avoids : (j : ℕ) → j < left → isOut out (length d - length d + j) ≡ true → getD t j false ≡ false = λ j inside is.
           let e : length d - length d + j ≡ j = omega arith in
           at .outOf t j l law k inside (rw e at is) in
-          let within = rest-within day p rest low gap first last blocks count known (length d) out (node .loss) limit h a b left (length d) t (omega arith) size l avoids (rest-loses k) in
+          let within = rest-within known (length d) out (node .loss) limit h a b left (length d) t (omega arith) size l avoids (rest-loses k) in
           let must = rw (here, after) at (added .leastIs h a b) in
           let may = rw (here, after) at (added .freeIs h a b) in
           let split = place-split (day .blocks) d t h in
@@ -331,22 +331,22 @@ module _ (low gap first last turn blocks : List ℕ) (count left out : ℕ) (nod
               let to-is = reach .toIs h a b in
               omega (
                 arith,
-                gap-of-lawful low gap first last blocks count day p rest known (d ++ t) whole law h c,
+                gap-of-lawful known (d ++ t) whole law h c,
                 nearest-least (λ i. cell gap h i) (ofHour turn h) (ofHour from h) (ofHour to h) (place (day .blocks) (d ++ t) h) (r .0) (r .1)
                     (λ x y i j z w. at .turning .falls h x y a b (omega arith) j (omega arith) w)
                     (λ x y i j z w. at .turning .rises h x y a b (omega arith) j (omega arith) w),
               )
 
       -- each of its blocks keeps its limit at the best prices there
-      block-could : (high lowest : List ℕ) → PricesOf low from high → PricesOf low to lowest → balances ≡ true → Small 1600 last →
+      block-could : {high lowest : List ℕ} → PricesOf low from high → PricesOf low to lowest → balances ≡ true → Small 1600 last →
           lossAbove day p rest (d ++ t) < limit → (j : ℕ) → j < count → getD (d ++ t) j false ≡ true →
           keepsAt (sideAt blocks j) (hoursAt blocks j) (limitAt blocks j) high lowest ≡ true
-      block-could high lowest ph pl e small k j inside set-bit =
+      block-could ph pl e small k j inside set-bit =
           let s = known .shown j inside in
           let could = taken-could day (known .prices) (known .hours) (d ++ t) (whole ∙ sym (known .counted)) law (ofHour from) (ofHour to)
           record { from = λ h c. in-reach k h (c .first) (c .last) .0; to = λ h c. in-reach k h (c .first) (c .last) .1 }
           j other (omega (arith, known .counted)) set-bit in
-          could-same day p rest low gap first last blocks count known from to high lowest ph pl (fits-in .0) (fits-in .1) j s
+          could-same known ph pl (fits-in .0) (fits-in .1) s
           ∙ rw (block-at (day .blocks) j (s .block) _ other (s .next)) at could
         where
           fits-in : ((h : ℕ) → 1 ≤ h → h ≤ 24 → ofHour from h ≤ 1600) × ((h : ℕ) → 1 ≤ h → h ≤ 24 → ofHour to h ≤ 1600)
@@ -360,48 +360,48 @@ module _ (low gap first last turn blocks : List ℕ) (count left out : ℕ) (nod
           )
 
       -- the decided ones, and one of the rest
-      decided-could : (high lowest : List ℕ) → PricesOf low from high → PricesOf low to lowest → balances ≡ true → Small 1600 last →
+      decided-could : {high lowest : List ℕ} → PricesOf low from high → PricesOf low to lowest → balances ≡ true → Small 1600 last →
           lossAbove day p rest (d ++ t) < limit → allKeep blocks (node .set) high lowest (count - left) ≡ true
-      decided-could high lowest ph pl e small k =
+      decided-could {high} {lowest} ph pl e small k =
           all-keep blocks (node .set) high lowest (count - left) (λ j m bit.
           let here : j < length d = omega (arith, size) in
-          block-could high lowest ph pl e small k j (omega arith)
+          block-could ph pl e small k j (omega arith)
           (List·getD-append d t false j here ∙ rw (← (branch .setIs)) (bits-at (length d) (node .set) j here ∙ eq-eqb _ 1 bit)))
 
-      rest-could : (high lowest : List ℕ) → PricesOf low from high → PricesOf low to lowest → balances ≡ true → Small 1600 last →
+      rest-could : {high lowest : List ℕ} → PricesOf low from high → PricesOf low to lowest → balances ≡ true → Small 1600 last →
           lossAbove day p rest (d ++ t) < limit → (j : ℕ) → j < left → getD t j false ≡ true →
           keepsAt (sideAt blocks (count - left + j)) (hoursAt blocks (count - left + j)) (limitAt blocks (count - left + j)) high lowest ≡ true
-      rest-could high lowest ph pl e small k j inside bit =
+      rest-could ph pl e small k j inside bit =
           let here : count - left ≡ length d = omega (arith, size) in
-          block-could high lowest ph pl e small k (count - left + j) (omega (arith, size)) (rw here (getD-behind d t j ∙ bit))
+          block-could ph pl e small k (count - left + j) (omega (arith, size)) (rw here (getD-behind d t j ∙ bit))
 
     -- some hour can no longer balance
     pub dropped-unbalanced : balances ≡ false → DroppedFrom low gap first last turn blocks count left out node limit
     dropped-unbalanced e day p rest d t at l law =
         unless _ _ (λ k. absurd (reach .unbalanced e (λ h a b.
-        let r = in-reach day p rest d t at l law k h a b in omega arith)))
+        let r = in-reach t at l law k h a b in omega arith)))
 
     -- the least gaps within reach come to as much
     pub dropped-by-gaps : limit ≤ node .loss + leastGaps gap turn from to → DroppedFrom low gap first last turn blocks count left out node limit
-    dropped-by-gaps z day p rest d t at l law = unless _ _ (λ k. absurd (omega (arith, gaps-least day p rest d t at l law k)))
+    dropped-by-gaps z day p rest d t at l law = unless _ _ (λ k. absurd (omega (arith, gaps-least t at l law k)))
 
     -- a taken block misses its limit at the best prices within reach
-    pub dropped-by-limit : (high lowest : List ℕ) → PricesOf low from high → PricesOf low to lowest → balances ≡ true → Small 1600 last →
+    pub dropped-by-limit : {high lowest : List ℕ} → PricesOf low from high → PricesOf low to lowest → balances ≡ true → Small 1600 last →
         allKeep blocks (node .set) high lowest (count - left) ≡ false → DroppedFrom low gap first last turn blocks count left out node limit
-    dropped-by-limit high lowest ph pl e small misses day p rest d t at l law =
-        unless _ _ (λ k. clash (decided-could day p rest d t at l law high lowest ph pl e small k) misses)
+    dropped-by-limit ph pl e small misses day p rest d t at l law =
+        unless _ _ (λ k. clash (decided-could t at l law ph pl e small k) misses)
 
     -- WHAT IS OUT: what was before, and an undecided block that misses its limit at the best prices within reach
-    pub judged-open : (high lowest : List ℕ) → PricesOf low from high → PricesOf low to lowest → balances ≡ true → Small 1600 last → left ≤ count → (r : ℕ) →
+    pub judged-open : {high lowest : List ℕ} → PricesOf low from high → PricesOf low to lowest → balances ≡ true → Small 1600 last → left ≤ count → {r : ℕ} →
         ((k : ℕ) → k < count - (count - left) → isOut r k ≡ isRuledOut blocks (count - left + k) (isOut out k) high lowest) →
         JudgedFrom low gap first last turn blocks count left out node limit false r
     unfolding isRuledOut
-    judged-open high lowest ph pl e small le r is = record {
+    judged-open ph pl e small le is = record {
       dropped = λ z. clash z refl;
       outOf = λ _ day p rest d at t k l law less inside ruled.
           by-test (λ u. getD t k false ≡ u → u ≡ false) (getD t k false)
           (λ bit _.
-          let keeps = rest-could day p rest d t at l law high lowest ph pl e small less k inside bit in
+          let keeps = rest-could t at l law ph pl e small less k inside bit in
           clash (sym (at .outOf t k l law less inside (either-out (isOut out k) _ keeps (sym (is k (omega arith)) ∙ ruled))) ∙ bit) refl)
           (λ _ _. refl) refl;
     }
@@ -413,7 +413,7 @@ column-small m l size f i = elim (decLe 24 i) [
   | no k ↦ f i (lt-of-not-le k)
 ]
 
-module _ (first last least free : List ℕ) (balances : Bool) (from to : List ℕ) (reach : ReachOf first last least free balances from to)
+module _ {first last least free : List ℕ} {balances : Bool} {from to : List ℕ} (reach : ReachOf first last least free balances from to)
     (small : Small 1600 last) where
   pub to-fits : (h : ℕ) → h < 24 → getD to h 0 ≤ 1600
   to-fits h k =

@@ -41,7 +41,7 @@ buys-row : (side : ℕ) (t : Bool) (q : ℕ) → when t (bySide (sideFor side) q
 buys-row zero t q = refl
 buys-row (suc side) t q = rw (ne-eqb (suc side) 0 (omega arith)) (when-zero t)
 
-module _ (day : Day) (p : ℕ → ℕ) (blocks : List ℕ) (j : ℕ) (s : Shown day p blocks j) (h : ℕ) (a : 1 ≤ h) (b : h ≤ 24) where
+module _ {day : Day} {p : ℕ → ℕ} {blocks : List ℕ} {j : ℕ} (s : Shown day p blocks j) (h : ℕ) (a : 1 ≤ h) (b : h ≤ 24) where
   pub sells-at : sells h (s .block) ≡ when (not (eqb (sideAt blocks j) 0)) (rowAt blocks j h)
   sells-at = rw (s .sideIs, s .rowIs h a b) (sells-row (sideAt blocks j) (s .block .runs h) (s .block .quantity))
 
@@ -49,7 +49,7 @@ module _ (day : Day) (p : ℕ → ℕ) (blocks : List ℕ) (j : ℕ) (s : Shown 
   buys-at = rw (s .sideIs, s .rowIs h a b) (buys-row (sideAt blocks j) (s .block .runs h) (s .block .quantity))
 
 -- A SET'S BLOCKS in an hour, by their rows
-module _ (day : Day) (p rest : ℕ → ℕ) (low gap first last blocks : List ℕ) (count : ℕ) (known : Known day p rest low gap first last blocks count)
+module _ {day : Day} {p rest : ℕ → ℕ} {low gap first last blocks : List ℕ} {count : ℕ} (known : Known day p rest low gap first last blocks count)
     (chosen h : ℕ) (a : 1 ≤ h) (b : h ≤ 24) where
   -- the decisions t are those of the set for the blocks from number i on
   abbrev Holds : ℕ → ℕ → List Bool → Type 0
@@ -76,7 +76,7 @@ module _ (day : Day) (p rest : ℕ → ℕ) (low gap first last blocks : List �
       let s = known .shown i (omega arith) in
       let more = rest-trades n (suc i) t (omega arith) (suc-inj l) (holds-next n i true t f) in
       rw (s .next, holds-first n i true t f)
-      (omega (arith, more .0, sells-at day p blocks i s h a b), omega (arith, more .1, buys-at day p blocks i s h a b))
+      (omega (arith, more .0, sells-at s h a b), omega (arith, more .1, buys-at s h a b))
   rest-trades (suc n) i (false ∷ t) e l f =
       let s = known .shown i (omega arith) in
       let more = rest-trades n (suc i) t (omega arith) (suc-inj l) (holds-next n i false t f) in
@@ -104,15 +104,15 @@ price-positive day prices hours chosen law h c =
     go doesNotClear s k = absurd (s k)
 
 -- THE TRADED QUANTITY of a lawful set: at its prices, with the day's steps and what its blocks sell and buy
-pub traded-are : (day : Day) (p rest : ℕ → ℕ) (low gap first last blocks : List ℕ) (count : ℕ) → Known day p rest low gap first last blocks count →
-    (steps : ℕ → List Step) → StepsAre day steps → (chosen : ℕ) (d : List Bool) → length d ≡ count → decisions (length d) chosen ≡ d →
-    lawful day d ≡ true → (sales purchases prices quantities : List ℕ) → SetTrades blocks count chosen sales purchases →
+pub traded-are : {day : Day} {p rest : ℕ → ℕ} {low gap first last blocks : List ℕ} {count : ℕ} → Known day p rest low gap first last blocks count →
+    {steps : ℕ → List Step} → StepsAre day steps → {chosen : ℕ} {d : List Bool} → length d ≡ count → decisions (length d) chosen ≡ d →
+    lawful day d ≡ true → {sales purchases : List ℕ} (prices quantities : List ℕ) → SetTrades blocks count chosen sales purchases →
     ((h : ℕ) → 1 ≤ h → h ≤ 24 → ofHour prices h ≡ setPrices day (taken (day .blocks) d) h) → TradedIn steps sales purchases prices quantities →
     (h : ℕ) → 1 ≤ h → h ≤ 24 → ofHour quantities h ≡ traded day (taken (day .blocks) d) h
 unfolding traded
-traded-are day p rest low gap first last blocks count known steps same chosen d size is law sales purchases prices quantities sets priced trades h a b =
+traded-are {day} known same {chosen} {d} size is law prices quantities sets priced trades h a b =
     let c = counts (day .hours) h a b in
-    let t = set-trades day p rest low gap first last blocks count known chosen h a b d size is in
+    let t = set-trades known chosen h a b d size is in
     let positive : 1 ≤ ofHour prices h = rw (priced h a b) (price-positive day (known .prices) (known .hours) d law h c) in
     trades h a b positive
     ∙ rw (sets .salesAre h a b, sets .purchasesAre h a b, t .0, t .1, same h a b, priced h a b)

@@ -46,7 +46,7 @@ explore-judge-requires : (t : ℕ) → explore-lts.Need-judge-requires (claims-e
 explore-judge-requires t c κs = search needs
 
 explore-returns : (t : ℕ) → explore-lts.Need-returns (claims-explore t) (explore-at t) explore.Post
-explore-returns t c = explored-dropped _ _ _ _ _ _ _ _ _ _ _ _ (c .before .judge .ensures .dropped (c .if1 .taken))
+explore-returns t c = explored-dropped (c .before .judge .ensures .dropped (c .if1 .taken))
 
 explore-decide-requires : (t : ℕ) → explore-lts.Need-decide-requires (claims-explore t) (explore-at t) explore.Post
 explore-decide-requires t c κs = search needs
@@ -56,7 +56,7 @@ explore-returns-2 t c =
     let none = c .before in
     let s = start t (none .before .before) in
     let e : s .args .count - s .args .left ≡ s .args .count = omega (arith, none .if2 .taken) in
-    explored-decided _ _ _ _ _ _ _ _ _ _ _ _ _ (none .if2 .taken) (rw e at (s .pre .1 .6 .setFits)) (c .decide .ensures)
+    explored-decided (none .if2 .taken) (rw e at (s .pre .1 .6 .setFits)) (c .decide .ensures)
 
 explore-sub-at : (t : ℕ) → explore-lts.Need-sub-at (claims-explore t) (explore-at t) explore.Post
 explore-sub-at t c = search needs
@@ -92,8 +92,8 @@ explore-returns-3 t c =
     let j = judged t l in
     let s = start t j in
     let k = l .before .before .if2 .left in
-    explored-judged _ _ _ _ _ _ _ _ _ _ _ _ _ _ _ (l .before .before .before .if1 .left) (j .judge .ensures)
-    (explored-left _ _ _ _ _ _ _ _ _ _ _ _ _ _ (omega arith) (s .pre .1 .5) (s .pre .1 .6 .setFits)
+    explored-judged (l .before .before .before .if1 .left) (j .judge .ensures)
+    (explored-left (omega arith) (s .pre .1 .5) (s .pre .1 .6 .setFits)
     (rw (only .before .before .is-out .ensures, only .before .is-barred .ensures) at (only .if3 .taken)) (l .leave .ensures .1) (c .explore .ensures))
 
 explore-take-requires : (t : ℕ) → explore-lts.Need-take-requires (claims-explore t) (explore-at t) explore.Post
@@ -128,17 +128,18 @@ explore-returns-4 t c =
     let j = judged t l in
     let s = start t j in
     let k = l .before .before .if2 .left in
-    explored-judged _ _ _ _ _ _ _ _ _ _ _ _ _ _ _ (l .before .before .before .if1 .left) (j .judge .ensures)
-    (explored-taken _ _ _ _ _ _ _ _ _ _ _ _ _ _ (omega arith) (s .pre .1 .5) (s .pre .1 .6 .setFits)
+    explored-judged (l .before .before .before .if1 .left) (j .judge .ensures)
+    (explored-taken (omega arith) (s .pre .1 .5) (s .pre .1 .6 .setFits)
     (sym (c .before .is-due .ensures) ∙ c .if4 .taken) (both .before .take .ensures .1) (both .explore2 .ensures))
 
 explore-explore-requires-3 : (t : ℕ) → explore-lts.Need-explore-requires-3 (claims-explore t) (explore-at t) explore.Post
 explore-explore-requires-3 t c κs =
     let l = left t (c .before .before .before .before) in
     let s = start t (judged t l) in
+    let fits = l .leave .ensures .0 in
     let k = l .before .before .if2 .left in
     let e : s .args .count - s .args .left + 1 ≡ s .args .count - (s .args .left - 1) = omega (arith, s .pre .1 .5) in
-    (omega (arith, s .pre .0), (s .pre .1 .0, s .pre .1 .1, s .pre .1 .2, s .pre .1 .3, s .pre .1 .4, omega (arith, s .pre .1 .5), rw e at (l .leave .ensures .0)))
+    (omega (arith, s .pre .0), (s .pre .1 .0, s .pre .1 .1, s .pre .1 .2, s .pre .1 .3, s .pre .1 .4, omega (arith, s .pre .1 .5), rw e at fits))
 
 explore-returns-5 : (t : ℕ) → explore-lts.Need-returns-5 (claims-explore t) (explore-at t) explore.Post
 explore-returns-5 t c =
@@ -147,8 +148,8 @@ explore-returns-5 t c =
     let j = judged t l in
     let s = start t j in
     let k = l .before .before .if2 .left in
-    explored-judged _ _ _ _ _ _ _ _ _ _ _ _ _ _ _ (l .before .before .before .if1 .left) (j .judge .ensures)
-    (explored-both _ _ _ _ _ _ _ _ _ _ _ _ _ _ _ _ (omega arith) (s .pre .1 .5) (s .pre .1 .6 .setFits)
+    explored-judged (l .before .before .before .if1 .left) (j .judge .ensures)
+    (explored-both (omega arith) (s .pre .1 .5) (s .pre .1 .6 .setFits)
     (both .before .take .ensures .1) (l .leave .ensures .1) (both .explore2 .ensures) (c .explore3 .ensures))
 
 pub +explore-spec : {M : Type 1} → statement M

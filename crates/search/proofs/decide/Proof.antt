@@ -50,7 +50,7 @@ gaps-at-requires : tie.Need-gaps-at-requires
 gaps-at-requires c κs = let s = start c .pre .0 in (s .gapRows, s .firstHours, s .lastHours, s .lastFits)
 
 returns : tie.Need-returns
-returns c = decided-unclear _ _ _ _ _ _ _ _ _ _ _ _ _ (c .before .before .gaps-at .ensures) (not-true _ (c .if1 .taken))
+returns c = decided-unclear (c .before .before .gaps-at .ensures) (not-true _ (c .if1 .taken))
 
 add-total : tie.Need-add-total
 add-total c = let g = gaps (c .before .before) in omega (arith, g .gaps-at .ensures .fits, start (g .before) .pre .5)
@@ -58,7 +58,7 @@ add-total c = let g = gaps (c .before .before) in omega (arith, g .gaps-at .ensu
 returns-2 : tie.Need-returns-2
 returns-2 c =
     let clears = c .before .before .before .before in
-    decided-worse _ _ _ _ _ _ _ _ _ _ _ _ _ (gaps clears .gaps-at .ensures) (not-false _ (clears .if1 .left)) (c .if2 .taken)
+    decided-worse (gaps clears .gaps-at .ensures) (not-false _ (clears .if1 .left)) (c .if2 .taken)
 
 prices-at-requires : tie.Need-prices-at-requires
 prices-at-requires c κs =
@@ -85,7 +85,7 @@ returns-3 : tie.Need-returns-3
 returns-3 c =
     let p = priced (c .before) in
     let clears = clear (p .before) in
-    decided-broken _ _ _ _ _ _ _ _ _ _ _ _ _ (gaps clears .gaps-at .ensures) (not-false _ (clears .if1 .left)) _ (p .prices-at .ensures)
+    decided-broken (gaps clears .gaps-at .ensures) (not-false _ (clears .if1 .left)) (p .prices-at .ensures)
     (sym (c .before .keeps-limits .ensures) ∙ not-true _ (c .if3 .taken))
 
 set-trades-requires : tie.Need-set-trades-requires
@@ -104,8 +104,8 @@ returns-4 c =
     let p = priced (kept .before) in
     let less = p .before in
     let clears = clear less in
-    decided-better _ _ _ _ _ _ _ _ _ _ _ _ _ (gaps clears .gaps-at .ensures) (not-false _ (clears .if1 .left)) _ (p .prices-at .ensures)
-    (sym (kept .before .keeps-limits .ensures) ∙ not-false _ (kept .if3 .left)) (less .if2 .left) _ _ _ (c .before .set-trades .ensures)
+    decided-better (gaps clears .gaps-at .ensures) (not-false _ (clears .if1 .left)) (p .prices-at .ensures)
+    (sym (kept .before .keeps-limits .ensures) ∙ not-false _ (kept .if3 .left)) (less .if2 .left) (c .before .set-trades .ensures)
     (c .traded-in .ensures)
 
 pub decide-spec : {M : Type 1} → statement M

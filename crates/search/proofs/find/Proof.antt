@@ -37,7 +37,7 @@ returns c =
     let found = c .before .before in
     let l = found .before .before in
     λ day p rest same known turning.
-    pass-is _ _ _ _ _ _ (start l .pre .4) (blocks-fit l) (gaps-fit l) day p rest known _ _ turning same _ _ (found .explore .ensures) (c .if1 .taken)
+    pass-is (start l .pre .4) (blocks-fit l) (gaps-fit l) known turning same (found .explore .ensures) (c .if1 .taken)
 
 mul-limit : tie.Need-mul-limit Inv-loop μ-loop
 mul-limit c = search needs
@@ -57,8 +57,8 @@ returns-2 : tie.Need-returns-2 Inv-loop μ-loop
 returns-2 c =
     let l = c .before .before in
     λ day p rest same known turning.
-    pass-is _ _ _ _ _ _ (start l .pre .4) (blocks-fit l) (gaps-fit l) day p rest known _ _ turning same _ _ (c .explore2 .ensures)
-    (pass-found _ _ _ _ _ _ (start l .pre .4) (blocks-fit l) (gaps-fit l) day p rest known _ _ turning same _ _ (c .explore2 .ensures) (c .before .loop-test .left))
+    pass-is (start l .pre .4) (blocks-fit l) (gaps-fit l) known turning same (c .explore2 .ensures)
+    (pass-found (start l .pre .4) (blocks-fit l) (gaps-fit l) known turning same (c .explore2 .ensures) (c .before .loop-test .left))
 
 pub find-spec : {M : Type 1} → statement M
 find-spec =

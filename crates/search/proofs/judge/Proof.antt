@@ -20,6 +20,27 @@ use borrow.Author.Needs.{needs}
 use Rattle.search.proofs.judge.Statement.{statement}
 use Rattle.search.proofs.judge.Tie as tie
 
+-- THE STATES on the way: the start behind the places within reach, these behind an hour's balance, that behind the least gaps, these behind the prices
+-- within reach, these behind the limits
+abbrev start : tie.Else2 → tie.Start
+start c = c .before .before .before .before .before .before .before .before
+
+abbrev reached : tie.Else3 → tie.After-reach-at
+reached c = c .before .before
+
+abbrev balanced : tie.After-least-gaps-arg → tie.Else3
+balanced c = c .before .before .before
+
+abbrev bounded : tie.Else4 → tie.After-least-gaps
+bounded c = c .before .before
+
+abbrev priced : tie.After-keeps-limits → tie.After-prices-at2
+priced c = c .before .before .before
+
+-- from the prices back to an hour's balance
+abbrev back : tie.After-prices-at2 → tie.Else3
+back c = balanced (bounded (c .before .before) .before)
+
 -- arrays of 24
 from-size : (f : tie.After-reach-at) → length (f .reach-at .result .from) ≡ 24
 from-size f = search needs
@@ -31,7 +52,7 @@ turn-size : (s : tie.Start) → length (turnOf (s .args .hours .now)) ≡ 24
 turn-size s = simp (length-take, length-drop) (omega (arith, s .pre .1))
 
 returns : tie.Need-returns
-returns c = judged-dropped _ _ _ _ _ _ _ _ _ _ _ _ (dropped-by-loss _ _ _ _ _ _ _ _ _ _ _ (c .if1 .taken))
+returns c = judged-dropped (dropped-by-loss (c .if1 .taken))
 
 sub-at : tie.Need-sub-at
 sub-at c = search needs
@@ -41,19 +62,21 @@ cast-at c = search needs
 
 is-forced-requires : tie.Need-is-forced-requires
 is-forced-requires c κs =
-    let s = c .before .before .before .before .before .before in
-    (s .pre .0 .blocksFit, omega (arith, s .pre .2), omega (arith, s .pre .4 .lossFits, s .pre .2))
+    let p = c .before .before .before .before .before .before .pre in
+    (p .0 .blocksFit, omega (arith, p .2), omega (arith, p .4 .lossFits, p .2))
 
 returns-2 : tie.Need-returns-2
-returns-2 c = judged-as-it-was _ _ _ _ _ _ _ _ _ _ _
+returns-2 c = judged-as-it-was
 
 reach-at-requires : tie.Need-reach-at-requires
 reach-at-requires c κs =
-    let s = c .before .before .before .before .before .before .before .before in
-    (s .pre .0 .blocksFit, s .pre .1, s .pre .2, omega arith, omega (arith, s .pre .4 .lossFits, s .pre .2), s .pre .4 .placesFit)
+    let p = start c .pre in
+    (p .0 .blocksFit, p .1, p .2, omega arith, omega (arith, p .4 .lossFits, p .2), p .4 .placesFit)
 
 returns-3 : tie.Need-returns-3
-returns-3 c = judged-dropped _ _ _ _ _ _ _ _ _ _ _ _ (dropped-unbalanced _ _ _ _ _ _ _ _ _ _ _ _ _ (c .before .before .reach-at .ensures .rest) _ _ _ (c .before .before .reach-at .ensures .reach) (not-true _ (c .if3 .taken)))
+returns-3 c =
+    let r = c .before .before .reach-at .ensures in
+    judged-dropped (dropped-unbalanced (r .rest) (r .reach) (not-true _ (c .if3 .taken)))
 
 sub-least-gaps : tie.Need-sub-least-gaps
 sub-least-gaps c = search needs
@@ -66,33 +89,33 @@ part-least-gaps-end c = search needs
 
 least-gaps-requires : tie.Need-least-gaps-requires
 least-gaps-requires c κs =
-    let s = c .before .before .before .before .before .before .before .before .before .before .before .before .before .before in
-    (s .pre .0 .gapRows, turn-size s, to-fits _ _ _ _ _ _ _ (c .before .before .before .before .before .reach-at .ensures .reach) (s .pre .0 .lastFits))
+    let r = reached (balanced c) in
+    let s = start (r .before) in
+    (s .pre .0 .gapRows, turn-size s, to-fits (r .reach-at .ensures .reach) (s .pre .0 .lastFits))
 
 add-if4 : tie.Need-add-if4
 add-if4 c =
-    let s = c .before .before .before .before .before .before .before .before .before .before .before .before .before .before .before .before in
-    omega (arith, c .before .least-gaps .ensures .1, s .pre .4 .lossFits, s .pre .2)
+    let p = start (reached (balanced (c .before .before)) .before) .pre in
+    omega (arith, c .before .least-gaps .ensures .1, p .4 .lossFits, p .2)
 
 returns-4 : tie.Need-returns-4
 returns-4 c =
-    let g = c .before .before .least-gaps .ensures .0 in
-    judged-dropped _ _ _ _ _ _ _ _ _ _ _ _ (dropped-by-gaps _ _ _ _ _ _ _ _ _ _ _ _ _ (c .before .before .before .before .before .before .before .before .reach-at .ensures .rest) _ _ _ (c .before .before .before .before .before .before .before .before .reach-at .ensures .reach) (omega (arith, c .if4 .taken, g)))
+    let g = c .before .before in
+    let r = reached (balanced (g .before)) .reach-at .ensures in
+    judged-dropped (dropped-by-gaps (r .rest) (r .reach) (omega (arith, c .if4 .taken, g .least-gaps .ensures .0)))
 
 prices-at-requires : tie.Need-prices-at-requires
 prices-at-requires c κs =
-    let s = c .before .before .before .before .before .before .before .before .before .before .before .before .before .before .before .before .before in
-    let f = c .before .before .before .before .before .before .before .before in (
-      s .pre .0 .lowRows,
-      s .pre .0 .lowFits,
-      from-small _ _ _ _ _ _ _ (f .reach-at .ensures .reach) (s .pre .0 .lastFits) (not-false _ (c .before .before .before .before .before .before .if3 .left)) (from-size f),
-    )
+    let b = balanced (bounded c .before) in
+    let r = reached b in
+    let p = start (r .before) .pre .0 in
+    (p .lowRows, p .lowFits, from-small (r .reach-at .ensures .reach) (p .lastFits) (not-false _ (b .if3 .left)) (from-size r))
 
 prices-at-requires-2 : tie.Need-prices-at-requires-2
 prices-at-requires-2 c κs =
-    let s = c .before .before .before .before .before .before .before .before .before .before .before .before .before .before .before .before .before .before in
-    let f = c .before .before .before .before .before .before .before .before .before in
-    (s .pre .0 .lowRows, s .pre .0 .lowFits, to-small _ _ _ _ _ _ _ (f .reach-at .ensures .reach) (s .pre .0 .lastFits) (to-size f))
+    let r = reached (balanced (bounded (c .before) .before)) in
+    let p = start (r .before) .pre .0 in
+    (p .lowRows, p .lowFits, to-small (r .reach-at .ensures .reach) (p .lastFits) (to-size r))
 
 slice-aggregate-keeps-limits : tie.Need-slice-aggregate-keeps-limits
 slice-aggregate-keeps-limits c = search needs
@@ -102,15 +125,17 @@ slice-aggregate-keeps-limits-2 c = search needs
 
 keeps-limits-requires : tie.Need-keeps-limits-requires
 keeps-limits-requires c κs =
-    let s = c .before .before .before .before .before .before .before .before .before .before .before .before .before .before .before .before .before .before .before .before .before in
-    (s .pre .0 .blocksFit .columns, omega (arith, s .pre .2), search needs, search needs)
+    let p = start (reached (back (c .before .before)) .before) .pre in
+    (p .0 .blocksFit .columns, omega (arith, p .2), search needs, search needs)
 
 returns-5 : tie.Need-returns-5
 returns-5 c =
-    let s = c .before .before .before .before .before .before .before .before .before .before .before .before .before .before .before .before .before .before .before .before .before .before .before in
-    judged-dropped _ _ _ _ _ _ _ _ _ _ _ _
-    (dropped-by-limit _ _ _ _ _ _ _ _ _ _ _ _ _ (c .before .before .before .before .before .before .before .before .before .before .before .before .before .before .reach-at .ensures .rest) _ _ _ (c .before .before .before .before .before .before .before .before .before .before .before .before .before .before .reach-at .ensures .reach) _ _ (c .before .before .before .before .before .prices-at .ensures) (c .before .before .before .before .prices-at2 .ensures)
-    (not-false _ (c .before .before .before .before .before .before .before .before .before .before .before .before .if3 .left)) (s .pre .0 .lastFits) (sym (c .before .keeps-limits .ensures) ∙ not-true _ (c .if5 .taken)))
+    let prices = priced (c .before) in
+    let b = back prices in
+    let r = reached b in
+    judged-dropped (dropped-by-limit (r .reach-at .ensures .rest) (r .reach-at .ensures .reach) (prices .before .prices-at .ensures)
+    (prices .prices-at2 .ensures) (not-false _ (b .if3 .left)) (start (r .before) .pre .0 .lastFits)
+    (sym (c .before .keeps-limits .ensures) ∙ not-true _ (c .if5 .taken)))
 
 slice-aggregate-ruled-out : tie.Need-slice-aggregate-ruled-out
 slice-aggregate-ruled-out c = search needs
@@ -120,14 +145,17 @@ slice-aggregate-ruled-out-2 c = search needs
 
 ruled-out-requires : tie.Need-ruled-out-requires
 ruled-out-requires c κs =
-    let s = c .before .before .before .before .before .before .before .before .before .before .before .before .before .before .before .before .before .before .before .before .before .before .before .before .before in
-    (s .pre .0 .blocksFit .columns, s .pre .2, omega (arith, s .pre .3), search needs, search needs)
+    let p = start (reached (back (priced (c .before .before .before))) .before) .pre in
+    (p .0 .blocksFit .columns, p .2, omega (arith, p .3), search needs, search needs)
 
 returns-6 : tie.Need-returns-6
 returns-6 c =
-    let s = c .before .before .before .before .before .before .before .before .before .before .before .before .before .before .before .before .before .before .before .before .before .before .before .before .before .before in
-    judged-open _ _ _ _ _ _ _ _ _ _ _ _ _ (c .before .before .before .before .before .before .before .before .before .before .before .before .before .before .before .before .before .reach-at .ensures .rest) _ _ _ (c .before .before .before .before .before .before .before .before .before .before .before .before .before .before .before .before .before .reach-at .ensures .reach) _ _ (c .before .before .before .before .before .before .before .before .prices-at .ensures) (c .before .before .before .before .before .before .before .prices-at2 .ensures)
-    (not-false _ (c .before .before .before .before .before .before .before .before .before .before .before .before .before .before .before .if3 .left)) (s .pre .0 .lastFits) (s .pre .3) _ (c .ruled-out .ensures)
+    let prices = priced (c .before .before .before .before) in
+    let b = back prices in
+    let r = reached b in
+    let p = start (r .before) .pre in
+    judged-open (r .reach-at .ensures .rest) (r .reach-at .ensures .reach) (prices .before .prices-at .ensures) (prices .prices-at2 .ensures)
+    (not-false _ (b .if3 .left)) (p .0 .lastFits) (p .3) (c .ruled-out .ensures)
 
 pub judge-spec : {M : Type 1} → statement M
 judge-spec =
