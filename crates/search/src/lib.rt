@@ -13,6 +13,8 @@ ghost use Rattle.search.specs.Search as numbers;
 ghost use Rattle.search.specs.Meaning.{BlocksSized, Sized, Fits, Decided, TakenTo, LeftTo, JudgedFrom, ExploredFrom, FoundIn};
 use pricing::execution::traded_at;
 
+pub mod layout;
+
 // The price and the traded quantity of each hour.
 pub struct Day {
     pub prices: [u32; 24],

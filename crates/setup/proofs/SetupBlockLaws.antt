@@ -5,7 +5,7 @@ use mathlib.Core.List.{List}
 use mathlib.Core.Bool.{Bool, true, false, cond}
 use native.Mathlib.Omega.{arith}
 use native.Mathlib.Decide.{decLe}
-use native.Mathlib.Nat.{lt-of-not-le, mul-le-mul}
+use native.Mathlib.Nat.{lt-of-not-le}
 use native.Mathlib.Numerals.{add-one}
 use lib.ListN.{length, getD, set, replicate, length-set}
 use lib.Seq.{getD-set-same, getD-set-other}
@@ -13,48 +13,10 @@ use Rattle.records.specs.Records.{holdsHour, hourCount}
 use Rattle.orders.specs.Columns.{sideFor}
 use Rattle.rules.specs.Orders.{Side, buy, sell}
 use Rattle.rules.specs.Hour.{bySide, when}
-use Rattle.rules.proofs.CurveLaws.{when-le}
 use Rattle.search.specs.Search.{Small, sideAt, hoursAt, quantityAt, limitAt, againstAt, gainAt, sumOfHours}
 use Rattle.setup.specs.Setup.{BlocksHeld, sumBelow, tradedIn, TradedBy, written, Written}
 use Rattle.search.proofs.LeafLaws.{zeros}
-
--- a number for each side stays below what both do
-pub side-le : (side : Side) (a b m : ℕ) → a ≤ m → b ≤ m → bySide side a b ≤ m
-side-le buy a b m x y = x
-side-le sell a b m x y = y
-
--- a number or 0 stays below what the number does
-pub chosen-le : (t : Bool) (a m : ℕ) → a ≤ m → cond t a 0 ≤ m
-chosen-le true a m x = x
-chosen-le false a m x = omega arith
-
-pub product-fits : (q x : ℕ) → q ≤ 50 → x ≤ 7200000 → q * x ≤ 360000000
-product-fits q x a b = omega (arith, mul-le-mul a b)
-
--- a block runs in at most 24 hours
-hours-most : (n x : ℕ) → hourCount n x ≤ n
-unfolding hourCount
-hours-most zero x = omega arith
-hours-most (suc n) x = at (holdsHour x (suc n)) (hours-most n x)
-  where
-    at : (t : Bool) → hourCount n x ≤ n → hourCount n x + cond t 1 0 ≤ suc n
-    at true k = omega arith
-    at false k = omega arith
-
-pub limit-fits : (price x : ℕ) → price ≤ 300000 → price * hourCount 24 x ≤ 7200000
-limit-fits price x a = omega (arith, mul-le-mul a (hours-most 24 x))
-
--- places moved on by a quantity in some hours
-pub moved-most : (x q : ℕ) (places more : List ℕ) → length more ≡ 24 →
-    ((h : ℕ) → 1 ≤ h → h ≤ 24 → getD more (h - 1) 0 ≡ getD places (h - 1) 0 + when (holdsHour x h) q) → (j : ℕ) → getD more j 0 ≤ getD places j 0 + q
-moved-most x q places more size moved j = elim (decLe 24 j) [
-  | yes k ↦ let z : length more ≤ j = omega arith in rw (lib.ListN.List·getD-eq-default more 0 z) (omega arith)
-  | no k ↦
-      let one : suc j - 1 ≡ j = omega arith in
-      let m : getD more (suc j - 1) 0 ≡ getD more j 0 = rw one in
-      let n : getD places (suc j - 1) 0 ≡ getD places j 0 = rw one in
-      omega (arith, moved (suc j) (omega arith) (omega (arith, lt-of-not-le k)), when-le (holdsHour x (suc j)) q)
-]
+use Rattle.roots.proofs.SizeLaws.{side-le, chosen-le, moved-most}
 
 -- WHAT THE BLOCKS TRADE in each hour
 module _ (sides hours quantities : List ℕ) (all : Bool) where

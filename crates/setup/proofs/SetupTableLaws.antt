@@ -15,6 +15,7 @@ use Rattle.tables.proofs.LevelLaws.{table-not-rising, table-in-range}
 use Rattle.search.specs.Search.{Small}
 use Rattle.setup.specs.Setup.{StepsHeld, PartHeld, partOf, rowOf, RowIs, RowsAre, Ranged, RangedAt, RangesAre}
 use Rattle.search.proofs.LeafLaws.{zeros}
+use Rattle.roots.proofs.SizeLaws.{set-small}
 
 -- PARTS
 pub take-drop : (m k : ℕ) (l : List ℕ) → take k (drop m l) ≡ drop m (take (m + k) l)
@@ -75,15 +76,6 @@ below-next : (P : ℕ → Type 0) (h k : ℕ) → (k < h → P k) → P h → k 
 below-next P h k f p a = elim (decLe h k) [
   | yes z ↦ let e : k ≡ h = omega arith in rw e p
   | no z ↦ f (lt-of-not-le z)
-]
-
-pub set-small : (m : ℕ) (l : List ℕ) (h v : ℕ) → h < length l → v ≤ m → Small m l → Small m (set l h v)
-set-small m l h v k a small j = elim (decLe j h) [
-  | yes b ↦ elim (decLe h j) [
-    | yes c ↦ let e : j ≡ h = omega arith in rw (e, getD-set-same l h v 0 k) a
-    | no c ↦ let d : j < h = lt-of-not-le c in rw (getD-set-other l h j v 0 (λ e. omega arith)) (small j)
-  ]
-  | no b ↦ let d : h < j = lt-of-not-le b in rw (getD-set-other l h j v 0 (λ e. omega arith)) (small j)
 ]
 
 -- THE PRICE TABLES

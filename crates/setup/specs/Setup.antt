@@ -12,31 +12,33 @@ use Rattle.orders.specs.Columns.{StepColumns, BlockColumns, sideFor}
 use Rattle.rules.specs.Hour.{bySide, when}
 use Rattle.rules.specs.Execution.{testSide}
 use Rattle.tables.specs.Tables.{PriceTable, AllOf, ClearRange, GapTable}
-use Rattle.search.specs.Search.{Small, sideAt, hoursAt, quantityAt, limitAt, againstAt, gainAt, aheadAt, behindAt, rowAt, sumOfHours}
+use Rattle.rules.specs.Orders.{maxPrice}
+use Rattle.search.specs.Layout.{dayHours, mostBlocks, mostQuantity, mostSteps, lastPlace, rowSize, hoursColumn, quantityColumn, limitColumn, againstColumn, gainColumn, aheadColumn, blockRows, blockListSize}
+use Rattle.search.specs.Search.{Small, FirstSmall, sideAt, hoursAt, quantityAt, limitAt, againstAt, gainAt, aheadAt, behindAt, rowAt, sumOfHours}
 use Rattle.search.specs.Meaning.{Known, Turning}
 
 -- WHAT SAFETY ASKS of the columns
--- The steps' columns have one length, at most 2,048; the hours' ends rise and stay within it.
+-- The steps' columns have one length, and are not too long; the hours' ends rise and stay within it.
 pub record StepsHeld (sides prices quantities ends : List ℕ) : Type 0 where
   pub asManyPrices : length sides ≡ length prices
   pub asManyQuantities : length sides ≡ length quantities
-  pub notTooMany : length sides ≤ 2048
-  pub rising : (h : ℕ) → h < 24 → getD ends h 0 ≤ getD ends (h + 1) 0
-  pub inside : (h : ℕ) → h ≤ 24 → getD ends h 0 ≤ length sides
+  pub notTooMany : length sides ≤ mostSteps
+  pub rising : (h : ℕ) → h < dayHours → getD ends h 0 ≤ getD ends (h + 1) 0
+  pub inside : (h : ℕ) → h ≤ dayHours → getD ends h 0 ≤ length sides
 
 -- The same of the part from a to e, that of an hour.
 pub record PartHeld (sides prices quantities : List ℕ) (a e : ℕ) : Type 0 where
   pub asManyPrices : length sides ≡ length prices
   pub asManyQuantities : length sides ≡ length quantities
-  pub notTooMany : length sides ≤ 2048
+  pub notTooMany : length sides ≤ mostSteps
   pub ordered : a ≤ e
   pub inside : e ≤ length sides
 
--- There are at most 32 blocks, with prices of at most 300,000 and quantities of at most 50.
+-- There are not too many blocks, and their prices and quantities are in their ranges.
 pub record BlocksHeld (count : ℕ) (prices quantities : List ℕ) : Type 0 where
-  pub few : count ≤ 32
-  pub pricesFit : (i : ℕ) → i < count → getD prices i 0 ≤ 300000
-  pub quantitiesFit : (i : ℕ) → i < count → getD quantities i 0 ≤ 50
+  pub few : count ≤ mostBlocks
+  pub pricesFit : FirstSmall count maxPrice prices
+  pub quantitiesFit : FirstSmall count mostQuantity quantities
 
 -- PARTS: the numbers of a column from a up to e; those of hour h + 1; and that hour's row of a table.
 abbrev pub between : ℕ → ℕ → List ℕ → List ℕ
@@ -46,7 +48,7 @@ abbrev pub partOf : List ℕ → ℕ → List ℕ → List ℕ
 partOf ends h column = between (getD ends h 0) (getD ends (h + 1) 0) column
 
 abbrev pub rowOf : List ℕ → ℕ → List ℕ
-rowOf table h = take 1602 (drop (h * 1602) table)
+rowOf table h = take rowSize (drop (h * rowSize) table)
 
 -- THE TABLES
 -- A row is the price table of the steps from a up to e.
@@ -59,7 +61,7 @@ RowIs sides prices quantities ends off low h =
     PriceTable (partOf ends h sides) (partOf ends h prices) (partOf ends h quantities) (getD off h 0) (rowOf low h)
 
 abbrev pub RowsAre : (sides prices quantities ends off low : List ℕ) → Type 0
-RowsAre sides prices quantities ends off low = (h : ℕ) → h < 24 → RowIs sides prices quantities ends off low h
+RowsAre sides prices quantities ends off low = (h : ℕ) → h < dayHours → RowIs sides prices quantities ends off low h
 
 -- The places at which an hour clears, of those up to most, and its gaps there at a price, the least at turn.
 pub record Ranged (sides prices quantities : List ℕ) (off most price first last turn : ℕ) (low gap : List ℕ) : Type 0 where
@@ -80,7 +82,7 @@ RangedAt sides prices quantities ends off most root low gap first last turn h =
 
 abbrev pub RangesAre : (sides prices quantities ends off most root low gap first last turn : List ℕ) → Type 0
 RangesAre sides prices quantities ends off most root low gap first last turn =
-    (h : ℕ) → h < 24 → RangedAt sides prices quantities ends off most root low gap first last turn h
+    (h : ℕ) → h < dayHours → RangedAt sides prices quantities ends off most root low gap first last turn h
 
 -- THE BLOCKS
 -- The sum of a number of each of the first n places.
@@ -93,49 +95,49 @@ abbrev pub tradedIn : (count : ℕ) (sides hours quantities : List ℕ) (all : B
 tradedIn count sides hours quantities all h =
     sumBelow count (λ i. when (holdsHour (getD hours i 0) h) (bySide (sideFor (getD sides i 0)) (getD quantities i 0) (cond all (getD quantities i 0) 0)))
 
--- A column has that sum for each hour, at most 1,600.
+-- A column has that sum for each hour; it is a place.
 pub record TradedBy (count : ℕ) (sides hours quantities : List ℕ) (all : Bool) (column : List ℕ) : Type 0 where
-  pub small : Small 1600 column
-  pub is : (h : ℕ) → 1 ≤ h → h ≤ 24 → getD column (h - 1) 0 ≡ tradedIn count sides hours quantities all h
+  pub small : Small lastPlace column
+  pub is : (h : ℕ) → 1 ≤ h → h ≤ dayHours → getD column (h - 1) 0 ≡ tradedIn count sides hours quantities all h
 
 -- The columns with block i written.
 unfoldable pub written : (columns : List ℕ) (i side hours quantity limit sum : ℕ) → List ℕ
 written columns i side hours quantity limit sum =
-    set (set (set (set (set (set columns i side) (32 + i) hours) (64 + i) quantity) (96 + i) limit)
-    (128 + i) (quantity * bySide (sideFor side) (sum - limit) (limit - sum)))
-    (160 + i) (quantity * bySide (sideFor side) (limit - sum) (sum - limit))
+    set (set (set (set (set (set columns i side) (hoursColumn + i) hours) (quantityColumn + i) quantity) (limitColumn + i) limit)
+    (againstColumn + i) (quantity * bySide (sideFor side) (sum - limit) (limit - sum)))
+    (gainColumn + i) (quantity * bySide (sideFor side) (limit - sum) (sum - limit))
 
 -- Block i of the six columns, at hourly prices root.
 pub record Written (sides hours prices quantities root columns : List ℕ) (i : ℕ) : Type 0 where
   pub sideIs : sideAt columns i ≡ getD sides i 0
   pub hoursIs : hoursAt columns i ≡ getD hours i 0
   pub quantityIs : quantityAt columns i ≡ getD quantities i 0
-  pub limitIs : limitAt columns i ≡ getD prices i 0 * hourCount 24 (getD hours i 0)
+  pub limitIs : limitAt columns i ≡ getD prices i 0 * hourCount dayHours (getD hours i 0)
   pub againstIs : againstAt columns i ≡ getD quantities i 0
-      * bySide (sideFor (getD sides i 0)) (sumOfHours root (getD hours i 0) - getD prices i 0 * hourCount 24 (getD hours i 0))
-      (getD prices i 0 * hourCount 24 (getD hours i 0) - sumOfHours root (getD hours i 0))
+      * bySide (sideFor (getD sides i 0)) (sumOfHours root (getD hours i 0) - getD prices i 0 * hourCount dayHours (getD hours i 0))
+      (getD prices i 0 * hourCount dayHours (getD hours i 0) - sumOfHours root (getD hours i 0))
   pub gainIs : gainAt columns i ≡ getD quantities i 0
-      * bySide (sideFor (getD sides i 0)) (getD prices i 0 * hourCount 24 (getD hours i 0) - sumOfHours root (getD hours i 0))
-      (sumOfHours root (getD hours i 0) - getD prices i 0 * hourCount 24 (getD hours i 0))
+      * bySide (sideFor (getD sides i 0)) (getD prices i 0 * hourCount dayHours (getD hours i 0) - sumOfHours root (getD hours i 0))
+      (sumOfHours root (getD hours i 0) - getD prices i 0 * hourCount dayHours (getD hours i 0))
 
 -- THE WHOLE LIST OF THE BLOCKS
 -- The six columns, and nothing behind them yet.
 pub record Widened (columns blocks : List ℕ) : Type 0 where
-  pub size : length blocks ≡ 1024
-  pub same : (k : ℕ) → k < 192 → getD blocks k 0 ≡ getD columns k 0
-  pub none : (k : ℕ) → 192 ≤ k → getD blocks k 0 ≡ 0
+  pub size : length blocks ≡ blockListSize
+  pub same : (k : ℕ) → k < aheadColumn → getD blocks k 0 ≡ getD columns k 0
+  pub none : (k : ℕ) → aheadColumn ≤ k → getD blocks k 0 ≡ 0
 
--- No row stands yet, and no quantity is above 50.
+-- No row stands yet, and every quantity is in its range.
 pub record RowsEmpty (blocks : List ℕ) : Type 0 where
-  pub small : (i : ℕ) → i < 32 → quantityAt blocks i ≤ 50
-  pub none : (k : ℕ) → 256 ≤ k → getD blocks k 0 ≡ 0
+  pub small : (i : ℕ) → i < mostBlocks → quantityAt blocks i ≤ mostQuantity
+  pub none : (k : ℕ) → blockRows ≤ k → getD blocks k 0 ≡ 0
 
 -- The rows of the first count blocks stand.
 pub record RowsWritten (count : ℕ) (before blocks : List ℕ) : Type 0 where
-  pub size : length blocks ≡ 1024
-  pub same : (k : ℕ) → k < 256 → getD blocks k 0 ≡ getD before k 0
-  pub row : (j h : ℕ) → j < count → 1 ≤ h → h ≤ 24 → rowAt blocks j h ≡ when (holdsHour (hoursAt before j) h) (quantityAt before j)
-  pub fits : (k : ℕ) → 256 ≤ k → getD blocks k 0 ≤ 50
+  pub size : length blocks ≡ blockListSize
+  pub same : (k : ℕ) → k < blockRows → getD blocks k 0 ≡ getD before k 0
+  pub row : (j h : ℕ) → j < count → 1 ≤ h → h ≤ dayHours → rowAt blocks j h ≡ when (holdsHour (hoursAt before j) h) (quantityAt before j)
+  pub fits : (k : ℕ) → blockRows ≤ k → getD blocks k 0 ≤ mostQuantity
 
 -- Blocks a and b are twins: of the same side, hours and quantity.
 pub record TwinsAt (blocks : List ℕ) (a b : ℕ) : Type 0 where
@@ -154,16 +156,16 @@ TwinOf blocks i ahead found = (a : ℕ) → found ≡ suc a →
 
 -- No twin stands yet.
 abbrev pub TwinsEmpty : List ℕ → Type 0
-TwinsEmpty blocks = (k : ℕ) → 192 ≤ k → k < 256 → getD blocks k 0 ≡ 0
+TwinsEmpty blocks = (k : ℕ) → aheadColumn ≤ k → k < blockRows → getD blocks k 0 ≡ 0
 
 -- The twins of the first count blocks stand.
 pub record TwinsWritten (count : ℕ) (before blocks : List ℕ) : Type 0 where
-  pub size : length blocks ≡ 1024
-  pub columns : (k : ℕ) → k < 192 → getD blocks k 0 ≡ getD before k 0
-  pub rows : (k : ℕ) → 256 ≤ k → getD blocks k 0 ≡ getD before k 0
+  pub size : length blocks ≡ blockListSize
+  pub columns : (k : ℕ) → k < aheadColumn → getD blocks k 0 ≡ getD before k 0
+  pub rows : (k : ℕ) → blockRows ≤ k → getD blocks k 0 ≡ getD before k 0
   pub ahead : (i : ℕ) → i < count → TwinOf before i true (aheadAt blocks i)
   pub behind : (i : ℕ) → i < count → TwinOf before i false (behindAt blocks i)
-  pub none : (i : ℕ) → count ≤ i → i < 32 → (aheadAt blocks i ≡ 0) × (behindAt blocks i ≡ 0)
+  pub none : (i : ℕ) → count ≤ i → i < mostBlocks → (aheadAt blocks i ≡ 0) × (behindAt blocks i ≡ 0)
 
 -- WHAT IS READY: the day of an accepted book behind the tables, at some prices.
 pub record Ready (b low gap first last turn columns : List ℕ) (count : ℕ) : Type 0 where
@@ -176,4 +178,4 @@ abbrev pub ReadyFor : (sides prices quantities ends : List ℕ) (count : ℕ) (r
     (low gap first last turn columns : List ℕ) → Type 0
 ReadyFor sides prices quantities ends count records blockSides hours blockPrices blockQuantities low gap first last turn columns =
     (b stepRecords : List ℕ) → Accepted b → StepColumns b ends stepRecords sides prices quantities →
-    BlockColumns 32 b count records blockSides hours blockPrices blockQuantities → Ready b low gap first last turn columns count
+    BlockColumns mostBlocks b count records blockSides hours blockPrices blockQuantities → Ready b low gap first last turn columns count

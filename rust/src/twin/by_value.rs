@@ -21,6 +21,9 @@ pub mod records;
 pub mod result;
 #[allow(clippy::all, unused)]
 #[rustfmt::skip]
+pub mod roots;
+#[allow(clippy::all, unused)]
+#[rustfmt::skip]
 pub mod search;
 #[allow(clippy::all, unused)]
 #[rustfmt::skip]

@@ -12,8 +12,9 @@ use std::path::{Path, PathBuf};
 use std::{fs, io};
 
 /// The proved crates that a clearing runs.
-pub const CRATES: [&str; 9] =
-    ["records", "book", "orders", "pricing", "tables", "search", "setup", "result", "clearing"];
+pub const CRATES: [&str; 10] = [
+    "records", "book", "orders", "pricing", "tables", "search", "roots", "setup", "result", "clearing",
+];
 
 /// A file of the twin: where it stands in `src/twin/by_value`, and its text.
 pub struct TwinFile {

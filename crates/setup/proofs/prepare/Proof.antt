@@ -38,7 +38,8 @@ fill-tables-requires c κs = search needs
 root-prices-requires : tie.Need-root-prices-requires
 root-prices-requires c κs =
     let f = c .before .before .before in
-    ((low-size f, low-fits f, c .before .before .before .before .before .before .traded-by-hour .ensures .small), c .before .before .before .before .before .before .before .before .before .before .before .before .before .before .before .before .pre .1 .0)
+    let held = c .before .before .before .before .before .before .before .before .before .before .before .before .before .before .before .before .pre .1 .0 in
+    ((low-size f, low-fits f, c .before .before .before .before .before .before .traded-by-hour .ensures .small), (held .few, held .pricesFit, held .quantitiesFit))
 
 fill-ranges-requires : tie.Need-fill-ranges-requires
 fill-ranges-requires c κs =

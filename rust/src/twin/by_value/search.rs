@@ -3,6 +3,8 @@
 // hour 1 first), the hour's prices and gaps at each place; a place is what the taken blocks sell and the left-out blocks would buy in the hour.
 use crate::twin::by_value::pricing::execution::traded_at;
 
+pub mod layout;
+
 // The price and the traded quantity of each hour.
 #[derive(Clone, Copy)]
 pub struct Day {

@@ -1,0 +1,64 @@
+-- How large the numbers get that are chosen, multiplied, moved on and stored. Assumes nothing.
+use Prim.Native.Nat.{ℕ, zero, suc, _+_, _-_, _*_, _≤_, _<_}
+use mathlib.Core.Path.{_≡_}
+use mathlib.Core.List.{List}
+use mathlib.Core.Bool.{Bool, true, false, cond}
+use native.Mathlib.Omega.{arith}
+use native.Mathlib.Decide.{decLe}
+use native.Mathlib.Nat.{lt-of-not-le, mul-le-mul}
+use lib.ListN.{length, getD, set}
+use lib.Seq.{getD-set-same, getD-set-other}
+use Rattle.records.specs.Records.{holdsHour, hourCount}
+use Rattle.rules.specs.Orders.{Side, buy, sell, maxPrice}
+use Rattle.rules.specs.Hour.{bySide, when}
+use Rattle.rules.proofs.CurveLaws.{when-le}
+use Rattle.search.specs.Layout.{mostQuantity, mostLimit}
+use Rattle.search.specs.Search.{Small}
+
+-- a number for each side stays below what both do
+pub side-le : (side : Side) (a b m : ℕ) → a ≤ m → b ≤ m → bySide side a b ≤ m
+side-le buy a b m x y = x
+side-le sell a b m x y = y
+
+-- a number or 0 stays below what the number does
+pub chosen-le : (t : Bool) (a m : ℕ) → a ≤ m → cond t a 0 ≤ m
+chosen-le true a m x = x
+chosen-le false a m x = omega arith
+
+pub product-fits : (q x : ℕ) → q ≤ mostQuantity → x ≤ mostLimit → q * x ≤ mostQuantity * mostLimit
+product-fits q x a b = omega (arith, mul-le-mul a b)
+
+-- a block runs in at most 24 hours
+hours-most : (n x : ℕ) → hourCount n x ≤ n
+unfolding hourCount
+hours-most zero x = omega arith
+hours-most (suc n) x = at (holdsHour x (suc n)) (hours-most n x)
+  where
+    at : (t : Bool) → hourCount n x ≤ n → hourCount n x + cond t 1 0 ≤ suc n
+    at true k = omega arith
+    at false k = omega arith
+
+pub limit-fits : (price x : ℕ) → price ≤ maxPrice → price * hourCount 24 x ≤ mostLimit
+limit-fits price x a = omega (arith, mul-le-mul a (hours-most 24 x))
+
+-- places moved on by a quantity in some hours
+pub moved-most : (x q : ℕ) (places more : List ℕ) → length more ≡ 24 →
+    ((h : ℕ) → 1 ≤ h → h ≤ 24 → getD more (h - 1) 0 ≡ getD places (h - 1) 0 + when (holdsHour x h) q) → (j : ℕ) → getD more j 0 ≤ getD places j 0 + q
+moved-most x q places more size moved j = elim (decLe 24 j) [
+  | yes k ↦ let z : length more ≤ j = omega arith in rw (lib.ListN.List·getD-eq-default more 0 z) (omega arith)
+  | no k ↦
+      let one : suc j - 1 ≡ j = omega arith in
+      let m : getD more (suc j - 1) 0 ≡ getD more j 0 = rw one in
+      let n : getD places (suc j - 1) 0 ≡ getD places j 0 = rw one in
+      omega (arith, moved (suc j) (omega arith) (omega (arith, lt-of-not-le k)), when-le (holdsHour x (suc j)) q)
+]
+
+-- a list of small numbers with one more written
+pub set-small : (m : ℕ) (l : List ℕ) (h v : ℕ) → h < length l → v ≤ m → Small m l → Small m (set l h v)
+set-small m l h v k a small j = elim (decLe j h) [
+  | yes b ↦ elim (decLe h j) [
+    | yes c ↦ let e : j ≡ h = omega arith in rw (e, getD-set-same l h v 0 k) a
+    | no c ↦ let d : j < h = lt-of-not-le c in rw (getD-set-other l h j v 0 (λ e. omega arith)) (small j)
+  ]
+  | no b ↦ let d : h < j = lt-of-not-le b in rw (getD-set-other l h j v 0 (λ e. omega arith)) (small j)
+]

@@ -1,0 +1,90 @@
+-- `roots::limits_of` meets its contract: a price in each of at most 24 hours. Assumes nothing.
+use Prim.Native.Nat.{_-_, _<_}
+use mathlib.Core.Path.{_≡_, refl}
+use native.Mathlib.Omega.{arith}
+use lib.ListN.{length, getD, length-set}
+use Rattle.search.specs.Search.{Small}
+use Rattle.search.proofs.LeafLaws.{zeros}
+use Rattle.roots.proofs.SizeLaws.{limit-fits}
+use Rattle.roots.proofs.SizeLaws.{set-small}
+use borrow.Author.Needs.{needs}
+use Rattle.roots.proofs.limits_of.Statement.{statement}
+use Rattle.roots.proofs.limits_of.Tie as tie
+use Rattle.roots.proofs.limits_of.Reads as reads
+use Rattle.roots.proofs.limits_of.Lts as lts
+use Rattle.records.proofs.hour_count.Reads as hour-count-reads
+
+abbrev Inv-loop : tie.InvT-loop
+Inv-loop count hours prices limits₀ i₀ limits i = (length limits ≡ 32) × Small 7200000 limits
+
+abbrev μ-loop : tie.MeasureT-loop
+μ-loop count hours prices limits₀ i₀ limits i = count - i
+
+loop-holds : tie.Need-loop-holds Inv-loop μ-loop
+loop-holds c = (refl, λ i. omega (arith, zeros 32 i))
+
+mul-limits : tie.Need-mul-limits Inv-loop μ-loop
+mul-limits c = search needs
+
+array-read-limits : tie.Need-array-read-limits Inv-loop μ-loop
+array-read-limits c = search needs
+
+mul-hour-count : tie.Need-mul-hour-count Inv-loop μ-loop
+mul-hour-count c = search needs
+
+array-read-hour-count : tie.Need-array-read-hour-count Inv-loop μ-loop
+array-read-hour-count c = search needs
+
+hour-count-requires : tie.Need-hour-count-requires Inv-loop μ-loop
+hour-count-requires c κs = search needs
+
+mul-limits-2 : tie.Need-mul-limits-2 Inv-loop μ-loop
+mul-limits-2 c =
+    let v = c .before .before .loop in
+    let s = c .before .before .before in
+    let fits = limit-fits (getD (s .args .t3) (v .i) 0) (getD (s .args .t2) (v .i) 0) (s .pre .1 (v .i) (c .before .loop-test .taken)) in
+    rw (c .hour-count .ensures) (record { fits = omega (arith, fits) })
+
+mul-limits-3 : tie.Need-mul-limits-3 Inv-loop μ-loop
+mul-limits-3 c = search needs
+
+array-write-limits : tie.Need-array-write-limits Inv-loop μ-loop
+array-write-limits c = search needs
+
+add-i : tie.Need-add-i Inv-loop μ-loop
+add-i c = search needs
+
+loop-less : tie.Need-loop-less Inv-loop μ-loop
+loop-less c = search needs
+
+loop-again : tie.Need-loop-again Inv-loop μ-loop
+loop-again c =
+    let v = c .before .before .loop in
+    let s = c .before .before .before in
+    let k = c .before .loop-test .taken in
+    let inside : v .i < length (v .limits) = omega (arith, v .inv .0, k, s .pre .0) in
+    let fits = limit-fits (getD (s .args .t3) (v .i) 0) (getD (s .args .t2) (v .i) 0) (s .pre .1 (v .i) k) in
+    (rw length-set (v .inv .0), set-small 7200000 (v .limits) (v .i) _ inside (rw (c .hour-count .ensures) fits) (v .inv .1))
+
+returns : tie.Need-returns Inv-loop μ-loop
+returns c = c .before .loop .inv .1
+
+pub limits-of-spec : {M : Type 1} → statement M
+limits-of-spec =
+    tie.close
+    (tie.spec
+    Inv-loop
+    μ-loop
+    loop-holds
+    mul-limits
+    array-read-limits
+    mul-hour-count
+    array-read-hour-count
+    hour-count-requires
+    mul-limits-2
+    mul-limits-3
+    array-write-limits
+    add-i
+    loop-less
+    loop-again
+    returns)

@@ -1,0 +1,102 @@
+-- `roots::gaps_from` meets its contract: each hour adds at most two gaps. Assumes nothing.
+use Prim.Native.Nat.{_-_, _*_, _≤_}
+use native.Mathlib.Omega.{arith}
+use borrow.Author.Needs.{needs}
+use Rattle.roots.proofs.losses.gaps_from.Statement.{statement}
+use Rattle.roots.proofs.losses.gaps_from.Tie as tie
+use Rattle.roots.proofs.losses.gaps_from.Reads as reads
+use Rattle.roots.proofs.losses.gaps_from.Lts as lts
+use Rattle.roots.proofs.losses.gap_down.Reads as gap-down-reads
+use Rattle.roots.proofs.losses.gap_up.Reads as gap-up-reads
+
+abbrev Inv-loop : tie.InvT-loop
+Inv-loop low off prices sum₀ h₀ sum h = (h ≤ 24) × (sum ≤ h * 961200000)
+
+abbrev μ-loop : tie.MeasureT-loop
+μ-loop low off prices sum₀ h₀ sum h = 24 - h
+
+loop-holds : tie.Need-loop-holds Inv-loop μ-loop
+loop-holds c = (omega arith, omega arith)
+
+mul-row : tie.Need-mul-row Inv-loop μ-loop
+mul-row c = search needs
+
+mul-from : tie.Need-mul-from Inv-loop μ-loop
+mul-from c = search needs
+
+array-read-from : tie.Need-array-read-from Inv-loop μ-loop
+array-read-from c = search needs
+
+cast-from : tie.Need-cast-from Inv-loop μ-loop
+cast-from c = search needs
+
+mul-gap-up : tie.Need-mul-gap-up Inv-loop μ-loop
+mul-gap-up c = search needs
+
+array-read-gap-up : tie.Need-array-read-gap-up Inv-loop μ-loop
+array-read-gap-up c = search needs
+
+gap-up-requires : tie.Need-gap-up-requires Inv-loop μ-loop
+gap-up-requires c κs =
+    let v = c .before .loop in
+    let s = c .before .before .before in
+    (s .pre .0, s .pre .1, omega (arith, c .loop-test .taken), s .pre .2 (v .h))
+
+mul-gap-down : tie.Need-mul-gap-down Inv-loop μ-loop
+mul-gap-down c = search needs
+
+array-read-gap-down : tie.Need-array-read-gap-down Inv-loop μ-loop
+array-read-gap-down c = search needs
+
+gap-down-requires : tie.Need-gap-down-requires Inv-loop μ-loop
+gap-down-requires c κs =
+    let v = c .before .before .loop in
+    let s = c .before .before .before .before in
+    (s .pre .0, omega (arith, c .before .loop-test .taken), s .pre .2 (v .h), s .pre .3 (v .h))
+
+add-sum : tie.Need-add-sum Inv-loop μ-loop
+add-sum c = search needs
+
+add-sum-2 : tie.Need-add-sum-2 Inv-loop μ-loop
+add-sum-2 c =
+    let v = c .before .before .before .loop in
+    omega (arith, v .inv .0, v .inv .1, c .before .gap-up .ensures, c .gap-down .ensures)
+
+add-h : tie.Need-add-h Inv-loop μ-loop
+add-h c = search needs
+
+loop-less : tie.Need-loop-less Inv-loop μ-loop
+loop-less c = search needs
+
+loop-again : tie.Need-loop-again Inv-loop μ-loop
+loop-again c =
+    let v = c .before .before .before .loop in
+    let k = c .before .before .loop-test .taken in
+    (omega (arith, k), omega (arith, v .inv .1, c .before .gap-up .ensures, c .gap-down .ensures))
+
+returns : tie.Need-returns Inv-loop μ-loop
+returns c = omega (arith, c .before .loop .inv .0, c .before .loop .inv .1)
+
+pub gaps-from-spec : {M : Type 1} → statement M
+gaps-from-spec =
+    tie.close
+    (tie.spec
+    Inv-loop
+    μ-loop
+    loop-holds
+    mul-row
+    mul-from
+    array-read-from
+    cast-from
+    mul-gap-up
+    array-read-gap-up
+    gap-up-requires
+    mul-gap-down
+    array-read-gap-down
+    gap-down-requires
+    add-sum
+    add-sum-2
+    add-h
+    loop-less
+    loop-again
+    returns)

@@ -1,0 +1,84 @@
+-- `roots::moved_on` meets its contract: each move ends at prices again, and the places so far add up to at most 1,600 for each. Assumes nothing.
+use Prim.Native.Nat.{_+_, _-_, _*_, _≤_}
+use native.Mathlib.Omega.{arith}
+use Rattle.search.specs.Search.{Small}
+use borrow.Author.Needs.{needs}
+use Rattle.roots.proofs.moves.moved_on.Statement.{statement}
+use Rattle.roots.proofs.moves.moved_on.Tie as tie
+use Rattle.roots.proofs.moves.moved_on.Reads as reads
+use Rattle.roots.proofs.moves.moved_on.Lts as lts
+use Rattle.search.proofs.prices_at.Reads as prices-at-reads
+use Rattle.roots.proofs.moves.added_places.Reads as added-places-reads
+use Rattle.roots.proofs.moves.averaged.Reads as averaged-reads
+use Rattle.roots.proofs.moves.closer.Reads as closer-reads
+
+abbrev Inv-loop : tie.InvT-loop
+Inv-loop low count hours limits quantities n root₀ sum₀ k₀ root sum k = (1 ≤ k) × (k ≤ n + 7) × Small 300000 root × Small (k * 1600) sum
+
+abbrev μ-loop : tie.MeasureT-loop
+μ-loop low count hours limits quantities n root₀ sum₀ k₀ root sum k = n + 7 - k
+
+loop-holds : tie.Need-loop-holds Inv-loop μ-loop
+loop-holds c =
+    let p = c .before .before .before .pre .1 .1 in
+    (p .0, omega arith, p .2, p .3)
+
+add-loop : tie.Need-add-loop Inv-loop μ-loop
+add-loop c = search needs
+
+added-places-requires : tie.Need-added-places-requires Inv-loop μ-loop
+added-places-requires c κs =
+    let v = c .before .loop in
+    let s = c .before .before .before .before .before in
+    let k = c .loop-test .taken in
+    (s .pre .1 .0, (λ i. omega (arith, v .inv .3 i, k, s .pre .1 .1 .1), v .inv .2))
+
+add-averaged : tie.Need-add-averaged Inv-loop μ-loop
+add-averaged c = search needs
+
+averaged-requires : tie.Need-averaged-requires Inv-loop μ-loop
+averaged-requires c κs =
+    let v = c .before .before .loop in
+    (omega arith, λ i. omega (arith, c .added-places .ensures i, v .inv .3 i))
+
+prices-at-requires : tie.Need-prices-at-requires Inv-loop μ-loop
+prices-at-requires c κs = search needs
+
+closer-requires : tie.Need-closer-requires Inv-loop μ-loop
+closer-requires c κs = search needs
+
+add-k : tie.Need-add-k Inv-loop μ-loop
+add-k c = search needs
+
+loop-less : tie.Need-loop-less Inv-loop μ-loop
+loop-less c = search needs
+
+loop-again : tie.Need-loop-again Inv-loop μ-loop
+loop-again c =
+    let a = c .before .before .before in
+    let v = a .before .before .loop in
+    let k = a .before .loop-test .taken in
+    (omega arith, omega (arith, k), c .closer .ensures, λ i. omega (arith, a .added-places .ensures i, v .inv .3 i))
+
+returns : tie.Need-returns Inv-loop μ-loop
+returns c =
+    let v = c .before .loop in
+    (v .inv .2, λ i. omega (arith, v .inv .3 i, v .inv .1))
+
+pub moved-on-spec : {M : Type 1} → statement M
+moved-on-spec =
+    tie.close
+    (tie.spec
+    Inv-loop
+    μ-loop
+    loop-holds
+    add-loop
+    added-places-requires
+    add-averaged
+    averaged-requires
+    prices-at-requires
+    closer-requires
+    add-k
+    loop-less
+    loop-again
+    returns)

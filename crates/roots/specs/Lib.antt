@@ -1,0 +1,2 @@
+-- The root prices: how many moves are made. Definitions only.
+pub mod Roots

@@ -1,0 +1,119 @@
+// What the empty set loses at given prices: what the blocks would gain there, and what the hours lose at its places.
+ghost use Prim.Native.Nat.{ℕ, _+_, _-_, _*_, _≤_};
+ghost use mathlib.Core.Path.{_≡_};
+ghost use lib.ListN.{length, getD};
+ghost use Rattle.rules.specs.Orders.{maxPrice};
+ghost use Rattle.search.specs.Layout.{dayHours, mostBlocks, mostQuantity, mostLimit, lastPlace, rowSize, tableSize};
+ghost use Rattle.search.specs.Search.{Small, FirstSmall};
+use crate::numbers::by_side;
+use crate::numbers::less;
+use search::layout::HOURS;
+use search::layout::MOST_BLOCKS;
+use search::layout::ROW;
+use search::price_sum;
+
+// What an hour at the place from loses at a price below its own: how far the prices of the places above stand over it.
+fn gap_up(low: &[u32], row: usize, from: usize, price: u32) -> u64
+    requires { ⌜ (length (now low) ≡ tableSize) × Small maxPrice (now low) × (row ≤ tableSize - rowSize) × (from ≤ lastPlace) ⌝ }
+    ensures { λ r. ⌜ r ≤ rowSize * maxPrice ⌝ }
+{
+    let mut sum: u64 = 0;
+    let mut i = from + 1;
+    while i < ROW {
+        let cell = low[row + i];
+        if cell <= price {
+            return sum;
+        }
+        sum += (cell - price) as u64;
+        i += 1;
+    }
+    sum
+}
+
+// What it loses at a price above its own: how far the prices of the places down from it stand under it.
+fn gap_down(low: &[u32], row: usize, from: usize, price: u32) -> u64
+    requires { ⌜ (length (now low) ≡ tableSize) × (row ≤ tableSize - rowSize) × (from ≤ lastPlace) × (price ≤ maxPrice) ⌝ }
+    ensures { λ r. ⌜ r ≤ rowSize * maxPrice ⌝ }
+{
+    let mut sum: u64 = 0;
+    let mut i = from;
+    while 0 < i {
+        let cell = low[row + i];
+        if price <= cell {
+            return sum;
+        }
+        sum += (price - cell) as u64;
+        i -= 1;
+    }
+    sum
+}
+
+// What the hours at the places off lose at the prices.
+fn gaps_from(low: &[u32], off: [u32; HOURS], prices: [u32; HOURS]) -> u64
+    requires { ⌜ (length (now low) ≡ tableSize) × Small maxPrice (now low) × Small lastPlace off × Small maxPrice prices ⌝ }
+    ensures { λ r. ⌜ r ≤ 2 * dayHours * (rowSize * maxPrice) ⌝ }
+{
+    let mut sum: u64 = 0;
+    let mut h: usize = 0;
+    while h < HOURS {
+        let row = h * ROW;
+        let from = off[h] as usize;
+        let up = gap_up(low, row, from, prices[h]);
+        let down = gap_down(low, row, from, prices[h]);
+        sum += up + down;
+        h += 1;
+    }
+    sum
+}
+
+// What a block gains at a sum of prices over its hours.
+fn gain_of(side: u8, quantity: u32, limit: u32, sum: u32) -> u32
+    requires { ⌜ (quantity ≤ mostQuantity) × (limit ≤ mostLimit) × (sum ≤ mostLimit) ⌝ }
+    ensures { λ r. ⌜ r ≤ mostQuantity * mostLimit ⌝ }
+{
+    quantity * by_side(side, less(limit, sum), less(sum, limit))
+}
+
+// What the blocks gain at the prices root.
+fn gains_at(
+    count: usize,
+    sides: [u8; MOST_BLOCKS],
+    hours: [u32; MOST_BLOCKS],
+    limits: [u32; MOST_BLOCKS],
+    quantities: [u32; MOST_BLOCKS],
+    root: [u32; HOURS],
+) -> u64
+    requires blocks { ⌜ (count ≤ mostBlocks) × FirstSmall count mostQuantity quantities ⌝ }
+    requires prices { ⌜ Small mostLimit limits × Small maxPrice root ⌝ }
+    ensures { λ r. ⌜ r ≤ mostBlocks * (mostQuantity * mostLimit) ⌝ }
+{
+    let mut gains: u64 = 0;
+    let mut i: usize = 0;
+    while i < count {
+        let sum = price_sum(&root, hours[i]);
+        let gain = gain_of(sides[i], quantities[i], limits[i], sum);
+        gains += gain as u64;
+        i += 1;
+    }
+    gains
+}
+
+// What the empty set loses at the prices root: what the blocks would gain, and what the hours lose at its places.
+pub fn empty_loss(
+    low: &[u32],
+    off: [u32; HOURS],
+    count: usize,
+    sides: [u8; MOST_BLOCKS],
+    hours: [u32; MOST_BLOCKS],
+    limits: [u32; MOST_BLOCKS],
+    quantities: [u32; MOST_BLOCKS],
+    root: [u32; HOURS],
+) -> u64
+    requires tables { ⌜ (length (now low) ≡ tableSize) × Small maxPrice (now low) × Small lastPlace off ⌝ }
+    requires blocks { ⌜ (count ≤ mostBlocks) × FirstSmall count mostQuantity quantities ⌝ }
+    requires prices { ⌜ Small mostLimit limits × Small maxPrice root ⌝ }
+{
+    let gains = gains_at(count, sides, hours, limits, quantities, root);
+    let gaps = gaps_from(low, off, root);
+    gains + gaps
+}

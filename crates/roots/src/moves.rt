@@ -1,0 +1,124 @@
+// Prices on their way to those at which the blocks that gain are taken: a third of the way with each move, towards the prices at the average place so far.
+ghost use Prim.Native.Nat.{ℕ, _+_, _*_, _≤_, _<_};
+ghost use mathlib.Core.Path.{_≡_};
+ghost use lib.ListN.{length, getD};
+ghost use Rattle.rules.specs.Orders.{maxPrice};
+ghost use Rattle.search.specs.Layout.{mostBlocks, mostQuantity, lastPlace, tableSize};
+ghost use Rattle.search.specs.Search.{Small, FirstSmall};
+ghost use Rattle.roots.specs.Roots.{allMoves, roundMoves};
+use crate::numbers::choose;
+use search::layout::HOURS;
+use search::layout::MOST_BLOCKS;
+use search::moved;
+use search::price_sum;
+use search::prices_at;
+
+// The moves of a round, after which the prices are tried.
+pub const ROUND: u32 = 7;
+
+// The moves of all rounds.
+pub const MOVES: u32 = 56;
+
+// A list of places with those added at which each block that gains at the prices is taken, and no other: a sell that gains moves its hours on, a buy that
+// does not.
+pub fn added_places(
+    sum: [u32; HOURS],
+    count: usize,
+    hours: [u32; MOST_BLOCKS],
+    limits: [u32; MOST_BLOCKS],
+    quantities: [u32; MOST_BLOCKS],
+    root: [u32; HOURS],
+) -> [u32; HOURS]
+    requires blocks { ⌜ (count ≤ mostBlocks) × FirstSmall count mostQuantity quantities ⌝ }
+    requires prices { ⌜ Small ((allMoves + roundMoves) * lastPlace) sum × Small maxPrice root ⌝ }
+    ensures { λ r. ⌜ ((i : ℕ) → getD r i 0 ≤ getD sum i 0 + lastPlace) ⌝ }
+{
+    let mut places = sum;
+    let mut i: usize = 0;
+    while i < count {
+        let moves = limits[i] <= price_sum(&root, hours[i]);
+        let more = moved(places, hours[i], choose(moves, quantities[i], 0));
+        places = more;
+        i += 1;
+    }
+    places
+}
+
+// The places on the average, where n of them are added up.
+fn averaged(sum: [u32; HOURS], n: u32) -> [u32; HOURS]
+    requires { ⌜ (1 ≤ n) × Small (n * lastPlace) sum ⌝ }
+    ensures { λ r. ⌜ Small lastPlace r ⌝ }
+{
+    let mut r = [0; HOURS];
+    let mut h: usize = 0;
+    while h < HOURS {
+        r[h] = sum[h] / n;
+        h += 1;
+    }
+    r
+}
+
+// A price a third of the way to another, and at least 1 nearer.
+fn nearer(a: u32, b: u32) -> u32
+    requires { ⌜ (a ≤ maxPrice) × (b ≤ maxPrice) ⌝ }
+    ensures { λ r. ⌜ r ≤ maxPrice ⌝ }
+{
+    if a < b {
+        (2 * a + b + 2) / 3
+    } else {
+        (2 * a + b) / 3
+    }
+}
+
+// Prices moved a third of the way to others.
+fn closer(a: [u32; HOURS], b: [u32; HOURS]) -> [u32; HOURS]
+    requires { ⌜ Small maxPrice a × Small maxPrice b ⌝ }
+    ensures { λ r. ⌜ Small maxPrice r ⌝ }
+{
+    let mut r = [0; HOURS];
+    let mut h: usize = 0;
+    while h < HOURS {
+        r[h] = nearer(a[h], b[h]);
+        h += 1;
+    }
+    r
+}
+
+// Prices on their way, and the places that they were moved by, added up.
+pub struct Trail {
+    pub prices: [u32; HOURS],
+    pub sum: [u32; HOURS],
+}
+
+// A round more, where n places are added up: each move goes towards the prices at the average of the places so far at which the blocks that gain are taken.
+pub fn moved_on(
+    low: &[u32],
+    count: usize,
+    hours: [u32; MOST_BLOCKS],
+    limits: [u32; MOST_BLOCKS],
+    quantities: [u32; MOST_BLOCKS],
+    trail: Trail,
+    n: u32,
+) -> Trail
+    requires tables { ⌜ (length (now low) ≡ tableSize) × Small maxPrice (now low) ⌝ }
+    requires blocks { ⌜ (count ≤ mostBlocks) × FirstSmall count mostQuantity quantities ⌝ }
+    requires trail { ⌜ (1 ≤ n) × (n < allMoves) × Small maxPrice (trail .prices) × Small (n * lastPlace) (trail .sum) ⌝ }
+    ensures { λ r. ⌜ Small maxPrice (r .prices) × Small ((n + roundMoves) * lastPlace) (r .sum) ⌝ }
+{
+    let mut root = trail.prices;
+    let mut sum = trail.sum;
+    let mut k = n;
+    while k < n + ROUND {
+        let more = added_places(sum, count, hours, limits, quantities, root);
+        let mean = averaged(more, k + 1);
+        let there = prices_at(low, mean);
+        let next = closer(root, there);
+        sum = more;
+        root = next;
+        k += 1;
+    }
+    Trail {
+        prices: root,
+        sum: sum,
+    }
+}

@@ -1,0 +1,121 @@
+-- `setup::fill_tables` meets its contract: the rows before that of the hour are filled. Assumes nothing.
+use Prim.Native.Nat.{_-_}
+use mathlib.Core.Path.{sym, _∙_}
+use native.Mathlib.Omega.{arith}
+use Rattle.setup.proofs.SetupTableLaws.{part-held, part-length, row-wide, RowsTo, rows-start, rows-next, rows-all}
+use borrow.Author.Needs.{needs}
+use Rattle.setup.proofs.rows.fill_tables.Statement.{statement}
+use Rattle.setup.proofs.rows.fill_tables.Tie as tie
+use Rattle.setup.proofs.rows.fill_tables.Reads as reads
+use Rattle.setup.proofs.rows.fill_tables.Lts as lts
+use Rattle.setup.proofs.rows.fill_row.Reads as fill-row-reads
+
+abbrev Inv-loop : tie.InvT-loop
+Inv-loop sides prices quantities low₀ ends off h₀ low h = RowsTo sides prices quantities ends off low h
+
+abbrev μ-loop : tie.MeasureT-loop
+μ-loop sides prices quantities low₀ ends off h₀ low h = 24 - h
+
+loop-holds : tie.Need-loop-holds Inv-loop μ-loop
+loop-holds c = rows-start _ _ _ _ _ _ (c .before .before .before .before .pre .2)
+
+mul-from : tie.Need-mul-from Inv-loop μ-loop
+mul-from c = search needs
+
+add-to : tie.Need-add-to Inv-loop μ-loop
+add-to c = search needs
+
+mul-fill-row : tie.Need-mul-fill-row Inv-loop μ-loop
+mul-fill-row c = search needs
+
+array-read-fill-row : tie.Need-array-read-fill-row Inv-loop μ-loop
+array-read-fill-row c = search needs
+
+cast-fill-row : tie.Need-cast-fill-row Inv-loop μ-loop
+cast-fill-row c = search needs
+
+add-fill-row : tie.Need-add-fill-row Inv-loop μ-loop
+add-fill-row c = search needs
+
+mul-fill-row-2 : tie.Need-mul-fill-row-2 Inv-loop μ-loop
+mul-fill-row-2 c = search needs
+
+array-read-fill-row-2 : tie.Need-array-read-fill-row-2 Inv-loop μ-loop
+array-read-fill-row-2 c = search needs
+
+cast-fill-row-2 : tie.Need-cast-fill-row-2 Inv-loop μ-loop
+cast-fill-row-2 c = search needs
+
+mul-fill-row-3 : tie.Need-mul-fill-row-3 Inv-loop μ-loop
+mul-fill-row-3 c = search needs
+
+array-read-fill-row-3 : tie.Need-array-read-fill-row-3 Inv-loop μ-loop
+array-read-fill-row-3 c = search needs
+
+mul-fill-row-4 : tie.Need-mul-fill-row-4 Inv-loop μ-loop
+mul-fill-row-4 c = search needs
+
+sub-fill-row : tie.Need-sub-fill-row Inv-loop μ-loop
+sub-fill-row c = search needs
+
+part-fill-row-start : tie.Need-part-fill-row-start Inv-loop μ-loop
+part-fill-row-start c = search needs
+
+part-fill-row-end : tie.Need-part-fill-row-end Inv-loop μ-loop
+part-fill-row-end c = omega (arith, c .before .loop .inv .size, c .loop-test .taken)
+
+fill-row-requires : tie.Need-fill-row-requires Inv-loop μ-loop
+fill-row-requires c κs =
+    let v = c .before .before .loop in
+    let s = c .before .before .before .before .before .before .before in
+    let k = c .before .loop-test .taken in
+    (part-held _ _ _ _ (s .pre .0) (v .h) k, s .pre .1 (v .h), part-length (v .low) (v .h) (v .inv .size) k)
+
+add-h : tie.Need-add-h Inv-loop μ-loop
+add-h c = search needs
+
+loop-less : tie.Need-loop-less Inv-loop μ-loop
+loop-less c = search needs
+
+loop-again : tie.Need-loop-again Inv-loop μ-loop
+loop-again c =
+    let v = c .before .before .before .before .before .loop in
+    let k = c .before .before .before .before .loop-test .taken in
+    let f = c .before .before .fill-row in
+    rows-next _ _ _ _ _ _ (f .last .1 .1 .1 .1 .1 .1 .0) _ _ (v .inv) k
+    (f .kept .1 .1 .1 .1 .1 .1 .0 ∙ part-length (v .low) (v .h) (v .inv .size) k) (row-wide (v .h)) (f .ensures)
+
+same-length : tie.Need-same-length Inv-loop μ-loop
+same-length c = c .before .loop .inv .size ∙ sym (c .before .before .before .before .before .before .pre .2)
+
+returns : tie.Need-returns Inv-loop μ-loop
+returns c = rows-all _ _ _ _ _ _ _ (c .before .loop .inv) (c .loop-test .left)
+
+pub fill-tables-spec : {M : Type 1} → statement M
+fill-tables-spec =
+    tie.close
+    (tie.spec
+    Inv-loop
+    μ-loop
+    loop-holds
+    mul-from
+    add-to
+    mul-fill-row
+    array-read-fill-row
+    cast-fill-row
+    add-fill-row
+    mul-fill-row-2
+    array-read-fill-row-2
+    cast-fill-row-2
+    mul-fill-row-3
+    array-read-fill-row-3
+    mul-fill-row-4
+    sub-fill-row
+    part-fill-row-start
+    part-fill-row-end
+    fill-row-requires
+    add-h
+    loop-less
+    loop-again
+    same-length
+    returns)

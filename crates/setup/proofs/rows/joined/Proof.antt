@@ -1,0 +1,96 @@
+-- `setup::joined` meets its contract: the hours before h stand in the three columns. Assumes nothing.
+use Prim.Native.Nat.{_-_}
+use Rattle.setup.proofs.SetupTwinLaws.{JoinedTo, joined-start, joined-next, joined-all}
+use borrow.Author.Needs.{needs}
+use Rattle.setup.proofs.rows.joined.Statement.{statement}
+use Rattle.setup.proofs.rows.joined.Tie as tie
+
+abbrev Inv-loop : tie.InvT-loop
+Inv-loop first last turn r₀ h₀ r h = JoinedTo first last turn h r
+
+abbrev μ-loop : tie.MeasureT-loop
+μ-loop first last turn r₀ h₀ r h = 24 - h
+
+loop-holds : tie.Need-loop-holds Inv-loop μ-loop
+loop-holds c = joined-start _ _ _
+
+mul-r : tie.Need-mul-r Inv-loop μ-loop
+mul-r c = search needs
+
+array-read-r : tie.Need-array-read-r Inv-loop μ-loop
+array-read-r c = search needs
+
+mul-r-2 : tie.Need-mul-r-2 Inv-loop μ-loop
+mul-r-2 c = search needs
+
+array-write-r : tie.Need-array-write-r Inv-loop μ-loop
+array-write-r c = search needs
+
+mul-r-3 : tie.Need-mul-r-3 Inv-loop μ-loop
+mul-r-3 c = search needs
+
+array-read-r-2 : tie.Need-array-read-r-2 Inv-loop μ-loop
+array-read-r-2 c = search needs
+
+add-r : tie.Need-add-r Inv-loop μ-loop
+add-r c = search needs
+
+mul-r-4 : tie.Need-mul-r-4 Inv-loop μ-loop
+mul-r-4 c = search needs
+
+array-write-r-2 : tie.Need-array-write-r-2 Inv-loop μ-loop
+array-write-r-2 c = search needs
+
+mul-r-5 : tie.Need-mul-r-5 Inv-loop μ-loop
+mul-r-5 c = search needs
+
+array-read-r-3 : tie.Need-array-read-r-3 Inv-loop μ-loop
+array-read-r-3 c = search needs
+
+add-r-2 : tie.Need-add-r-2 Inv-loop μ-loop
+add-r-2 c = search needs
+
+mul-r-6 : tie.Need-mul-r-6 Inv-loop μ-loop
+mul-r-6 c = search needs
+
+array-write-r-3 : tie.Need-array-write-r-3 Inv-loop μ-loop
+array-write-r-3 c = search needs
+
+add-h : tie.Need-add-h Inv-loop μ-loop
+add-h c = search needs
+
+loop-less : tie.Need-loop-less Inv-loop μ-loop
+loop-less c = search needs
+
+loop-again : tie.Need-loop-again Inv-loop μ-loop
+loop-again c = joined-next _ _ _ _ _ (c .before .loop .inv) (c .loop-test .taken)
+
+returns : tie.Need-returns Inv-loop μ-loop
+returns c =
+    joined-all _ _ _ _ _ (c .before .loop .inv) (c .loop-test .left) (search needs) (search needs) (search needs)
+
+pub joined-spec : {M : Type 1} → statement M
+joined-spec =
+    tie.close
+    (tie.spec
+    Inv-loop
+    μ-loop
+    loop-holds
+    mul-r
+    array-read-r
+    mul-r-2
+    array-write-r
+    mul-r-3
+    array-read-r-2
+    add-r
+    mul-r-4
+    array-write-r-2
+    mul-r-5
+    array-read-r-3
+    add-r-2
+    mul-r-6
+    array-write-r-3
+    add-h
+    loop-less
+    loop-again
+    returns)

@@ -1,0 +1,167 @@
+// The hours for the search: the price table of each, the places at which it clears, and its gaps there, row after row; and the hours' three columns.
+ghost use mathlib.Core.Path.{_≡_};
+ghost use Prim.Native.Nat.{ℕ, _≤_, _<_};
+ghost use lib.ListN.{length, getD};
+ghost use Rattle.rules.specs.Orders.{maxPrice};
+ghost use Rattle.search.specs.Layout.{dayHours, lastPlace, rowSize, tableSize};
+ghost use Rattle.search.specs.Search.{Small, firstOf, lastOf, turnOf};
+ghost use Rattle.setup.specs.Setup.{StepsHeld, PartHeld, TableOf, RowsAre, RangedOf, RangesAre};
+use search::layout::HOUR_LIST;
+use search::layout::HOURS;
+use search::layout::LAST;
+use search::layout::ROW;
+use search::layout::TURN;
+use tables::all_totals;
+use tables::clear_range;
+use tables::fill_gaps;
+use tables::fill_prices;
+
+// The first and the last place at which an hour clears, and the place of its least gap.
+pub struct Range {
+    pub first: usize,
+    pub last: usize,
+    pub turn: usize,
+}
+
+// The same of each hour.
+pub struct Ranges {
+    pub first: [u32; HOURS],
+    pub last: [u32; HOURS],
+    pub turn: [u32; HOURS],
+}
+
+// The price table of an hour, whose steps stand from a up to e.
+fn fill_row(
+    sides: &[u8],
+    prices: &[u32],
+    quantities: &[u32],
+    a: usize,
+    e: usize,
+    off: u32,
+    row: &mut [u32],
+)
+    requires { ⌜ PartHeld (now sides) (now prices) (now quantities) a e × (off ≤ lastPlace) × (length (now row) ≡ rowSize) ⌝ }
+    ensures { λ _. ⌜ TableOf (now (sides .entry)) (now (prices .entry)) (now (quantities .entry)) a e off (now (row .exit)) ⌝ }
+{
+    fill_prices(&sides[a..e], &prices[a..e], &quantities[a..e], off, row);
+}
+
+// The price tables of the hours, row after row.
+pub fn fill_tables(
+    sides: &[u8],
+    prices: &[u32],
+    quantities: &[u32],
+    ends: [u16; HOURS + 1],
+    off: [u32; HOURS],
+    low: &mut [u32],
+)
+    requires { ⌜ StepsHeld (now sides) (now prices) (now quantities) ends × Small lastPlace off × (length (now low) ≡ tableSize) ⌝ }
+    ensures { λ _. ⌜ RowsAre (now (sides .entry)) (now (prices .entry)) (now (quantities .entry)) ends off (now (low .exit)) ⌝ }
+{
+    let mut h: usize = 0;
+    while h < HOURS {
+        let from = h * ROW;
+        let to = from + ROW;
+        fill_row(
+            sides,
+            prices,
+            quantities,
+            ends[h] as usize,
+            ends[h + 1] as usize,
+            off[h],
+            &mut low[from..to],
+        );
+        h += 1;
+    }
+}
+
+// The places at which an hour clears, of those up to most, whose steps stand from a up to e, and its gaps there at a price. The range has the place off:
+// there N is 0.
+fn fill_hour(
+    sides: &[u8],
+    prices: &[u32],
+    quantities: &[u32],
+    a: usize,
+    e: usize,
+    off: u32,
+    most: u32,
+    price: u32,
+    row: &[u32],
+    gap: &mut [u32],
+) -> Range
+    requires held { ⌜ PartHeld (now sides) (now prices) (now quantities) a e × (off ≤ most) × (most ≤ lastPlace) × (price ≤ maxPrice) × (length (now gap) ≡ rowSize) ⌝ }
+    requires table { ⌜ (length (now row) ≡ rowSize) × TableOf (now sides) (now prices) (now quantities) a e off (now row) ⌝ }
+    ensures fits { λ r. ⌜ (r .first ≤ lastPlace) × (r .last ≤ lastPlace) × (r .turn ≤ lastPlace) ⌝ }
+    ensures ranged { λ r. ⌜ RangedOf (now (sides .entry)) (now (prices .entry)) (now (quantities .entry)) a e off most price
+        (r .first) (r .last) (r .turn) (now (row .entry)) (now (gap .exit)) ⌝ }
+{
+    let all = all_totals(&sides[a..e], &prices[a..e], &quantities[a..e]);
+    let range = clear_range(all.buys, all.sells, off, most as usize);
+    let turn = fill_gaps(row, price, range.first, range.last, gap);
+    Range {
+        first: range.first,
+        last: range.last,
+        turn: turn,
+    }
+}
+
+// The hours' ranges, and their gaps at the prices root, row after row.
+pub fn fill_ranges(
+    sides: &[u8],
+    prices: &[u32],
+    quantities: &[u32],
+    ends: [u16; HOURS + 1],
+    off: [u32; HOURS],
+    most: [u32; HOURS],
+    root: [u32; HOURS],
+    low: &[u32],
+    gap: &mut [u32],
+) -> Ranges
+    requires held { ⌜ StepsHeld (now sides) (now prices) (now quantities) ends × Small lastPlace most × Small maxPrice root × (length (now gap) ≡ tableSize) ⌝ }
+    requires within { ⌜ ((h : ℕ) → h < dayHours → getD off h 0 ≤ getD most h 0) ⌝ }
+    requires tables { ⌜ (length (now low) ≡ tableSize) × RowsAre (now sides) (now prices) (now quantities) ends off (now low) ⌝ }
+    ensures small { λ r. ⌜ (length (r .first) ≡ dayHours) × (length (r .last) ≡ dayHours) × (length (r .turn) ≡ dayHours) × Small lastPlace (r .last) ⌝ }
+    ensures ranges { λ r. ⌜ RangesAre (now (sides .entry)) (now (prices .entry)) (now (quantities .entry)) ends off most root
+        (now (low .entry)) (now (gap .exit)) (r .first) (r .last) (r .turn) ⌝ }
+{
+    let mut first = [0; HOURS];
+    let mut last = [0; HOURS];
+    let mut turn = [0; HOURS];
+    let mut h: usize = 0;
+    while h < HOURS {
+        let from = h * ROW;
+        let to = from + ROW;
+        let range = fill_hour(
+            sides,
+            prices,
+            quantities,
+            ends[h] as usize,
+            ends[h + 1] as usize,
+            off[h],
+            most[h],
+            root[h],
+            &low[from..to],
+            &mut gap[from..to],
+        );
+        first[h] = range.first as u32;
+        last[h] = range.last as u32;
+        turn[h] = range.turn as u32;
+        h += 1;
+    }
+    Ranges { first, last, turn }
+}
+
+// The hours' three columns in one list.
+pub fn joined(first: [u32; HOURS], last: [u32; HOURS], turn: [u32; HOURS]) -> [u32; HOUR_LIST]
+    ensures { λ r. ⌜ (firstOf r ≡ first) × (lastOf r ≡ last) × (turnOf r ≡ turn) ⌝ }
+{
+    let mut r = [0; HOUR_LIST];
+    let mut h: usize = 0;
+    while h < HOURS {
+        r[h] = first[h];
+        r[LAST + h] = last[h];
+        r[TURN + h] = turn[h];
+        h += 1;
+    }
+    r
+}

@@ -1,0 +1,76 @@
+// The twins for the search: for each block the earlier one of the same side, hours and quantity that is taken before it, and the one that is taken after it.
+ghost use mathlib.Core.Path.{_≡_};
+ghost use mathlib.Core.Bool.{true};
+ghost use Prim.Native.Nat.{ℕ, _≤_, _<_};
+ghost use lib.ListN.{length};
+ghost use Rattle.search.specs.Layout.{mostBlocks, blockListSize};
+ghost use Rattle.setup.specs.Setup.{TwinsAt, noWorse, TwinOf, TwinsEmpty, TwinsWritten};
+use roots::numbers::choose;
+use search::layout::AHEAD;
+use search::layout::BEHIND;
+use search::layout::BLOCK_LIST;
+use search::layout::LIMIT;
+use search::layout::QUANTITY;
+use search::layout::RUNS;
+
+// Whether two blocks are twins: of the same side, hours and quantity.
+fn are_twins(blocks: &[u32], a: usize, b: usize) -> bool
+    requires { ⌜ (length (now blocks) ≡ blockListSize) × (a < mostBlocks) × (b < mostBlocks) ⌝ }
+    ensures { λ r. ⌜ (r ≡ true → TwinsAt (now (blocks .entry)) a b) ⌝ }
+{
+    let same_side = blocks[a] == blocks[b];
+    let same_hours = blocks[RUNS + a] == blocks[RUNS + b];
+    let same_quantity = blocks[QUANTITY + a] == blocks[QUANTITY + b];
+    (same_side & same_hours) & same_quantity
+}
+
+// Whether a limit is kept wherever another is: a buy's is no lower, a sell's no higher.
+fn is_no_worse(side: u32, limit: u32, other: u32) -> bool
+    ensures { λ r. ⌜ r ≡ noWorse side limit other ⌝ }
+{
+    if side == 0 {
+        other <= limit
+    } else {
+        limit <= other
+    }
+}
+
+// Of the earlier twins of block i that are taken before it, the last by limit; where ahead is false, of those that are taken after it, the first. Its number
+// and 1, or 0 for none.
+fn nearest_twin(blocks: &[u32], i: usize, ahead: bool) -> u32
+    requires { ⌜ (length (now blocks) ≡ blockListSize) × (i < mostBlocks) ⌝ }
+    ensures { λ r. ⌜ TwinOf (now (blocks .entry)) i ahead r ⌝ }
+{
+    let side = blocks[i];
+    let limit = blocks[LIMIT + i];
+    let trades = 0 < blocks[QUANTITY + i];
+    let mut found: u32 = 0;
+    let mut edge = choose((side == 0) == ahead, u32::MAX, 0);
+    let mut j: usize = 0;
+    while j < i {
+        let here = blocks[LIMIT + j];
+        let fits = (are_twins(blocks, j, i) & trades) & (is_no_worse(side, here, limit) == ahead);
+        let test = fits & (is_no_worse(side, edge, here) == ahead);
+        let next = choose(test, (j + 1) as u32, found);
+        let nearer = choose(test, here, edge);
+        found = next;
+        edge = nearer;
+        j += 1;
+    }
+    found
+}
+
+// The same with the twins of each block.
+pub fn with_twins(count: usize, blocks: [u32; BLOCK_LIST]) -> [u32; BLOCK_LIST]
+    requires { ⌜ (count ≤ mostBlocks) × TwinsEmpty blocks ⌝ }
+    ensures { λ r. ⌜ TwinsWritten count blocks r ⌝ }
+{
+    let mut r = blocks;
+    let mut i: usize = 0;
+    while i < count {
+        r[AHEAD + i] = nearest_twin(&blocks, i, true);
+        r[BEHIND + i] = nearest_twin(&blocks, i, false);
+        i += 1;
+    }
+    r
+}

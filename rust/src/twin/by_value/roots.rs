@@ -1,0 +1,66 @@
+// Written by `twin_source` from crates/roots/src/lib.rt.
+// The root prices, those that the search goes by. Any prices are right, so only safety is proved here; how many branches the search drops depends on them.
+// Assumes nothing.
+use crate::twin::by_value::roots::losses::empty_loss;
+use crate::twin::by_value::roots::moves::MOVES;
+use crate::twin::by_value::roots::moves::ROUND;
+use crate::twin::by_value::roots::moves::Trail;
+use crate::twin::by_value::roots::moves::moved_on;
+use crate::twin::by_value::records::hour_count;
+use crate::twin::by_value::search::layout::HOURS;
+use crate::twin::by_value::search::layout::MOST_BLOCKS;
+use crate::twin::by_value::search::prices_at;
+
+pub mod losses; // what the empty set loses at given prices
+pub mod moves; // prices on their way
+pub mod numbers; // numbers by a test or a side
+
+// What each block asks for over its hours: its price times their number.
+fn limits_of(
+    count: usize,
+    hours: [u32; MOST_BLOCKS],
+    prices: [u32; MOST_BLOCKS],
+) -> [u32; MOST_BLOCKS]
+{
+    let mut limits = [0; MOST_BLOCKS];
+    let mut i: usize = 0;
+    while i < count {
+        limits[i] = prices[i] * hour_count(hours[i]);
+        i += 1;
+    }
+    limits
+}
+
+// The prices that the search goes by: the empty set's own, or those after 7, 14, .. 56 moves, where it loses least. Two sets' losses differ by the same at
+// all prices, so the published set loses least there too. Any prices are right.
+pub fn root_prices(
+    low: &[u32],
+    off: [u32; HOURS],
+    count: usize,
+    sides: [u8; MOST_BLOCKS],
+    hours: [u32; MOST_BLOCKS],
+    prices: [u32; MOST_BLOCKS],
+    quantities: [u32; MOST_BLOCKS],
+) -> [u32; HOURS]
+{
+    let limits = limits_of(count, hours, prices);
+    let mut best = prices_at(low, off);
+    let mut least = empty_loss(low, off, count, sides, hours, limits, quantities, best);
+    let mut trail = Trail {
+        prices: best,
+        sum: off,
+    };
+    let mut n: u32 = 1;
+    while n < MOVES {
+        let next = moved_on(low, count, hours, limits, quantities, trail, n);
+        let root = next.prices;
+        let loss = empty_loss(low, off, count, sides, hours, limits, quantities, root);
+        if loss < least {
+            best = root;
+            least = loss;
+        }
+        trail = next;
+        n += ROUND;
+    }
+    best
+}

@@ -1,0 +1,100 @@
+// Written by `twin_source` from crates/roots/src/losses.rt.
+// What the empty set loses at given prices: what the blocks would gain there, and what the hours lose at its places.
+use crate::twin::by_value::roots::numbers::by_side;
+use crate::twin::by_value::roots::numbers::less;
+use crate::twin::by_value::search::layout::HOURS;
+use crate::twin::by_value::search::layout::MOST_BLOCKS;
+use crate::twin::by_value::search::layout::ROW;
+use crate::twin::by_value::search::price_sum;
+
+// What an hour at the place from loses at a price below its own: how far the prices of the places above stand over it.
+fn gap_up(low: &[u32], row: usize, from: usize, price: u32) -> u64
+{
+    let mut sum: u64 = 0;
+    let mut i = from + 1;
+    while i < ROW {
+        let cell = low[row + i];
+        if cell <= price {
+            return sum;
+        }
+        sum += (cell - price) as u64;
+        i += 1;
+    }
+    sum
+}
+
+// What it loses at a price above its own: how far the prices of the places down from it stand under it.
+fn gap_down(low: &[u32], row: usize, from: usize, price: u32) -> u64
+{
+    let mut sum: u64 = 0;
+    let mut i = from;
+    while 0 < i {
+        let cell = low[row + i];
+        if price <= cell {
+            return sum;
+        }
+        sum += (price - cell) as u64;
+        i -= 1;
+    }
+    sum
+}
+
+// What the hours at the places off lose at the prices.
+fn gaps_from(low: &[u32], off: [u32; HOURS], prices: [u32; HOURS]) -> u64
+{
+    let mut sum: u64 = 0;
+    let mut h: usize = 0;
+    while h < HOURS {
+        let row = h * ROW;
+        let from = off[h] as usize;
+        let up = gap_up(low, row, from, prices[h]);
+        let down = gap_down(low, row, from, prices[h]);
+        sum += up + down;
+        h += 1;
+    }
+    sum
+}
+
+// What a block gains at a sum of prices over its hours.
+fn gain_of(side: u8, quantity: u32, limit: u32, sum: u32) -> u32
+{
+    quantity * by_side(side, less(limit, sum), less(sum, limit))
+}
+
+// What the blocks gain at the prices root.
+fn gains_at(
+    count: usize,
+    sides: [u8; MOST_BLOCKS],
+    hours: [u32; MOST_BLOCKS],
+    limits: [u32; MOST_BLOCKS],
+    quantities: [u32; MOST_BLOCKS],
+    root: [u32; HOURS],
+) -> u64
+{
+    let mut gains: u64 = 0;
+    let mut i: usize = 0;
+    while i < count {
+        let sum = price_sum(&root, hours[i]);
+        let gain = gain_of(sides[i], quantities[i], limits[i], sum);
+        gains += gain as u64;
+        i += 1;
+    }
+    gains
+}
+
+// What the empty set loses at the prices root: what the blocks would gain, and what the hours lose at its places.
+pub fn empty_loss(
+    low: &[u32],
+    off: [u32; HOURS],
+    count: usize,
+    sides: [u8; MOST_BLOCKS],
+    hours: [u32; MOST_BLOCKS],
+    limits: [u32; MOST_BLOCKS],
+    quantities: [u32; MOST_BLOCKS],
+    root: [u32; HOURS],
+) -> u64
+{
+    let gains = gains_at(count, sides, hours, limits, quantities, root);
+    let gaps = gaps_from(low, off, root);
+    gains + gaps
+}

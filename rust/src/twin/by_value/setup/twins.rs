@@ -1,0 +1,64 @@
+// Written by `twin_source` from crates/setup/src/twins.rt.
+// The twins for the search: for each block the earlier one of the same side, hours and quantity that is taken before it, and the one that is taken after it.
+use crate::twin::by_value::roots::numbers::choose;
+use crate::twin::by_value::search::layout::AHEAD;
+use crate::twin::by_value::search::layout::BEHIND;
+use crate::twin::by_value::search::layout::BLOCK_LIST;
+use crate::twin::by_value::search::layout::LIMIT;
+use crate::twin::by_value::search::layout::QUANTITY;
+use crate::twin::by_value::search::layout::RUNS;
+
+// Whether two blocks are twins: of the same side, hours and quantity.
+fn are_twins(blocks: &[u32], a: usize, b: usize) -> bool
+{
+    let same_side = blocks[a] == blocks[b];
+    let same_hours = blocks[RUNS + a] == blocks[RUNS + b];
+    let same_quantity = blocks[QUANTITY + a] == blocks[QUANTITY + b];
+    (same_side & same_hours) & same_quantity
+}
+
+// Whether a limit is kept wherever another is: a buy's is no lower, a sell's no higher.
+fn is_no_worse(side: u32, limit: u32, other: u32) -> bool
+{
+    if side == 0 {
+        other <= limit
+    } else {
+        limit <= other
+    }
+}
+
+// Of the earlier twins of block i that are taken before it, the last by limit; where ahead is false, of those that are taken after it, the first. Its number
+// and 1, or 0 for none.
+fn nearest_twin(blocks: &[u32], i: usize, ahead: bool) -> u32
+{
+    let side = blocks[i];
+    let limit = blocks[LIMIT + i];
+    let trades = 0 < blocks[QUANTITY + i];
+    let mut found: u32 = 0;
+    let mut edge = choose((side == 0) == ahead, u32::MAX, 0);
+    let mut j: usize = 0;
+    while j < i {
+        let here = blocks[LIMIT + j];
+        let fits = (are_twins(blocks, j, i) & trades) & (is_no_worse(side, here, limit) == ahead);
+        let test = fits & (is_no_worse(side, edge, here) == ahead);
+        let next = choose(test, (j + 1) as u32, found);
+        let nearer = choose(test, here, edge);
+        found = next;
+        edge = nearer;
+        j += 1;
+    }
+    found
+}
+
+// The same with the twins of each block.
+pub fn with_twins(count: usize, blocks: [u32; BLOCK_LIST]) -> [u32; BLOCK_LIST]
+{
+    let mut r = blocks;
+    let mut i: usize = 0;
+    while i < count {
+        r[AHEAD + i] = nearest_twin(&blocks, i, true);
+        r[BEHIND + i] = nearest_twin(&blocks, i, false);
+        i += 1;
+    }
+    r
+}
