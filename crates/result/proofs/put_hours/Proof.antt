@@ -61,9 +61,11 @@ loop-less c = search needs
 
 loop-again : tie.Need-loop-again Inv-loop μ-loop
 loop-again c =
-    let start = c .before .before .before .before .before .before .before .before .before .before .before in
-    let loop = c .before .before .before .before .before .before .before .before .before .loop in
-    let price = c .before .before .before .before .before .before .put32 in
+    let after-put32 = c .before .before .before .before .before .before in
+    let after-loop = after-put32 .before .before .before in
+    let start = after-loop .before .before in
+    let loop = after-loop .loop in
+    let price = after-put32 .put32 in
     let quantity = c .before .before .put322 in
     let lp : length (start .args .t2) ≡ 24 = search needs in
     let lq : length (start .args .t3) ≡ 24 = search needs in (

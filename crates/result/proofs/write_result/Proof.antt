@@ -20,12 +20,14 @@ same-length c = search needs
 
 returns : tie.Need-returns
 returns c =
-    let start = c .before .before .before .before .before .before .before .before .before .before .before .before .before in
+    let after-put-hours = c .before .before .before .before .before .before in
+    let after-put64 = after-put-hours .before .before .before .before in
+    let start = after-put64 .before .before .before in
     let lp : length (start .args .prices) ≡ 24 = search needs in
     let lq : length (start .args .quantities) ≡ 24 = search needs in
     parts-are _ _ _ _ _ _ _ (start .args .count) _ (start .pre .0) (start .pre .2) lp lq
-    (c .before .before .before .before .before .before .before .before .before .before .put64 .ensures)
-    (c .before .before .before .before .before .before .put-hours .ensures)
+    (after-put64 .put64 .ensures)
+    (after-put-hours .put-hours .ensures)
     (c .before .before .put-records .ensures)
 
 pub write-result-spec : {M : Type 1} → statement M

@@ -11,7 +11,10 @@ use borrow.Author.Needs.{needs}
 use Rattle.setup.proofs.prepare.Statement.{statement}
 use Rattle.setup.proofs.prepare.Tie as tie
 
--- the price tables, once filled
+-- the start of the call, seen from after the first count of trades and from after the price tables
+abbrev opened : tie.After-traded-by-hour → tie.Start
+opened t = t .before .before .before .before .before .before .before .before .before .before
+
 abbrev begun : tie.After-fill-tables → tie.Start
 begun f = f .before .before .before .before .before .before .before .before .before .before .before .before .before
 
@@ -38,33 +41,51 @@ fill-tables-requires c κs = search needs
 root-prices-requires : tie.Need-root-prices-requires
 root-prices-requires c κs =
     let f = c .before .before .before in
-    let held = c .before .before .before .before .before .before .before .before .before .before .before .before .before .before .before .before .pre .1 .0 in
-    ((low-size f, low-fits f, c .before .before .before .before .before .before .traded-by-hour .ensures .small), (held .few, held .pricesFit, held .quantitiesFit))
+    let after-traded-by-hour = f .before .before .before in
+    let start = begun f in
+    let held = start .pre .1 .0 in
+    ((low-size f, low-fits f, after-traded-by-hour .traded-by-hour .ensures .small), (held .few, held .pricesFit, held .quantitiesFit))
 
 fill-ranges-requires : tie.Need-fill-ranges-requires
 fill-ranges-requires c κs =
     let f = c .before .before .before .before .before .before in
-    let s = c .before .before .before .before .before .before .before .before .before .before .before .before .before .before .before .before .before .before .before in
-    let bought = c .before .before .before .before .before .before .before .before .before .traded-by-hour .ensures in
-    let traded = c .before .before .before .before .before .before .before .before .traded-by-hour2 .ensures in (
+    let after-traded-by-hour2 = f .before .before in
+    let after-traded-by-hour = after-traded-by-hour2 .before in
+    let s = begun f in
+    let bought = after-traded-by-hour .traded-by-hour .ensures in
+    let traded = after-traded-by-hour2 .traded-by-hour2 .ensures in (
       (s .pre .0, traded .small, c .before .before .root-prices .ensures, s .pre .1 .1 .1),
       (bought-within _ _ _ _ _ _ bought traded, (low-size f, f .fill-tables .ensures)),
     )
 
 block-columns-requires : tie.Need-block-columns-requires
-block-columns-requires c κs = (c .before .before .before .before .before .before .before .before .before .before .before .before .before .before .before .before .before .before .before .before .before .before .pre .1 .0, c .before .before .before .before .before .root-prices .ensures)
+block-columns-requires c κs =
+    let after-root-prices = c .before .before .before .before .before in
+    let after-traded-by-hour = after-root-prices .before .before .before .before .before .before .before in
+    let start = opened after-traded-by-hour in
+    (start .pre .1 .0, after-root-prices .root-prices .ensures)
 
 widened-requires : tie.Need-widened-requires
 widened-requires c κs = search needs
 
 with-rows-requires : tie.Need-with-rows-requires
-with-rows-requires c κs = (c .before .before .before .before .before .before .before .before .before .before .before .before .before .before .before .before .before .before .before .before .before .before .before .before .before .before .before .pre .1 .0 .few, rows-empty _ _ (c .widened .ensures) (c .before .before .before .before .block-columns .ensures .0))
+with-rows-requires c κs =
+    let after-fill-ranges = c .before .before .before .before .before .before .before in
+    let after-traded-by-hour2 = after-fill-ranges .before .before .before .before .before .before .before .before .before in
+    let after-traded-by-hour = after-traded-by-hour2 .before in
+    let start = opened after-traded-by-hour in
+    (start .pre .1 .0 .few, rows-empty _ _ (c .widened .ensures) (c .before .before .before .before .block-columns .ensures .0))
 
 joined-requires : tie.Need-joined-requires
 joined-requires c κs = search needs
 
 with-twins-requires : tie.Need-with-twins-requires
-with-twins-requires c κs = (c .before .before .before .before .before .before .before .before .before .before .before .before .before .before .before .before .before .before .before .before .before .before .before .before .before .before .before .before .before .pre .1 .0 .few, twins-empty _ _ _ _ (c .before .before .widened .ensures) (c .before .with-rows .ensures))
+with-twins-requires c κs =
+    let after-fill-ranges = c .before .before .before .before .before .before .before .before .before in
+    let after-traded-by-hour2 = after-fill-ranges .before .before .before .before .before .before .before .before .before in
+    let after-traded-by-hour = after-traded-by-hour2 .before in
+    let start = opened after-traded-by-hour in
+    (start .pre .1 .0 .few, twins-empty _ _ _ _ (c .before .before .widened .ensures) (c .before .with-rows .ensures))
 
 same-length : tie.Need-same-length
 same-length c = search needs
@@ -74,23 +95,27 @@ same-length-2 c = search needs
 
 returns : tie.Need-returns
 returns c =
-    let s = c .before .before .before .before .before .before .before .before .before .before .before .before .before .before .before .before .before .before .before .before .before .before .before .before .before .before .before .before .before .before in
-    let f = c .before .before .before .before .before .before .before .before .before .before .before .before .before .before .before .before .before in
-    let g = c .before .before .before .before .before .before .before .before .before .before in
     let j = c .before in
+    let after-block-columns = j .before .before .before .before .before .before in
+    let g = after-block-columns .before .before .before in
+    let after-root-prices = g .before .before .before in
+    let f = after-root-prices .before .before .before .before in
+    let after-traded-by-hour2 = f .before .before in
+    let after-traded-by-hour = after-traded-by-hour2 .before in
+    let s = begun f in
     let wide = c .before .before .before .widened .ensures in
     let rows = c .before .before .with-rows .ensures in
     let twins = c .with-twins .ensures in
     let few = s .pre .1 .0 .few in
     let sized = blocks-sized _ _ _ _ _ few wide rows twins in
-    let all = completed _ _ _ _ _ few wide rows twins _ _ _ _ _ (c .before .before .before .before .before .before .before .block-columns .ensures .1) in
+    let all = completed _ _ _ _ _ few wide rows twins _ _ _ _ _ (after-block-columns .block-columns .ensures .1) in
     let gapSize = g .fill-ranges .kept .1 .1 .1 .1 .1 .1 .1 .1 .0 ∙ s .pre .1 .1 .1 in
     let t = g .fill-ranges .ensures .0 in
     rw (j .joined .ensures .0, j .joined .ensures .1, j .joined .ensures .2) (
       set-up _ _ _ _ _ (low-size f) gapSize (t .0) (t .1) (t .3) (low-fits f) sized,
-      ready _ _ _ _ _ _ _ _ _ _ (c .before .before .before .before .before .before .before .before .before .before .before .before .before .before .before .before .before .before .before .before .traded-by-hour .result) (c .before .before .before .before .before .before .before .before .before .before .before .before .before .before .before .before .before .before .before .traded-by-hour2 .result)
-          (c .before .before .before .before .before .before .before .before .before .before .before .before .before .root-prices .result) (lowOf f) _ _ _ _ _ (low-size f) (c .before .before .before .before .before .before .before .before .before .before .before .before .before .before .before .before .before .before .before .before .traded-by-hour .ensures)
-          (c .before .before .before .before .before .before .before .before .before .before .before .before .before .before .before .before .before .before .before .traded-by-hour2 .ensures) (f .fill-tables .ensures) (g .fill-ranges .ensures .1) all,
+      ready _ _ _ _ _ _ _ _ _ _ (after-traded-by-hour .traded-by-hour .result) (after-traded-by-hour2 .traded-by-hour2 .result)
+          (after-root-prices .root-prices .result) (lowOf f) _ _ _ _ _ (low-size f) (after-traded-by-hour .traded-by-hour .ensures)
+          (after-traded-by-hour2 .traded-by-hour2 .ensures) (f .fill-tables .ensures) (g .fill-ranges .ensures .1) all,
     )
 
 pub prepare-spec : {M : Type 1} → statement M

@@ -40,16 +40,19 @@ slice-reshare-prefix-put-lines c =
 
 slice-aggregate-put-lines : tie.Need-slice-aggregate-put-lines
 slice-aggregate-put-lines c =
-    let start = c .before .before .before .before .before .before .before .before .before .before in
-    let count = c .before .before .before .before .before .before .record-count in
+    let after-record-count = c .before .before .before .before .before .before in
+    let start = after-record-count .before .before .before .before in
+    let count = after-record-count .record-count in
     again-length _ (start .args .space .now) _ (start .pre .0) (count .ensures) (start .pre .2) _ _ (c .before .before .before .before .clear .ensures)
 
 put-lines-requires : tie.Need-put-lines-requires
 put-lines-requires c κs =
-    let start = c .before .before .before .before .before .before .before .before .before .before in
-    let count = c .before .before .before .before .before .before .record-count in
+    let after-record-count = c .before .before .before .before .before .before in
+    let after-shared-slice-known = after-record-count .before .before in
+    let start = after-shared-slice-known .before .before in
+    let count = after-record-count .record-count in
     lines-room _ (start .args .space .now) _ (start .pre .0) (count .ensures) (start .pre .2) _ _ (c .before .before .before .before .clear .ensures)
-    (λ i. omega (arith, c .before .before .before .before .before .before .before .before .shared-slice-known .given i)) _ (start .pre .1)
+    (λ i. omega (arith, after-shared-slice-known .shared-slice-known .given i)) _ (start .pre .1)
 
 same-length : tie.Need-same-length
 same-length c = search needs

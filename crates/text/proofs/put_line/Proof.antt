@@ -20,8 +20,9 @@ same-length c = search needs
 
 returns : tie.Need-returns
 returns c =
-    let start = c .before .before .before .before .before .before .before .before .before .before in
-    let words = c .before .before .before .before .before .before .put-text in
+    let after-put-text = c .before .before .before .before .before .before in
+    let start = after-put-text .before .before .before .before in
+    let words = after-put-text .put-text in
     put-then _ _ _ _ (start .pre) _ _ (words .ensures) _ _ (c .before .before .put-field .ensures)
 
 pub put-line-spec : {M : Type 1} → statement M

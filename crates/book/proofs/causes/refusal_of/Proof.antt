@@ -55,17 +55,27 @@ first-of-requires-5 c κs = search needs
 
 returns-2 : tie.Need-returns-2
 returns-2 c =
-    let sized = c .before .before .before .before .before .before .before .before .before .before .before .before .before .before .before .before in
-    let step = c .before .before .before .before .before .before .before .before .before .before .before .before .before .first-step .ensures in
-    let block = c .before .before .before .before .before .before .before .before .before .before .before .first-block .ensures in
-    let steps = c .before .before .before .before .before .before .before .before .before .before .before .before .survey-of .ensures in
-    let blocks = c .before .before .before .before .before .before .before .before .before .before .survey-of2 .ensures in
+    let four = c .before .before in
+    let six = four .before .before in
+    let short = six .before .before in
+    let blocks = short .before .before .before .before in
+    let steps = blocks .before .before in
+    let broken = steps .before .before in
+    let sized = broken .before .before in
+    let found-steps = steps .survey-of .ensures in
+    let found-blocks = blocks .survey-of2 .ensures in
+    let step = steps .before .first-step .ensures in
+    let block = blocks .before .first-block .ensures in
     refusal-sized _ _ _ _ _ _ _ _ _ _ _ (sym (sized .before .has-wrong-size .ensures) ∙ sized .if1 .left)
-    (c .before .before .before .before .before .before .before .before .before .before .before .before .before .before .before .has-wrong-head .ensures) (c .before .before .before .before .before .before .before .before .before .before .before .before .before .before .has-broken-chain .ensures)
-    (field-found _ _ _ (steps .1 ∙ rw step) (blocks .1 ∙ rw block))
-    (short-found _ _ _ _ _ (c .before .before .before .before .before .before .are-short .ensures) (steps .0 ∙ rw step) (blocks .0 ∙ rw block) (c .before .before .before .before .before .before .before .record-count .ensures))
-    (c .before .before .before .before .before .has-too-many-blocks .ensures)
-    (c .before .before .before .before .first-of .ensures) (c .before .before .before .first-of2 .ensures) (c .before .before .first-of3 .ensures) (c .before .first-of4 .ensures)
+    (broken .before .has-wrong-head .ensures)
+    (broken .has-broken-chain .ensures)
+    (field-found _ _ _ (found-steps .1 ∙ rw step) (found-blocks .1 ∙ rw block))
+    (short-found _ _ _ _ _ (short .are-short .ensures) (found-steps .0 ∙ rw step) (found-blocks .0 ∙ rw block) (short .before .record-count .ensures))
+    (six .before .has-too-many-blocks .ensures)
+    (six .first-of .ensures)
+    (four .before .first-of2 .ensures)
+    (four .first-of3 .ensures)
+    (c .before .first-of4 .ensures)
     (c .first-of5 .ensures)
 
 pub refusal-of-spec : {M : Type 1} → statement M

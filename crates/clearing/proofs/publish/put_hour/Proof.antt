@@ -70,7 +70,8 @@ same-length c = search needs
 
 returns : tie.Need-returns
 returns c =
-    let s = c .before .before .before .before .before .before .before .before .before .before .before in
+    let after-fill-hour2 = c .before .before in
+    let s = after-fill-hour2 .before .before .before .before .before .before .before .before .before in
     let p = s .pre .0 in
     hour-put _ _ _ (s .args .from) (s .args .to) _ _ _ _ _ _ _ (p .ordered) (s .pre .1)
     (c .before .before .fill-hour .kept .1 .1 .1 .1 .1 .1 .0 ∙ mid-len (s .args .from) (s .args .to) _ (s .pre .1)) (c .before .before .fill-hour .ensures)

@@ -9,6 +9,10 @@ use Rattle.tables.proofs.all_totals.Reads as all-totals-reads
 use Rattle.tables.proofs.clear_range.Reads as clear-range-reads
 use Rattle.tables.proofs.fill_gaps.Reads as fill-gaps-reads
 
+-- the start of the call, seen from after its range
+abbrev opened : tie.After-clear-range → tie.Start
+opened r = r .before .before .before .before .before .before .before .before .before .before
+
 sub-all-totals : tie.Need-sub-all-totals
 sub-all-totals c = search needs
 
@@ -50,7 +54,8 @@ clear-range-requires c κs = search needs
 
 fill-gaps-requires : tie.Need-fill-gaps-requires
 fill-gaps-requires c κs =
-    let s = c .before .before .before .before .before .before .before .before .before .before .before in
+    let after-clear-range2 = c .before in
+    let s = opened after-clear-range2 in
     let q = s .pre .0 in
     let t = s .pre .1 in
     hour-room _ _ _ _ _ _ _ (t .1) (t .0) (q .1) (q .2) (q .3) _ _ _ _ _ (q .4) (c .before .clear-range .ensures)
@@ -61,7 +66,7 @@ same-length c = search needs
 returns : tie.Need-returns
 returns c =
     let r = c .before .before .before .before in
-    let s = r .before .before .before .before .before .before .before .before .before .before in
+    let s = opened r in
     let q = s .pre .0 in
     let t = s .pre .1 in
     let g = c .before .before .fill-gaps in

@@ -132,12 +132,16 @@ loop-less c = omega (arith, c .before .before .before .before .before .before .b
 
 loop-again : tie.Need-loop-again Inv-loop μ-loop
 loop-again c =
-    let v = c .before .before .before .before .before .before .before .before .before .loop in
-    let k = c .before .before .before .before .before .before .before .before .loop-test .taken in
-    let f = c .before .before .before .before .before .fill-hour in
+    let after-fill-hour = c .before .before .before .before .before in
+    let after-loop-test = after-fill-hour .before .before .before in
+    let after-loop = after-loop-test .before in
+    let start = after-loop .before .before .before .before .before .before in
+    let v = after-loop .loop in
+    let k = after-loop-test .loop-test .taken in
+    let f = after-fill-hour .fill-hour in
     ranges-next _ _ _ _ _ _ _ _ _ _ _ _ _ (v .h) _ _ _ _ (v .inv) k
     (f .kept .1 .1 .1 .1 .1 .1 .1 .1 .1 .0 ∙ part-length (v .gap) (v .h) (v .inv .size) k) (row-wide (v .h))
-    (f .ensures .0 .1) (rw (part-row (c .before .before .before .before .before .before .before .before .before .before .before .before .before .before .before .args .low .now) (v .h)) at (f .ensures .1))
+    (f .ensures .0 .1) (rw (part-row (start .args .low .now) (v .h)) at (f .ensures .1))
 
 same-length : tie.Need-same-length Inv-loop μ-loop
 same-length c = c .before .loop .inv .size ∙ sym (c .before .before .before .before .before .before .before .pre .0 .3)

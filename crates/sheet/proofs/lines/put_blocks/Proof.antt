@@ -40,8 +40,9 @@ number-of-requires c κs = search needs
 
 put-block-requires : tie.Need-put-block-requires Inv-loop μ-loop
 put-block-requires c κs =
-    let start = c .before .before .before .before .before .before .before .before .before .before in
-    let blocks = c .before .before .before .before .before .before .blocks-of in
+    let after-blocks-of = c .before .before .before .before .before .before in
+    let start = after-blocks-of .before .before .before .before in
+    let blocks = after-blocks-of .blocks-of in
     let loop = c .before .before .before .before .loop in
     rw (c .number-of .ensures, c .before .before .is-taken .ensures)
     (block-room _ _ _ _ _ (loop .i) (block-records-front (blocks .ensures)) (blocks .ensures .counted) (search needs) _ _ (start .pre) _ _ (loop .inv .2))
@@ -54,14 +55,17 @@ loop-less c = search needs
 
 loop-again : tie.Need-loop-again Inv-loop μ-loop
 loop-again c =
-    let start = c .before .before .before .before .before .before .before .before .before .before .before .before .before in
-    let blocks = c .before .before .before .before .before .before .before .before .before .blocks-of in
-    let loop = c .before .before .before .before .before .before .before .loop in
+    let after-is-taken = c .before .before .before .before .before in
+    let after-loop = after-is-taken .before .before in
+    let after-blocks-of = after-loop .before .before in
+    let start = after-blocks-of .before .before .before .before in
+    let blocks = after-blocks-of .blocks-of in
+    let loop = after-loop .loop in
     let line = c .before .before .put-block in (
       search needs,
       line .kept .0 ∙ loop .inv .1,
       block-put _ _ _ _ _ (loop .i) (block-records-front (blocks .ensures)) (blocks .ensures .counted) (search needs) _ _ (start .pre) _ _ (loop .inv .2) _ _
-          (rw (c .before .before .before .number-of .ensures, c .before .before .before .before .before .is-taken .ensures) at (line .ensures)),
+          (rw (c .before .before .before .number-of .ensures, after-is-taken .is-taken .ensures) at (line .ensures)),
     )
 
 same-length : tie.Need-same-length Inv-loop μ-loop
