@@ -1,23 +1,21 @@
 /* Clears the book of a file by the proved library and prints its sheet. At the root of the repository:
  *
- *     rt staticlib exports
- *     cc -o clear examples/clear.c target/staticlib/libexports.a
+ *     ./build library
+ *     cc -Iinclude -o clear examples/clear.c target/lib/libauction.a
  *     ./clear samples/S5.book
+ *
+ * Exit codes: 0 for a sheet, 1 for a refusal, 2 where the file cannot be read or the sheet cannot be written.
  */
-#include <stdint.h>
-#include <stdio.h>
+#include "auction.h"
 
-/* The library's calls. A slice goes over as pointer and length; no call keeps a pointer. What a call writes to
- * must not overlap its book. */
-uint32_t auction_read(const uint8_t *book, size_t book_len);
-uint32_t auction_price(const uint8_t *book, size_t book_len, uint32_t set, uint32_t hour, uint32_t part);
-uint32_t auction_clear(const uint8_t *book, size_t book_len, uint8_t *result, size_t result_len);
-uint32_t auction_sheet(const uint8_t *book, size_t book_len, uint8_t *out, size_t out_len);
+#include <errno.h>
+#include <stdio.h>
+#include <string.h>
 
 /* One byte more than a book may have, so that a longer file is refused and not cut. */
-static uint8_t book[32768 + 1];
-static uint8_t result[196 + 4 * 2048];
-static uint8_t sheet[781]; /* no sheet is longer */
+static uint8_t book[AUCTION_MOST_BOOK + 1];
+static uint8_t result[AUCTION_RESULT_SIZE(AUCTION_MOST_RECORDS)];
+static uint8_t sheet[AUCTION_MOST_SHEET];
 
 /* The number in 4 bytes, high byte first. */
 static uint32_t number_at(const uint8_t *bytes)
@@ -33,7 +31,9 @@ static int load(const char *name, size_t *length)
         return 0;
     *length = fread(book, 1, sizeof book, file);
     int whole = !ferror(file);
+    int error = errno;
     fclose(file);
+    errno = error;
     return whole;
 }
 
@@ -41,12 +41,11 @@ static int load(const char *name, size_t *length)
 static void tell_hour_1(size_t length)
 {
     size_t records = (size_t)book[0] << 8 | book[1];
-    /* 0: the outcome is in `result`, with the price of hour 1 after the 8 bytes of the welfare. */
-    if (auction_clear(book, length, result, 196 + 4 * records) == 0)
+    /* The outcome is in `result`, with the price of hour 1 after the 8 bytes of the welfare. */
+    if (auction_clear(book, length, result, AUCTION_RESULT_SIZE(records)) == AUCTION_DONE)
         fprintf(stderr, "hour 1: price %u, traded %u\n", number_at(result + 8), number_at(result + 12));
-    /* Part 0 says whether the hour clears; part 3 is its price. */
-    if (auction_price(book, length, 0, 1, 0) == 0)
-        fprintf(stderr, "hour 1 without blocks: price %u\n", auction_price(book, length, 0, 1, 3));
+    if (auction_price(book, length, 0, 1, AUCTION_PART_ANSWER) == AUCTION_DONE)
+        fprintf(stderr, "hour 1 without blocks: price %u\n", auction_price(book, length, 0, 1, AUCTION_PART_PRICE));
 }
 
 int main(int count, char **words)
@@ -57,13 +56,17 @@ int main(int count, char **words)
         return 2;
     }
     if (!load(words[1], &length)) {
-        fprintf(stderr, "clear: %s cannot be read\n", words[1]);
+        fprintf(stderr, "clear: %s: %s\n", words[1], strerror(errno));
         return 2;
     }
-    uint32_t refusal = auction_read(book, length); /* 0: accepted */
-    if (refusal == 0)
+    uint32_t refusal = auction_read(book, length);
+    if (refusal == AUCTION_DONE)
         tell_hour_1(length);
     /* Of a refused book the sheet is `refused;` and the number. */
     fwrite(sheet, 1, auction_sheet(book, length, sheet, sizeof sheet), stdout);
-    return refusal != 0;
+    if (fflush(stdout) != 0) {
+        fprintf(stderr, "clear: cannot write standard output: %s\n", strerror(errno));
+        return 2;
+    }
+    return refusal != AUCTION_DONE;
 }

@@ -7,12 +7,12 @@
 //! - [`paper`]: reading, pricing, clearing, contenders and the sheet;
 //! - [`books`]: books to try them on: a builder, random books, damaged books;
 //! - [`text`]: a plain-text form of a book for people;
-//! - [`twin`]: the proved code's algorithm in plain Rust, to be timed beside it;
-//! - `proved` (with the feature of that name): calls of the proved library.
+//! - [`twin`]: the proved code's algorithm in plain Rust, to be timed beside it.
+//!
+//! With the feature `proved` its tests and programs call the proved library, through
+//! the package `auction`.
 
 pub mod books;
 pub mod paper;
-#[cfg(feature = "proved")]
-pub mod proved;
 pub mod text;
 pub mod twin;

@@ -1,38 +1,100 @@
-//! `examples/clear.c` as a C program would be built: compiled by `cc`, linked
-//! with the proved library, run on the samples. Compiled with the feature
-//! `proved` only.
+//! The library from C and C++: `examples/clear.c` compiled by `cc`, linked with the
+//! proved library and run on the samples and on what is no book; the header by itself.
+//! Compiled with the feature `proved` only.
 
 mod sample_files;
 
 use sample_files::{names, path, sample};
+use std::fs::{self, File};
 use std::path::{Path, PathBuf};
 use std::process::{Command, Output};
 
-/// Compiles the example. Its declarations are its own, so all warnings count.
-fn compiled() -> PathBuf {
-    let source = Path::new(env!("CARGO_MANIFEST_DIR")).join("../examples/clear.c");
-    let program = Path::new(env!("CARGO_TARGET_TMPDIR")).join("clear");
+fn repository() -> PathBuf {
+    Path::new(env!("CARGO_MANIFEST_DIR")).join("..")
+}
+
+fn scratch(name: &str) -> PathBuf {
+    Path::new(env!("CARGO_TARGET_TMPDIR")).join(name)
+}
+
+/// A compiler whose warnings all count, with the header within reach.
+fn compiler(standard: &str) -> Command {
     let mut cc = Command::new("cc");
-    cc.args(["-std=c99", "-pedantic", "-Wall", "-Wextra", "-Werror", "-O2", "-o"]);
-    cc.arg(&program).arg(source).arg(env!("PROVED_LIBRARY"));
+    cc.args([standard, "-pedantic", "-Wall", "-Wextra", "-Werror", "-O2", "-I"]);
+    cc.arg(repository().join("include"));
+    cc
+}
+
+fn compiled() -> PathBuf {
+    let program = scratch("clear");
+    let mut cc = compiler("-std=c99");
+    cc.arg("-o").arg(&program).arg(repository().join("examples/clear.c"));
+    cc.arg(repository().join("target/lib/libauction.a"));
     assert!(cc.status().expect("cc starts").success(), "{cc:?}");
     program
 }
 
-fn cleared(program: &Path, name: &str) -> Output {
-    Command::new(program).arg(path(name, "book")).output().expect("the example starts")
+fn cleared(program: &Path, book: &Path) -> Output {
+    Command::new(program).arg(book).output().expect("the example starts")
 }
 
 #[test]
 fn the_c_example_prints_the_sheets() {
     let program = compiled();
     for name in names() {
-        let output = cleared(&program, &name);
+        let output = cleared(&program, &path(&name, "book"));
         assert_eq!(output.stdout, sample(&name, "sheet"), "{name}");
         assert_eq!(output.status.code(), Some(name.starts_with("refused").into()), "{name}");
     }
-    let told = String::from_utf8(cleared(&program, "S5").stderr).unwrap();
+    let told = String::from_utf8(cleared(&program, &path("S5", "book")).stderr).unwrap();
     let expected = "hour 1: price 3000, traded 100\nhour 1 without blocks: price 4000\n";
     assert_eq!(told, expected);
-    assert_eq!(cleared(&program, "no-such-sample").status.code(), Some(2));
+    what_is_no_book(&program);
+    no_standard_output(&program);
+}
+
+fn what_is_no_book(program: &Path) {
+    let empty = scratch("empty.book");
+    fs::write(&empty, b"").expect("a file");
+    let output = cleared(program, &empty);
+    assert_eq!((output.status.code(), &output.stdout[..]), (Some(1), &b"refused;1\n"[..]));
+    for (book, reason) in [
+        (path("no-such-sample", "book"), "No such file or directory"),
+        (repository().join("samples"), "Is a directory"),
+    ] {
+        let output = cleared(program, &book);
+        let complaint = format!("clear: {}: {reason}\n", book.display());
+        assert_eq!(String::from_utf8(output.stderr).unwrap(), complaint);
+        assert_eq!((output.status.code(), output.stdout.len()), (Some(2), 0));
+    }
+}
+
+fn no_standard_output(program: &Path) {
+    let mut shell = Command::new("sh");
+    shell.args(["-c", "exec \"$0\" \"$1\" >&-"]).arg(program).arg(path("S5", "book"));
+    let mut full = Command::new(program);
+    full.arg(path("S5", "book")).stdout(File::options().write(true).open("/dev/full").expect("it"));
+    for mut command in [shell, full] {
+        let output = command.output().expect("the example starts");
+        let told = String::from_utf8(output.stderr).unwrap();
+        assert_eq!(output.status.code(), Some(2));
+        assert!(told.contains("\nclear: cannot write standard output: "), "{told}");
+    }
+}
+
+/// A program of the header alone, in C99 and in C++.
+#[test]
+fn the_header_stands_by_itself() {
+    let text = "#include \"auction.h\"\n#include \"auction.h\"\n\
+        int main(void) { return (int)auction_read((const uint8_t *)\"\", 0) - AUCTION_REFUSED_LENGTH; }\n";
+    let source = scratch("header.c");
+    fs::write(&source, text).expect("a file");
+    for (standard, language) in [("-std=c99", "c"), ("-std=c++11", "c++")] {
+        let program = scratch(&format!("header-{language}"));
+        let mut cc = compiler(standard);
+        cc.args(["-x", language]).arg(&source).args(["-x", "none", "-o"]).arg(&program);
+        cc.arg(repository().join("target/lib/libauction.a"));
+        assert!(cc.status().expect("cc starts").success(), "{cc:?}");
+        assert!(Command::new(&program).status().expect("it starts").success(), "{language}");
+    }
 }

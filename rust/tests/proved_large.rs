@@ -6,11 +6,12 @@
 //! The environment variable BOOKS raises the count of generated books (at least
 //! 322, and those of [`CHOSEN`]).
 
+mod answers;
 mod large_stack;
 
+use answers::hour_answer;
 use auction_listing::books::{count, Expected, Family, FAMILIES};
 use auction_listing::paper::{self, Book, HourAnswer, Published};
-use auction_listing::proved;
 use auction_listing::twin::by_value::{clearing, result::Clearing};
 use large_stack::with_stack;
 use std::fs;
@@ -40,7 +41,7 @@ fn untouched(book: &[u8], filler: u8) -> Vec<u8> {
 fn cleared(name: &str, book: &[u8]) -> Vec<u8> {
     // Two fillers, so that a byte that is not written shows.
     let (mut result, mut twin) = (untouched(book, 0x55), untouched(book, 0xaa));
-    assert_eq!(proved::clear(book, &mut result), 0, "{name}: refused");
+    assert_eq!(auction::clear_into(book, &mut result), Ok(()), "{name}");
     let published = matches!(clearing::clear(book, &mut twin), Clearing::Published);
     assert!(published, "{name}: the twin refuses");
     assert!(result == twin, "{name}: the twin has another result");
@@ -49,7 +50,7 @@ fn cleared(name: &str, book: &[u8]) -> Vec<u8> {
 
 /// All calls on a book, held to each other; what is published, and its set.
 fn agreed(name: &str, book: &[u8]) -> (Book, Published, u32) {
-    assert_eq!(proved::read(book), 0, "{name}: refused");
+    assert_eq!(auction::read(book), Ok(()), "{name}");
     let result = cleared(name, book);
     let accepted = paper::read(book).expect("accepted");
     let published = Published::from_bytes(&result);
@@ -57,9 +58,9 @@ fn agreed(name: &str, book: &[u8]) -> (Book, Published, u32) {
     // What the paper makes of this set.
     let outcome = paper::outcome(&accepted, set).expect("a lawful set");
     assert!(paper::result_bytes(&accepted, &outcome) == result, "{name}: not its set's result");
-    assert_eq!(proved::sheet(book), paper::sheet_of(&accepted, &result), "{name}");
+    assert_eq!(auction::sheet(book).as_bytes(), paper::sheet_of(&accepted, &result), "{name}");
     for hour in 1..=24 {
-        let answer = proved::price(book, set, hour);
+        let answer = hour_answer(auction::price(book, set, hour));
         let HourAnswer::Cleared { low, high, price } = answer else {
             panic!("{name}, hour {hour}: {answer:?}");
         };

@@ -4,19 +4,12 @@
 //! The environment variable BOOKS raises the count of books (at least 100000).
 
 use auction_listing::books::{count, edge_books, every_byte_changed, reader_book, worked_days};
-use auction_listing::{paper, proved};
+use auction_listing::paper;
 
 const LEAST_BOOKS: u64 = 100_000;
-/// The proved library keeps its tables on the stack.
-const STACK: usize = 256 << 20;
 
 #[test]
 fn the_proved_reader_agrees() {
-    let compare = std::thread::Builder::new().stack_size(STACK).spawn(compare_readers);
-    compare.expect("a thread").join().expect("the readers agree");
-}
-
-fn compare_readers() {
     let wanted = count("BOOKS", LEAST_BOOKS);
     let mut tally = Tally::default();
     for (name, orders) in worked_days() {
@@ -51,7 +44,7 @@ impl Tally {
     fn compare(&mut self, book: &[u8], name: &dyn Fn() -> String) {
         let expected = paper::read(book).err().unwrap_or(0);
         let before = book.to_vec();
-        let answer = proved::read(book);
+        let answer = auction::read(book).err().map_or(0, |refusal| refusal.number());
         assert_eq!(answer, u32::from(expected), "{}: proved left, paper right", name());
         assert_eq!(book, before, "{}: the book was written to", name());
         self.books += 1;

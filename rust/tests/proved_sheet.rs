@@ -3,63 +3,51 @@
 //!
 //! The environment variable BOOKS raises the counts (at least 20000 each).
 
-mod large_stack;
-
 use auction_listing::books::{count, edge_books, reader_book, small_book, worked_days};
 use auction_listing::paper;
-use auction_listing::proved;
-use large_stack::with_stack;
 
 const LEAST_BOOKS: u64 = 20_000;
 
 #[test]
 fn the_worked_days_are_printed() {
-    with_stack(|| {
-        for (name, orders) in worked_days() {
-            let book = orders.book();
-            assert_eq!(proved::sheet(&book), paper::sheet(&book), "{name}");
-        }
-    });
+    for (name, orders) in worked_days() {
+        let book = orders.book();
+        assert_eq!(auction::sheet(&book).as_bytes(), paper::sheet(&book), "{name}");
+    }
 }
 
 #[test]
 fn small_books_are_printed() {
-    with_stack(|| {
-        for seed in 0..count("BOOKS", LEAST_BOOKS) {
-            let book = small_book(seed);
-            assert_eq!(proved::sheet(&book), paper::sheet(&book), "small_book({seed})");
-        }
-    });
+    for seed in 0..count("BOOKS", LEAST_BOOKS) {
+        let book = small_book(seed);
+        assert_eq!(auction::sheet(&book).as_bytes(), paper::sheet(&book), "small_book({seed})");
+    }
 }
 
 #[test]
 fn refusals_are_printed() {
-    with_stack(|| {
-        let damaged = (0..count("BOOKS", LEAST_BOOKS)).map(reader_book);
-        for (i, book) in edge_books().into_iter().chain(damaged).enumerate() {
-            if paper::read(&book).is_ok_and(|accepted| accepted.blocks.len() > 9) {
-                continue; // the listing of all sets takes too long
-            }
-            assert_eq!(proved::sheet(&book), paper::sheet(&book), "book {i}");
+    let damaged = (0..count("BOOKS", LEAST_BOOKS)).map(reader_book);
+    for (i, book) in edge_books().into_iter().chain(damaged).enumerate() {
+        if paper::read(&book).is_ok_and(|accepted| accepted.blocks.len() > 9) {
+            continue; // the listing of all sets takes too long
         }
-    });
+        assert_eq!(auction::sheet(&book).as_bytes(), paper::sheet(&book), "book {i}");
+    }
 }
 
 #[test]
 fn a_sheet_without_room_is_not_written() {
-    with_stack(|| {
-        let book = small_book(0);
-        let expected = paper::sheet(&book);
-        for size in [0, 1, expected.len() - 1, expected.len(), expected.len() + 1] {
-            let before: Vec<u8> = (0..size).map(|i| (i * 7 + 3) as u8).collect();
-            let mut out = before.clone();
-            assert_eq!(proved::sheet_into(&book, &mut out), expected.len());
-            if size < expected.len() {
-                assert!(out == before, "{size} bytes were written to");
-            } else {
-                assert_eq!(out[..expected.len()], expected);
-                assert_eq!(out[expected.len()..], before[expected.len()..]);
-            }
+    let book = small_book(0);
+    let expected = paper::sheet(&book);
+    for size in [0, 1, expected.len() - 1, expected.len(), expected.len() + 1] {
+        let before: Vec<u8> = (0..size).map(|i| (i * 7 + 3) as u8).collect();
+        let mut out = before.clone();
+        assert_eq!(auction::sheet_into(&book, &mut out), expected.len());
+        if size < expected.len() {
+            assert!(out == before, "{size} bytes were written to");
+        } else {
+            assert_eq!(out[..expected.len()], expected);
+            assert_eq!(out[expected.len()..], before[expected.len()..]);
         }
-    });
+    }
 }

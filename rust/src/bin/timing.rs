@@ -2,19 +2,13 @@
 //! `cargo run --release --features proved --bin timing -- FILE..`
 
 use auction_listing::books::{Dice, Orders, StepOrder};
+use auction_listing::paper;
 use auction_listing::paper::Side;
-use auction_listing::{paper, proved};
 use std::time::Instant;
 
-/// The proved library keeps its tables on the stack.
-const STACK: usize = 64 << 20;
-
 fn main() {
-    let run = std::thread::Builder::new().stack_size(STACK).spawn(|| {
-        time_full_hour();
-        std::env::args().skip(1).for_each(|name| time(&name));
-    });
-    run.expect("a thread").join().expect("every file can be read");
+    time_full_hour();
+    std::env::args().skip(1).for_each(|name| time(&name));
 }
 
 /// The shortest of some runs, in microseconds.
@@ -31,14 +25,12 @@ fn time(name: &str) {
     let book = std::fs::read(name).expect(name);
     let records = book.len() / 16;
     let mut result = vec![0; paper::result_length(records)];
-    let reading = shortest(20, || assert!(proved::read(&book) < 7));
+    let reading = shortest(20, || assert!(auction::read(&book).is_ok()));
     let paper_reading = shortest(20, || assert!(paper::read(&book).is_ok()));
-    let pricing =
-        shortest(5, || assert_ne!(proved::price(&book, 0, 1), paper::HourAnswer::NotClearing));
-    let mut answer = 0;
-    let clearing = shortest(1, || answer = proved::clear(&book, &mut result));
+    let pricing = shortest(5, || assert!(auction::price(&book, 0, 1).is_ok()));
+    let clearing = shortest(1, || assert!(auction::clear_into(&book, &mut result).is_ok()));
     let welfare = u64::from_be_bytes(result[..8].try_into().expect("8 bytes"));
-    println!("{name}: {records} records, reading {reading} µs (plain Rust {paper_reading}), four pricing calls {pricing} µs, clearing {clearing} µs: answer {answer}, welfare {welfare}");
+    println!("{name}: {records} records, reading {reading} µs (plain Rust {paper_reading}), four pricing calls {pricing} µs, clearing {clearing} µs: welfare {welfare}");
 }
 
 /// Pricing hour 1 of a book with 2,047 steps in it, against the same bisection in plain Rust on decoded columns. A call also reads and
@@ -56,11 +48,18 @@ fn time_full_hour() {
     let steps: Vec<(bool, u32, u32)> =
         accepted.steps_of(1).iter().map(|s| (s.side == Side::Buy, s.price, s.quantity)).collect();
     let expected = plain_price(&steps);
-    let full = shortest(500, || assert_eq!(proved::price_only(&book, 0, 1), expected));
-    let empty = shortest(500, || assert_eq!(proved::price_only(&book, 0, 2), 150_000));
+    let full = shortest(500, || assert_eq!(price_only(&book, 1), expected));
+    let empty = shortest(500, || assert_eq!(price_only(&book, 2), 150_000));
     let plain = shortest(500, || assert_eq!(plain_price(std::hint::black_box(&steps)), expected));
     let ratio = (full - empty) as f64 / plain as f64;
     println!("pricing an hour of 2,047 steps: {} µs after {empty} µs of reading and decoding; plain Rust {plain} µs, ratio {ratio:.2}", full - empty);
+}
+
+/// The price of an hour without blocks, by one call and not by four.
+fn price_only(book: &[u8], hour: u32) -> u32 {
+    let part = auction::header::PART_PRICE;
+    // SAFETY: pointer and length are those of one live slice, which the call only reads.
+    unsafe { auction::raw::auction_price(book.as_ptr(), book.len(), 0, hour, part) }
 }
 
 fn plain_price(steps: &[(bool, u32, u32)]) -> u32 {

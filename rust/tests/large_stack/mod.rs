@@ -1,6 +1,6 @@
 //! On what stack a comparison runs.
 
-/// The proved library keeps its tables on the stack.
+/// The by-value twin keeps its tables on the stack, and moves them.
 const STACK: usize = 64 << 20;
 
 /// The comparison on a stack that is large enough.

@@ -1,6 +1,5 @@
 //! The three programs that are timed.
 
-use auction_listing::proved;
 use auction_listing::twin::by_value::{clearing, result::Clearing};
 use auction_listing::twin::in_place::{self, Workspace};
 
@@ -42,7 +41,7 @@ impl Clearer {
     /// Clears an accepted book into a result of the right size.
     pub fn clear(&mut self, book: &[u8], result: &mut [u8]) {
         let refusal = match self.kind {
-            Kind::Proved => proved::clear(book, result),
+            Kind::Proved => auction::clear_into(book, result).err().map_or(0, |it| it.number()),
             Kind::InPlace => in_place::clear(book, result, &mut self.space),
             Kind::ByValue => match clearing::clear(book, result) {
                 Clearing::Published => 0,

@@ -1,0 +1,232 @@
+"""The Python binding on the samples and on the books of the benchmark."""
+
+import copy
+import os
+import pickle
+import re
+import subprocess
+import sys
+import tempfile
+import threading
+import unittest
+from pathlib import Path
+
+import auction
+
+HERE = Path(__file__).resolve().parent
+ROOT = HERE.parents[1]
+SAMPLES = ROOT / "samples"
+
+
+def sample(name: str) -> bytes:
+    return (SAMPLES / name).read_bytes()
+
+
+def books() -> dict:
+    """The samples and the books of the benchmark, by name."""
+    folders = SAMPLES, ROOT / "rust" / "bench-books"
+    found = {path.name: path.read_bytes() for folder in folders for path in sorted(folder.glob("*.book"))}
+    assert len(found) >= 24
+    return found
+
+
+def said(book: bytes) -> tuple:
+    """What every call says of a book."""
+    try:
+        outcome = auction.clear(book)
+        auction.read(book)
+        prices = [auction.price(book, outcome.set, hour) for hour in range(1, 25)]
+    except auction.Refused as refused:
+        outcome, prices = refused.number, None
+    return outcome, prices, auction.sheet(book)
+
+
+def refusal(call, *words) -> int:
+    try:
+        call(*words)
+    except auction.Refused as refused:
+        return refused.number
+    return 0
+
+
+class Calls(unittest.TestCase):
+    def test_the_outcome_of_s5(self):
+        outcome = auction.clear(sample("S5.book"))
+        self.assertEqual(outcome.welfare, 410_000)
+        self.assertEqual(outcome.hours[0], auction.Hour(price=3000, traded=100))
+        self.assertEqual(set(outcome.hours[2:]), {auction.Hour(150_000, 0)})
+        self.assertEqual(outcome.rows[1], auction.Row("step", 2, 50))
+        self.assertEqual(outcome.rows[4], auction.Row("block", 1, 50))
+        self.assertEqual((outcome.step(1), outcome.step(2), outcome.block(1)), (100, 50, 50))
+        self.assertEqual((outcome.taken, outcome.set), ((1,), 1))
+        for call in outcome.step, outcome.block:
+            self.assertRaises(KeyError, call, 5)
+
+    def test_the_sheets_of_the_samples(self):
+        for path in SAMPLES.glob("*.sheet"):
+            book = path.with_suffix(".book").read_bytes()
+            self.assertEqual(auction.sheet(book), path.read_text(), path.name)
+
+    def test_outcomes_and_prices_are_those_of_the_sheets(self):
+        for name, book in books().items():
+            outcome, prices, sheet = said(book)
+            if prices is None:
+                self.assertEqual(sheet, f"refused;{outcome}\n", name)
+                continue
+            hours = [f"{at};{hour.price};{hour.traded}" for at, hour in enumerate(outcome.hours, 1)]
+            blocks = sorted(row.number for row in outcome.rows if row.kind == "block")
+            taken = [f"{number};{int(number in outcome.taken)}" for number in blocks]
+            lines = ["hour;cents;tenths", *hours, "block;taken", *taken, f"welfare;{outcome.welfare}", ""]
+            self.assertEqual(sheet.split("\n"), lines, name)
+            self.assertEqual([price.price for price in prices], [hour.price for hour in outcome.hours], name)
+
+    def test_prices_under_sets(self):
+        both, opposite = sample("S6.book"), sample("opposite-blocks.book")
+        self.assertEqual(auction.price(both, 0, 1), auction.Price(3000, 5000, 4000))
+        self.assertEqual(auction.price(both, 3, 1), auction.Price(1, 3000, 1500))
+        self.assertEqual(auction.price(opposite, 3, 1), auction.Price(1, 300_000, 150_000))
+        self.assertIsNone(auction.price(opposite, 1, 1))
+        self.assertIsNone(auction.price(opposite, 2, 1))
+
+    def test_each_refusal(self):
+        for number in range(1, 7):
+            book = sample(f"refused-{number}.book")
+            for call, *words in (auction.read,), (auction.clear,), (auction.price, 0, 1):
+                self.assertEqual(refusal(call, book, *words), number)
+        for hour in 0, 25, 1 << 31:
+            self.assertEqual(refusal(auction.price, sample("S5.book"), 0, hour), 8)
+        self.assertEqual(refusal(auction.price, sample("S5.book"), 2, 1), 8)
+        self.assertEqual(refusal(auction.read, b""), 1)
+
+    def test_a_refusal_says_its_number_and_words(self):
+        with self.assertRaises(auction.Refused) as caught:
+            auction.clear(b"no book")
+        words = "length not 16 x R, below 16 bytes, or R outside 1 to 2048"
+        self.assertEqual((caught.exception.number, caught.exception.words), (1, words))
+        self.assertEqual(str(caught.exception), f"refused with 1: {words}")
+        for other in copy.copy(caught.exception), pickle.loads(pickle.dumps(caught.exception)):
+            self.assertEqual((other.number, str(other)), (1, str(caught.exception)))
+
+    def test_bytes_and_nothing_else(self):
+        book = sample("S5.book")
+        for other in None, "text", 5, bytearray(book), memoryview(book), [1, 2], SAMPLES / "S5.book":
+            for call, *words in (auction.read,), (auction.clear,), (auction.sheet,), (auction.price, 0, 1):
+                with self.assertRaisesRegex(TypeError, "a book is bytes, and not "):
+                    call(other, *words)
+        for set_, hour in (-1, 1), (1 << 32, 1), (0, -1), (0, 1 << 32), (0.0, 1), (0, "1"):
+            with self.assertRaisesRegex(ValueError, "expected a number of 32 bits"):
+                auction.price(book, set_, hour)
+
+
+class Header(unittest.TestCase):
+    def setUp(self):
+        self.text = (ROOT / "include" / "auction.h").read_text()
+
+    def test_the_calls_have_their_parameters(self):
+        kinds = {"const uint8_t *": auction._BYTES, "uint8_t *": auction._BYTES, "size_t ": auction._SIZE}
+        kinds["uint32_t "] = auction._NUMBER
+        declared = {}
+        for name, inside in re.findall(r"^uint32_t (auction_\w+)\((.*)\);$", self.text, re.M):
+            words = [re.fullmatch(r"(.*[ *])\w+", one).group(1) for one in inside.split(", ")]
+            declared[name] = tuple(kinds[word] for word in words)
+        self.assertEqual(auction._CALLS, declared)
+
+    def test_every_refusal_has_words(self):
+        defined = re.findall(r"#define AUCTION_REFUSED_\w+ +(\d+)", self.text)
+        self.assertEqual(sorted(auction._REFUSALS), [int(number) for number in defined])
+        self.assertTrue(all(auction._REFUSALS.values()))
+
+
+class Threads(unittest.TestCase):
+    """Threads that begin together, on the stack that the header says is enough."""
+
+    def setUp(self):
+        before = threading.stack_size(auction.STACK)
+        self.addCleanup(threading.stack_size, before)
+
+    def test_many_threads_get_what_one_gets(self):
+        all_books = list(books().values())
+        alone = [said(book) for book in all_books]
+        for turn in range(3):
+            start, wrong = threading.Barrier(24), []
+
+            def run(at: int) -> None:
+                start.wait()
+                if said(all_books[at]) != alone[at]:
+                    wrong.append(at)
+
+            places = [(index + 7 * turn) % len(all_books) for index in range(24)]
+            threads = [threading.Thread(target=run, args=(at,)) for at in places]
+            for thread in threads:
+                thread.start()
+            for thread in threads:
+                thread.join()
+            self.assertEqual(wrong, [])
+
+    def test_the_stated_stack_is_enough(self):
+        done = []
+        thread = threading.Thread(target=lambda: done.extend(map(said, books().values())))
+        thread.start()
+        thread.join()
+        self.assertEqual(len(done), len(books()))
+
+
+class Program(unittest.TestCase):
+    """`python3 -m auction`: messages of one line, and nothing of Python."""
+
+    def run_on(self, *words, command=(), **more) -> subprocess.CompletedProcess:
+        environment = {**os.environ, "PYTHONPATH": str(HERE), **more.pop("env", {})}
+        options = {"stdout": subprocess.PIPE, "stderr": subprocess.PIPE, "text": True, **more}
+        words = [*command, sys.executable, "-m", "auction", *map(str, words)]
+        return subprocess.run(words, env=environment, cwd="/", check=False, **options)
+
+    def complaint(self, ended: subprocess.CompletedProcess, code: int) -> str:
+        self.assertEqual((ended.returncode, ended.stderr.count("\n")), (code, 1), ended.stderr)
+        self.assertTrue(ended.stderr.startswith("auction: "), ended.stderr)
+        return ended.stderr[len("auction: ") : -1]
+
+    def test_a_sheet(self):
+        ended = self.run_on(SAMPLES / "S5.book")
+        self.assertEqual((ended.returncode, ended.stderr), (0, ""))
+        self.assertEqual(ended.stdout, (SAMPLES / "S5.sheet").read_text())
+
+    def test_a_refusal(self):
+        book = SAMPLES / "refused-3.book"
+        ended = self.run_on(book)
+        self.assertEqual(ended.stdout, "refused;3\n")
+        self.assertIn(f"{book}: refused with 3: on a chain: ", self.complaint(ended, 1))
+
+    def test_a_wrong_path_and_a_folder(self):
+        ended = self.run_on("nowhere.book")
+        self.assertEqual(self.complaint(ended, 2), "nowhere.book: No such file or directory")
+        self.assertEqual(self.complaint(self.run_on(SAMPLES), 2), f"{SAMPLES}: Is a directory")
+
+    def test_an_empty_file(self):
+        with tempfile.NamedTemporaryFile() as empty:
+            ended = self.run_on(empty.name)
+            self.assertEqual(ended.stdout, "refused;1\n")
+            self.assertIn("refused with 1: length not ", self.complaint(ended, 1))
+
+    def test_a_standard_output_that_cannot_be_written(self):
+        closed = self.run_on(SAMPLES / "S5.book", command=("sh", "-c", '"$@" >&-', "sh"))
+        self.assertEqual(self.complaint(closed, 2), "there is no standard output to write to")
+        reader, unread = os.pipe()
+        os.close(reader)
+        with open("/dev/full", "w") as full, open(unread, "w") as unread_pipe:
+            for out, reason in (full, "No space left on device"), (unread_pipe, "Broken pipe"):
+                ended = self.run_on(SAMPLES / "S5.book", stdout=out)
+                self.assertEqual(self.complaint(ended, 2), f"cannot write standard output: {reason}")
+
+    def test_wrong_words(self):
+        for words in (), ("--help",), ("one", "two"):
+            self.assertEqual(self.complaint(self.run_on(*words), 2), "usage: python3 -m auction BOOK")
+
+    def test_no_library(self):
+        ended = self.run_on(SAMPLES / "S5.book", env={"AUCTION_LIBRARY": "/nowhere.so"})
+        self.assertEqual(self.complaint(ended, 2), "there is no /nowhere.so; `./build library` makes it")
+        ended = self.run_on(SAMPLES / "S5.book", env={"AUCTION_LIBRARY": str(SAMPLES / "S5.book")})
+        self.assertIn("S5.book is no library of this machine: ", self.complaint(ended, 2))
+
+
+if __name__ == "__main__":
+    unittest.main()

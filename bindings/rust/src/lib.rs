@@ -1,0 +1,105 @@
+//! The proved clearing of a day-ahead auction: safe calls of `libauction.a`, which
+//! `./build library` makes at the root of the repository.
+//!
+//! A book is a string of bytes (`docs/FORMATS.md`). Every call takes any bytes: what is no
+//! book is refused, with the number and the words of the cause. The calls share nothing, so
+//! that any number of threads may call at once; each needs a stack of at most [`STACK`]
+//! bytes, half of what a Rust thread has by itself.
+//!
+//! ```
+//! let book = std::fs::read("../../samples/S5.book").expect("a sample");
+//! let outcome = auction::clear(&book)?;
+//! assert_eq!(outcome.welfare, 410_000);
+//! assert_eq!((outcome.price(1), outcome.traded(1)), (3000, 100));
+//! assert_eq!(outcome.taken().collect::<Vec<u32>>(), [1]);
+//! assert_eq!(outcome.step(2), Some(50));
+//!
+//! let refused = auction::clear(b"no book").unwrap_err();
+//! assert_eq!((refused, refused.number()), (auction::Refusal::Length, 1));
+//! assert!(refused.to_string().starts_with("refused with 1: length not 16 x R"));
+//! # Ok::<(), auction::Refusal>(())
+//! ```
+
+mod outcome;
+pub mod raw;
+mod refusal;
+
+pub use outcome::{Kind, Outcome, Row};
+pub use refusal::Refusal;
+
+/// The numbers of `include/auction.h`, without their `AUCTION_`.
+pub mod header {
+    include!(concat!(env!("OUT_DIR"), "/header.rs"));
+}
+
+/// The bytes of stack that a call needs at most.
+pub const STACK: usize = header::STACK as usize;
+
+/// What pricing an hour gives for an accepted book.
+#[derive(Clone, Copy, Debug, PartialEq, Eq)]
+pub enum Price {
+    /// The least and the greatest clearing price, and the price between them, in cents per MWh.
+    Clears { low: u32, high: u32, price: u32 },
+    /// No price clears the hour under the set.
+    DoesNotClear,
+}
+
+/// Reads a book: accepted, or refused.
+pub fn read(book: &[u8]) -> Result<(), Refusal> {
+    // SAFETY: pointer and length are those of one live slice, which the call only reads and
+    // does not keep.
+    Refusal::unless_done(unsafe { raw::auction_read(book.as_ptr(), book.len()) })
+}
+
+/// Prices an hour, 1 to 24, under a set of blocks, whose lowest bit is the first block of
+/// the chain.
+pub fn price(book: &[u8], set: u32, hour: u32) -> Result<Price, Refusal> {
+    let part = |part| {
+        // SAFETY: as in `read`.
+        unsafe { raw::auction_price(book.as_ptr(), book.len(), set, hour, part) }
+    };
+    match part(header::PART_ANSWER) {
+        header::DOES_NOT_CLEAR => Ok(Price::DoesNotClear),
+        answer => Refusal::unless_done(answer).map(|()| Price::Clears {
+            low: part(header::PART_LOW),
+            high: part(header::PART_HIGH),
+            price: part(header::PART_PRICE),
+        }),
+    }
+}
+
+/// Clears the day: what is published of a book.
+pub fn clear(book: &[u8]) -> Result<Outcome, Refusal> {
+    let mut result = vec![0; result_size(book)];
+    clear_into(book, &mut result)?;
+    Ok(Outcome::of(book, &result))
+}
+
+/// Clears the day into a result of [`result_size`] bytes. Where the book is refused, or the
+/// result has another size, it stays as it was.
+pub fn clear_into(book: &[u8], result: &mut [u8]) -> Result<(), Refusal> {
+    let (bytes, length) = (result.as_mut_ptr(), result.len());
+    // SAFETY: as in `read`; the result is one live slice that only this call writes.
+    Refusal::unless_done(unsafe { raw::auction_clear(book.as_ptr(), book.len(), bytes, length) })
+}
+
+/// The bytes of the result of an accepted book.
+pub fn result_size(book: &[u8]) -> usize {
+    let records = book.len() / header::RECORD_SIZE as usize;
+    header::RESULT_HEAD as usize + header::RESULT_RECORD as usize * records
+}
+
+/// The sheet of a book, or the line `refused;` and the number.
+pub fn sheet(book: &[u8]) -> String {
+    let mut out = vec![0; header::MOST_SHEET as usize];
+    let length = sheet_into(book, &mut out);
+    out.truncate(length);
+    String::from_utf8(out).expect("a sheet is plain text")
+}
+
+/// The length of a book's [`sheet`], which is put at the start of `out` where it has room.
+pub fn sheet_into(book: &[u8], out: &mut [u8]) -> usize {
+    let (bytes, length) = (out.as_mut_ptr(), out.len());
+    // SAFETY: as in `clear_into`.
+    unsafe { raw::auction_sheet(book.as_ptr(), book.len(), bytes, length) as usize }
+}

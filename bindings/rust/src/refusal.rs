@@ -1,0 +1,68 @@
+//! Why a book or a call is refused.
+
+use crate::header;
+use std::fmt;
+
+/// The lowest cause that holds. Its number and words are those of `include/auction.h`.
+#[derive(Clone, Copy, Debug, PartialEq, Eq, PartialOrd, Ord, Hash)]
+#[repr(u32)]
+pub enum Refusal {
+    Length = header::REFUSED_LENGTH,
+    Head = header::REFUSED_HEAD,
+    Chain = header::REFUSED_CHAIN,
+    Field = header::REFUSED_FIELD,
+    Stray = header::REFUSED_STRAY,
+    Blocks = header::REFUSED_BLOCKS,
+    Result = header::REFUSED_RESULT,
+    Call = header::REFUSED_CALL,
+}
+
+impl Refusal {
+    /// All of them, in rising number.
+    pub const ALL: [Refusal; 8] = [
+        Refusal::Length,
+        Refusal::Head,
+        Refusal::Chain,
+        Refusal::Field,
+        Refusal::Stray,
+        Refusal::Blocks,
+        Refusal::Result,
+        Refusal::Call,
+    ];
+
+    /// 1 to 8.
+    pub fn number(self) -> u32 {
+        self as u32
+    }
+
+    /// The cause in words.
+    pub fn words(self) -> &'static str {
+        let mut known = header::REFUSALS.iter();
+        known.find(|(number, _)| *number == self.number()).map_or("", |(_, words)| words)
+    }
+
+    /// Nothing where a call is done, else its refusal.
+    pub(crate) fn unless_done(answer: u32) -> Result<(), Refusal> {
+        if answer == header::DONE {
+            return Ok(());
+        }
+        let known = Refusal::ALL.into_iter().find(|refusal| refusal.number() == answer);
+        Err(known.expect("an answer of `include/auction.h`"))
+    }
+}
+
+impl fmt::Display for Refusal {
+    fn fmt(&self, out: &mut fmt::Formatter<'_>) -> fmt::Result {
+        write!(out, "refused with {}: {}", self.number(), self.words())
+    }
+}
+
+impl std::error::Error for Refusal {}
+
+/// No refusal of the header is missing here, and each has its words.
+#[test]
+fn the_refusals_are_those_of_the_header() {
+    let numbers: Vec<u32> = header::REFUSALS.iter().map(|(number, _)| *number).collect();
+    assert_eq!(Refusal::ALL.map(Refusal::number).to_vec(), numbers);
+    assert!(Refusal::ALL.iter().all(|refusal| !refusal.words().is_empty()));
+}

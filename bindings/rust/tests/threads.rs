@@ -1,0 +1,98 @@
+//! Many threads at once, and the stack that a call is said to need.
+
+use auction::{Outcome, Price, Refusal};
+use std::path::Path;
+use std::sync::Barrier;
+use std::thread;
+
+/// The samples and the books of the benchmark, by name.
+fn books() -> Vec<(String, Vec<u8>)> {
+    let mut books = Vec::new();
+    for folder in ["../../samples", "../../rust/bench-books"] {
+        let folder = Path::new(env!("CARGO_MANIFEST_DIR")).join(folder);
+        for entry in std::fs::read_dir(folder).expect("a folder of books") {
+            let path = entry.expect("an entry").path();
+            if path.extension().is_some_and(|ending| ending == "book") {
+                let name = path.file_name().expect("a name").to_string_lossy().into_owned();
+                books.push((name, std::fs::read(&path).expect("a book")));
+            }
+        }
+    }
+    books.sort();
+    assert!(books.len() >= 24);
+    books
+}
+
+/// What every call says of a book.
+#[derive(Debug, PartialEq)]
+struct Said {
+    read: Result<(), Refusal>,
+    clear: Result<Outcome, Refusal>,
+    sheet: String,
+    prices: Vec<Result<Price, Refusal>>,
+}
+
+fn said(book: &[u8]) -> Said {
+    let clear = auction::clear(book);
+    let set = clear.as_ref().map_or(0, Outcome::set);
+    let prices = (0..=25).map(|hour| auction::price(book, set, hour)).collect();
+    Said { read: auction::read(book), clear, sheet: auction::sheet(book), prices }
+}
+
+/// Each thread has a book of its own and begins together with the others.
+#[test]
+fn many_threads_get_what_one_gets() {
+    let books = books();
+    let alone: Vec<Said> = books.iter().map(|(_, book)| said(book)).collect();
+    for round in 0..5 {
+        let start = Barrier::new(24);
+        thread::scope(|scope| {
+            for index in 0..24 {
+                let (books, alone, start) = (&books, &alone, &start);
+                let at = (index + 7 * round) % books.len();
+                scope.spawn(move || {
+                    start.wait();
+                    assert!(said(&books[at].1) == alone[at], "{}", books[at].0);
+                });
+            }
+        });
+    }
+}
+
+/// A thread with no more stack than the header says does not overflow it, in any call.
+#[test]
+fn the_stated_stack_is_enough() {
+    let small = thread::Builder::new().stack_size(auction::STACK);
+    let accepted =
+        small.spawn(|| books().iter().filter(|(_, book)| said(book).read.is_ok()).count());
+    assert!(accepted.expect("a thread").join().expect("no overflow") >= 24);
+}
+
+/// The decoded outcome and the sheet say the same.
+#[test]
+fn outcomes_are_those_of_the_sheets() {
+    for (name, book) in books() {
+        let Ok(outcome) = auction::clear(&book) else {
+            assert!(auction::sheet(&book).starts_with("refused;"), "{name}");
+            continue;
+        };
+        let mut lines = String::from("hour;cents;tenths\n");
+        for hour in 1..=24 {
+            lines += &format!("{hour};{};{}\n", outcome.price(hour), outcome.traded(hour));
+            let price = auction::price(&book, outcome.set(), hour as u32);
+            let Ok(Price::Clears { price, .. }) = price else { panic!("{name}: {price:?}") };
+            assert_eq!(price, outcome.price(hour), "{name}, hour {hour}");
+        }
+        lines += "block;taken\n";
+        let taken: Vec<u32> = outcome.taken().collect();
+        let blocks = outcome.rows.iter().filter(|row| row.kind == auction::Kind::Block);
+        let mut numbers: Vec<u32> = blocks.map(|row| row.number).collect();
+        numbers.sort();
+        for number in numbers {
+            assert_eq!(outcome.block(number).expect("a block") > 0, taken.contains(&number));
+            lines += &format!("{number};{}\n", u32::from(taken.contains(&number)));
+        }
+        lines += &format!("welfare;{}\n", outcome.welfare);
+        assert_eq!(auction::sheet(&book), lines, "{name}");
+    }
+}
