@@ -1,8 +1,9 @@
 /* The proved clearing of a day-ahead auction, for C and C++. `./build library` makes target/lib/libauction.a and libauction.so.
  *
- * A book is a string of bytes (docs/FORMATS.md). A call takes any bytes of any length: it always ends, answers as said below, reads and writes within the
- * lengths it is given, and keeps no pointer. Each pointer must be valid for its length, and what a call writes to must not overlap its book. The calls share
- * nothing: any number of threads may call at once, each with AUCTION_STACK bytes of stack. A call has no heap.
+ * A book is a string of bytes (docs/FORMATS.md). A call takes any bytes of any length: it always ends, answers as said below,
+ * reads and writes within the lengths it is given, and keeps no pointer. Each pointer must be valid for its length, and what a
+ * call writes to must not overlap its book. The calls share nothing: any number of threads may call at once, each with
+ * AUCTION_STACK bytes of stack. A call has no heap.
  *
  * The bindings take the numbers from here, and the words of a refusal from the comment behind it.
  */
@@ -50,16 +51,17 @@ extern "C" {
 /* Reads a book: AUCTION_DONE where it is accepted, or its refusal, 1 to 6. */
 uint32_t auction_read(const uint8_t *book, size_t book_len);
 
-/* Prices an hour, 1 to 24, under a set of blocks, whose lowest bit is the first block of the chain. One part of the answer: AUCTION_PART_ANSWER gives
- * AUCTION_DONE, AUCTION_DOES_NOT_CLEAR, or the refusal, 1 to 6 or 8; the other parts give a price in cents per MWh, or 0 where there is none. */
+/* Prices an hour, 1 to 24, under a set of blocks, whose lowest bit is the first block of the chain. One part of the answer:
+ * AUCTION_PART_ANSWER gives AUCTION_DONE, AUCTION_DOES_NOT_CLEAR, or the refusal, 1 to 6 or 8; the other parts give a price in
+ * cents per MWh, or 0 where there is none. */
 uint32_t auction_price(const uint8_t *book, size_t book_len, uint32_t set, uint32_t hour, uint32_t part);
 
-/* Clears the day: AUCTION_DONE where every byte of the result is written, or the refusal, 1 to 7, and the result stays as it was. The result has
- * AUCTION_RESULT_SIZE(R) bytes, no more and no less. */
+/* Clears the day: AUCTION_DONE where every byte of the result is written, or the refusal, 1 to 7, and the result stays as it
+ * was. The result has AUCTION_RESULT_SIZE(R) bytes, no more and no less. */
 uint32_t auction_clear(const uint8_t *book, size_t book_len, uint8_t *result, size_t result_len);
 
-/* Writes a book's sheet, or the line `refused;` and the number, to the start of `out`, and answers its length, at most AUCTION_MOST_SHEET. Where `out` is
- * shorter than that it stays as it was. */
+/* Writes a book's sheet, or the line `refused;` and the number, to the start of `out`, and answers its length, at most
+ * AUCTION_MOST_SHEET. Where `out` is shorter than what there is to write it stays as it was. */
 uint32_t auction_sheet(const uint8_t *book, size_t book_len, uint8_t *out, size_t out_len);
 
 #ifdef __cplusplus

@@ -48,6 +48,16 @@ fn cleared(name: &str, book: &[u8]) -> Vec<u8> {
     result
 }
 
+/// What the binding decodes is what the bytes say.
+fn decoded(name: &str, book: &[u8], published: &Published, set: u32) {
+    let outcome = auction::clear(book).expect("accepted");
+    assert_eq!((outcome.welfare, outcome.set()), (published.welfare, set), "{name}");
+    assert_eq!(outcome.prices[..], published.prices, "{name}");
+    assert_eq!(outcome.traded[..], published.traded, "{name}");
+    let executed: Vec<u32> = outcome.rows.iter().map(|row| row.executed).collect();
+    assert_eq!(executed, published.rows, "{name}");
+}
+
 /// All calls on a book, held to each other; what is published, and its set.
 fn agreed(name: &str, book: &[u8]) -> (Book, Published, u32) {
     assert_eq!(auction::read(book), Ok(()), "{name}");
@@ -55,6 +65,7 @@ fn agreed(name: &str, book: &[u8]) -> (Book, Published, u32) {
     let accepted = paper::read(book).expect("accepted");
     let published = Published::from_bytes(&result);
     let set = published.set(&accepted);
+    decoded(name, book, &published, set);
     // What the paper makes of this set.
     let outcome = paper::outcome(&accepted, set).expect("a lawful set");
     assert!(paper::result_bytes(&accepted, &outcome) == result, "{name}: not its set's result");
