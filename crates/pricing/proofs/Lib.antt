@@ -5,3 +5,4 @@ pub mod EndLaws
 pub mod AnswerLaws
 pub mod ShareLaws
 pub mod CallLaws
+pub mod SameNetLaws

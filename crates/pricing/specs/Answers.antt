@@ -1,6 +1,6 @@
 -- WHAT PRICING AN HOUR ANSWERS (document 01, "Pricing an hour gives one of three answers"), for every byte string, set and hour. Definitions only.
 -- Assumes nothing.
-use Prim.Native.Nat.{ℕ, _+_, _^_}
+use Prim.Native.Nat.{ℕ, _+_, _^_, _<_}
 use mathlib.Core.List.{List, [], _∷_, _++_}
 use mathlib.Core.Bool.{Bool, true, false, cond, not, _||_}
 use mathlib.Core.Path.{_≡_}
@@ -57,6 +57,16 @@ AnswerOf sides prices quantities n r =
 -- The blocks of the book that a set of bits holds.
 abbrev pub blocksOf : List ℕ → ℕ → List Block
 blocksOf b set = taken (dayFrom b .blocks) (decisions (length (dayFrom b .blocks)) set)
+
+-- A set of the book's blocks: 32 bits, none past the last block.
+abbrev pub SetOf : List ℕ → ℕ → Type 0
+SetOf b set = set < 2 ^ length (blockChain b)
+
+-- Two sets have the same N in an hour: block sales less block purchases, each purchase written on the other side.
+abbrev pub SameNet : List ℕ → (hour one other : ℕ) → Type 0
+SameNet b hour one other =
+    overBlocks (sells hour) (blocksOf b one) + overBlocks (buys hour) (blocksOf b other)
+    ≡ overBlocks (sells hour) (blocksOf b other) + overBlocks (buys hour) (blocksOf b one)
 
 -- N of an hour under a set, held with the bias.
 abbrev pub NetOf : List ℕ → ℕ → ℕ → ℕ → Type 0
