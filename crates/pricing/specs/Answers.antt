@@ -2,7 +2,7 @@
 -- Assumes nothing.
 use Prim.Native.Nat.{ℕ, _+_, _^_, _<_}
 use mathlib.Core.List.{List, [], _∷_, _++_}
-use mathlib.Core.Bool.{Bool, true, false, cond, not, _||_}
+use mathlib.Core.Bool.{Bool, cond, not, _||_}
 use mathlib.Core.Path.{_≡_}
 use lib.Dec.{eqb, leb}
 use lib.ListN.{length}
@@ -11,7 +11,7 @@ use Rattle.book.specs.Chains.{blockChain}
 use Rattle.book.specs.Refusals.{ownCauses, firstOf}
 use Rattle.rules.specs.Hour.{Pricing, cleared, doesNotClear, pricing}
 use Rattle.rules.specs.Orders.{Block}
-use Rattle.rules.specs.Day.{Day, taken, decisions, overBlocks, sells, buys, hourOf}
+use Rattle.rules.specs.Day.{taken, decisions, overBlocks, sells, buys, hourOf}
 use Rattle.rules.specs.Contender.{PricesInRange}
 use Rattle.orders.specs.Bridge.{dayFrom}
 use Rattle.orders.specs.Columns.{stepsFrom}

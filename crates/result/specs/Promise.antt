@@ -1,6 +1,6 @@
 -- WHAT A CLEARING PROMISES, for every byte string and every result buffer. Definitions only. Assumes nothing.
 use Prim.Native.Nat.{ℕ, _+_, _*_}
-use mathlib.Core.Bool.{Bool, true, false, cond, not}
+use mathlib.Core.Bool.{Bool, cond, not}
 use mathlib.Core.List.{List, [], _∷_, _++_}
 use mathlib.Core.Path.{_≡_}
 use lib.Dec.{eqb}
@@ -8,7 +8,6 @@ use lib.ListN.{length}
 use Rattle.records.specs.Records.{recordCount, blockAt}
 use Rattle.book.specs.Chains.{blockChain}
 use Rattle.book.specs.Refusals.{ownCauses, firstOf}
-use Rattle.rules.specs.Day.{Day}
 use Rattle.rules.specs.Contender.{BeatsAll}
 use Rattle.rules.specs.OutcomeRules.{OutcomeRules}
 use Rattle.orders.specs.Bridge.{dayFrom}

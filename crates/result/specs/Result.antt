@@ -1,12 +1,12 @@
 -- THE RESULT of a clearing in bytes (document 01, "Result: 8 bytes welfare; .."), and how it is read again. Definitions only. Assumes nothing.
 use Prim.Native.Nat.{ℕ, zero, suc, _+_, _-_, _*_, _/_, _%_, _^_}
-use mathlib.Core.Bool.{Bool, true, false, cond}
+use mathlib.Core.Bool.{Bool, cond}
 use mathlib.Core.List.{List, [], _∷_, _++_, map}
 use lib.Dec.{eqb}
-use Rattle.records.specs.Bytes.{byteAt, u32At}
+use Rattle.records.specs.Bytes.{u32At}
 use Rattle.records.specs.Records.{recordCount, blockAt}
 use Rattle.book.specs.Chains.{stepChain, blockChain}
-use Rattle.rules.specs.Outcome.{Published, published}
+use Rattle.rules.specs.Outcome.{published}
 use Rattle.orders.specs.Bridge.{ordersOf}
 
 -- WRITTEN

@@ -3,7 +3,6 @@
 -- Assumes nothing.
 use Prim.Native.Nat.{ℕ, zero, suc}
 use mathlib.Core.List.{List, [], _∷_, _++_}
-use lib.ListN.{replicate}
 use Rattle.orders.specs.WorkedBooks.{sellBlock, baseBook}
 
 -- The base book with block number 1 at 2900: records 1 to 4 are the steps, record 5 the block.

@@ -8,7 +8,7 @@ use lib.ListN.{length}
 use Rattle.rules.specs.Orders.{Step, maxPrice}
 use Rattle.rules.specs.Hour.{Hour}
 use Rattle.rules.specs.Execution.{bought, sold}
-use Rattle.rules.specs.Day.{Day, weight, keep, stepsIn, taken, hourOf, keepsLimits, allowed, dayValue, dayCost, executed, welfare}
+use Rattle.rules.specs.Day.{Day, weight, keep, taken, hourOf, keepsLimits, allowed, dayValue, dayCost}
 
 -- A relation between each step and its quantity; there are as many quantities as steps.
 abbrev pub Each : (Step → ℕ → Type 0) → List Step → List ℕ → Type 0

@@ -5,8 +5,8 @@ use mathlib.Core.Bool.{Bool, true, false, _&&_, _||_}
 use mathlib.Core.List.{List, [], _∷_}
 use lib.Dec.{leb, eqb}
 use lib.ListN.{drop, getD}
-use Rattle.rules.specs.Orders.{Side, buy, sell, Step, Order, Block, Orders, stepsOf, canonical}
-use Rattle.rules.specs.Hour.{Hour, bySide, when, Pricing, pricing, isCleared, priceIn}
+use Rattle.rules.specs.Orders.{Step, Block, Orders, stepsOf, canonical}
+use Rattle.rules.specs.Hour.{Hour, bySide, when, pricing, isCleared, priceIn}
 use Rattle.rules.specs.Execution.{testSide, execution, total₂, bought}
 
 -- A day: how many hours it has, its steps and its blocks, each in rising order number.

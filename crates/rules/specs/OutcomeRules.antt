@@ -4,7 +4,7 @@ use Prim.Native.Nat.{ℕ, _+_, _*_, _≤_, _<_}
 use mathlib.Core.Bool.{Bool, true}
 use mathlib.Core.List.{List, [], _∷_}
 use mathlib.Core.Path.{_≡_}
-use Rattle.rules.specs.Orders.{Side, buy, sell, Step, Block}
+use Rattle.rules.specs.Orders.{buy, sell, Block}
 use Rattle.rules.specs.Hour.{pricing, isCleared, priceIn}
 use Rattle.rules.specs.Execution.{bought}
 use Rattle.rules.specs.Day.{Day, stepsIn, taken, overBlocks, buys, hourOf, hourCount, priceSum}

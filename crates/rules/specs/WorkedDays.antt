@@ -6,7 +6,7 @@ use mathlib.Core.Path.{_≡_}
 use mathlib.Core.List.{List, [], _∷_, _++_}
 use lib.Dec.{eqb}
 use lib.ListN.{replicate}
-use Rattle.rules.specs.Orders.{Side, buy, sell, Step, Order, Block, Orders}
+use Rattle.rules.specs.Orders.{Side, buy, sell, Order, Block, Orders}
 use Rattle.rules.specs.Hour.{Pricing, cleared, doesNotClear, pricing}
 use Rattle.rules.specs.Day.{dayOf, taken, hourOf}
 use Rattle.rules.specs.Outcome.{Published, published}
