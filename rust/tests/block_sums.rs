@@ -2,14 +2,14 @@
 //! (document 02, P4), through the exported call. Compiled with the feature
 //! `proved` only.
 //!
-//! The environment variable BOOKS raises the count (at least 2000).
+//! The environment variable BOOKS raises the count (at least 100).
 
 use auction::Price;
 use auction_listing::books::{count, small_book};
 use auction_listing::paper;
 use std::collections::BTreeMap;
 
-const LEAST_BOOKS: u64 = 2_000;
+const LEAST_BOOKS: u64 = 100;
 
 /// How many pairs of different sets with equal N were met.
 #[derive(Debug, Default)]
