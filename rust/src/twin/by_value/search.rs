@@ -255,9 +255,10 @@ fn decide(
         return best;
     }
     let trades = set_trades(blocks, count as usize, node.set);
+    let traded = traded_in(sides, prices, quantities, ends, trades, middles);
     let day = Day {
         prices: middles,
-        quantities: traded_in(sides, prices, quantities, ends, trades, middles),
+        quantities: traded,
     };
     Best {
         limit: total,
