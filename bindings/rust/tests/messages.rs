@@ -61,8 +61,21 @@ fn what_is_refused() {
     }
 }
 
-/// A device that is full, and a connection that nobody reads. (A standard output that is closed
-/// from the start is, to every Rust program, one that swallows what is written.)
+/// A standard output that is closed from the start, and one that is thrown away.
+#[test]
+fn no_standard_output() {
+    let through_shell = |redirected: &str| {
+        let mut shell = Command::new("sh");
+        shell.arg("-c").arg(format!(r#""$0" "$1" {redirected}"#));
+        shell.arg(example().get_program()).arg(sample("S5.book"));
+        ended(shell.output().expect("the shell starts"))
+    };
+    let told = "sheet: there is no standard output to write to\n";
+    assert_eq!(through_shell(">&-"), (Some(2), String::new(), told.into()));
+    assert_eq!(through_shell(">/dev/null"), (Some(0), String::new(), String::new()));
+}
+
+/// A device that is full, and a connection that nobody reads.
 #[test]
 fn what_cannot_be_written() {
     let full = File::options().write(true).open("/dev/full").expect("the device");

@@ -5,7 +5,7 @@ ghost use Rattle.sheet.specs.Lines.{takenAt, hourLinesIn, allBlockLines,
 ghost use Rattle.sheet.specs.Sheet.{hourLine, blockLine};
 ghost use Rattle.text.specs.Text.{HasRoom, Put};
 use orders::blocks_of;
-use records::block_at;
+use records::block_quantity;
 use records::number_of;
 use result::price_in;
 use result::row_in;
@@ -45,8 +45,7 @@ fn put_hours(out: &mut [u8], at: usize, result: &[u8]) -> usize
 fn is_taken(book: &[u8], result: &[u8], k: u16) -> bool
     ensures { λ r. ⌜ r ≡ takenAt (now (book .entry)) (now (result .entry)) k ⌝ }
 {
-    let block = block_at(book, k);
-    row_in(result, k) == block.quantity as u32
+    row_in(result, k) == block_quantity(book, k) as u32
 }
 
 // 1 for true, 0 for false.

@@ -31,11 +31,8 @@ add-u24-at-2 c = search needs
 u24-at-requires-2 : tie.Need-u24-at-requires-2
 u24-at-requires-2 c κs = search needs
 
-add-u16-at : tie.Need-add-u16-at
-add-u16-at c = search needs
-
-u16-at-requires : tie.Need-u16-at-requires
-u16-at-requires c κs = search needs
+block-quantity-requires : tie.Need-block-quantity-requires
+block-quantity-requires c κs = search needs
 
 returns : tie.Need-returns
 unfolding blockAt
@@ -52,7 +49,7 @@ returns c =
       portfolio .portfolio-of .ensures,
       hours .u24-at .ensures,
       price .u24-at2 .ensures,
-      c .u16-at .ensures,
+      c .block-quantity .ensures,
     )
 
 pub block-at-spec : {M : Type 1} → statement M
@@ -68,6 +65,5 @@ block-at-spec =
     u24-at-requires
     add-u24-at-2
     u24-at-requires-2
-    add-u16-at
-    u16-at-requires
+    block-quantity-requires
     returns)
