@@ -9,7 +9,7 @@ pub use bytes::is_nonzero;
 pub use bytes::u32_at;
 pub use records::BLOCK;
 pub use records::STEP;
-pub use records::block_at;
+pub use records::block_quantity;
 pub use records::day_hours;
 pub use records::edition_of;
 pub use records::first_block;
