@@ -1,9 +1,9 @@
 -- THE PUBLICATION IS THE RESULT: what is computed out of an accepted book's columns with the published set and its prices is what the definition
 -- publishes: the steps' quantities hour after hour, the welfare and the rows. Assumes nothing.
 use Prim.Native.Nat.{ℕ, zero, suc, _+_, _-_, _/_, _%_, _^_, _≤_, _<_}
-use mathlib.Core.Bool.{Bool, true, false, cond}
+use mathlib.Core.Bool.{Bool, false, cond}
 use mathlib.Core.Path.{_≡_, refl, sym, ap, ap₂, _∙_}
-use mathlib.Core.List.{List, [], _∷_, _++_}
+use mathlib.Core.List.{List, _++_}
 use native.Mathlib.Omega.{arith}
 use lib.Dec.{eqb}
 use lib.ListN.{length, take, getD, length-map}
@@ -26,7 +26,6 @@ use Rattle.orders.proofs.FrontLaws.{step-records-front, block-records-front, bl
 use Rattle.orders.proofs.HourLaws.{hour-from-columns}
 use Rattle.orders.proofs.PlaceLaws.{block-place}
 use Rattle.orders.proofs.BridgeLaws.{blocks-from-columns, block-count, day-blocks, prices-in-range, hours-in-range}
-use Rattle.pricing.specs.Curves.{tradersFrom}
 use Rattle.search.specs.Search.{FirstSmall, ofHour, stepsAt}
 use Rattle.search.specs.Meaning.{DayOf, StepsAre}
 use Rattle.search.specs.declared.Day as code-day
@@ -46,6 +45,7 @@ use Rattle.result.proofs.RowsLaws.{
   blockRows-length,
   blockRows-at,
 }
+use Rattle.pricing.proofs.TraderLaws.{traders-same}
 use Rattle.result.proofs.PromiseLaws.{hours-length, hour-at, bytes-are}
 
 -- THE STEPS of the hours are the day's
@@ -54,26 +54,6 @@ pub columns-steps : (b ends records sides prices quantities : List ℕ) → Step
 unfolding stepsAt
 columns-steps b ends records sides prices quantities columns a h first last =
     sym (hour-from-columns b ends records sides prices quantities columns a h first last)
-
--- THE BLOCKS' TRADES go by their sides, hours and quantities alone
-traders-same : (b : List ℕ) (h : ℕ) (records sides hours prices quantities : List ℕ) (set : List Bool) → length records ≡ length sides →
-    length prices ≡ length sides →
-    (overBlocks (sells h) (taken (tradersFrom sides hours quantities) set)
-    ≡ overBlocks (sells h) (taken (blocksFrom b records sides hours prices quantities) set))
-    × (overBlocks (buys h) (taken (tradersFrom sides hours quantities) set)
-    ≡ overBlocks (buys h) (taken (blocksFrom b records sides hours prices quantities) set))
-unfolding tradersFrom blocksFrom
-traders-same b h [] [] hours prices quantities set e f = (refl, refl)
-traders-same b h [] (s ∷ sides) hours prices quantities set e f = absurd (omega arith)
-traders-same b h (r ∷ records) [] hours prices quantities set e f = absurd (omega arith)
-traders-same b h (r ∷ records) (s ∷ sides) [] prices quantities set e f = (refl, refl)
-traders-same b h (r ∷ records) (s ∷ sides) (x ∷ hours) [] quantities set e f = absurd (omega arith)
-traders-same b h (r ∷ records) (s ∷ sides) (x ∷ hours) (p ∷ prices) [] set e f = (refl, refl)
-traders-same b h (r ∷ records) (s ∷ sides) (x ∷ hours) (p ∷ prices) (q ∷ quantities) [] e f = (refl, refl)
-traders-same b h (r ∷ records) (s ∷ sides) (x ∷ hours) (p ∷ prices) (q ∷ quantities) (true ∷ set) e f =
-    let t = traders-same b h records sides hours prices quantities set (omega arith) (omega arith) in (rw (t .0), rw (t .1))
-traders-same b h (r ∷ records) (s ∷ sides) (x ∷ hours) (p ∷ prices) (q ∷ quantities) (false ∷ set) e f =
-    traders-same b h records sides hours prices quantities set (omega arith) (omega arith)
 
 -- lists that agree in each of the hours
 inTurn-same : (n : ℕ) (q r : ℕ → List ℕ) → ((h : ℕ) → 1 ≤ h → h ≤ n → q h ≡ r h) → inTurn q n ≡ hourAfterHour r n
@@ -145,13 +125,13 @@ module _ (b ends records sides prices quantities brecords bsides bhours bprices 
   sales-are : (h : ℕ) → sales h ≡ overBlocks (sells h) (publishedBlocks b)
   unfolding salesAt
   sales-are h =
-      traders-same b h brecords bsides bhours bprices bquantities (decisions (length bsides) set) (sym sizeR) (sym sizeP) .0
+      sym (traders-same (sells h) (λ n s x p q. refl) b brecords bsides bhours bprices bquantities sizeR (omega arith) (omega arith) (omega arith) (decisions (length bsides) set))
       ∙ ap (overBlocks (sells h)) taken-are
 
   purchases-are : (h : ℕ) → purchases h ≡ overBlocks (buys h) (publishedBlocks b)
   unfolding buysAt
   purchases-are h =
-      traders-same b h brecords bsides bhours bprices bquantities (decisions (length bsides) set) (sym sizeR) (sym sizeP) .1
+      sym (traders-same (buys h) (λ n s x p q. refl) b brecords bsides bhours bprices bquantities sizeR (omega arith) (omega arith) (omega arith) (decisions (length bsides) set))
       ∙ ap (overBlocks (buys h)) taken-are
 
   gets-are : (h : ℕ) → 1 ≤ h → h ≤ 24 → gets h ≡ executedIn b h

@@ -12,14 +12,15 @@ use Rattle.rules.specs.Outcome.{outcome}
 use Rattle.rules.proofs.BestLaws.{outcome-first}
 use Rattle.rules.proofs.DayLaws.{empty-lawful}
 use Rattle.orders.specs.Bridge.{dayFrom}
-use Rattle.orders.specs.Columns.{StepColumns, BlockColumns}
+use Rattle.orders.specs.Columns.{StepColumns}
+use Rattle.orders.specs.declared.Steps.{Steps}
 use Rattle.orders.specs.declared.Blocks.{Blocks}
 use Rattle.orders.proofs.BridgeLaws.{prices-in-range, hours-in-range}
 use Rattle.orders.proofs.HourLaws.{ends-start, ends-rise, ends-fit}
 use Rattle.orders.proofs.PlaceLaws.{step-place, block-place}
 use Rattle.search.specs.Meaning.{DayOf}
 use Rattle.search.specs.Search.{StepsSized}
-use Rattle.clearing.specs.Publish.{Publishable}
+use Rattle.clearing.specs.Publish.{BlocksOf, Publishable}
 use Rattle.search.specs.declared.Day as code-day
 use Rattle.search.proofs.TradedLaws.{counts, price-positive}
 use Rattle.result.proofs.RowsLaws.{publishedBlocks}
@@ -48,22 +49,22 @@ module _ (b : List ℕ) (a : Accepted b) where
           quantitiesFit = λ i k. step-place b ends records sides prices quantities columns a i k .quantityRange .1;
         }
 
-    pub publishable : (blocks : Blocks) (day : code-day.Day) (count : ℕ) (result : List ℕ) →
-        BlockColumns 32 b (blocks .count) (blocks .records) (blocks .sides) (blocks .hours) (blocks .prices) (blocks .quantities) →
-        DayOf (dayFrom b) (outcome (dayFrom b)) day → count ≡ recordCount b → length result ≡ 196 + 4 * count →
-        getD ends 24 0 ≤ length records → StepsSized ends sides prices quantities → Publishable count ends records sides prices quantities blocks day result
-    publishable blocks day count result c d same size lr sized =
-        let place = block-place b (blocks .count) (blocks .records) (blocks .sides) (blocks .hours) (blocks .prices) (blocks .quantities) c a in
-        let n = record-count b a in
-        record {
-          steps = sized;
-          inRecords = lr;
-          fewBlocks = c .few;
-          blockPricesFit = λ i k. place i k .priceRange .1;
-          blockQuantitiesFit = λ i k. place i k .quantityRange .1;
-          priced = λ h k.
-              let back : h + 1 - 1 ≡ h = omega arith in
-              let p = rw back at (d .pricesAre (h + 1) (omega arith) (omega arith)) in
-              omega (arith, outcome-priced (h + 1) (omega arith) (omega arith));
-          buffer = (omega (arith, n .0), omega (arith, n .1), size);
-        }
+  pub publishable : (steps : Steps) (blocks : Blocks) (day : code-day.Day) (count : ℕ) (result : List ℕ) → BlocksOf b blocks →
+      DayOf (dayFrom b) (outcome (dayFrom b)) day → count ≡ recordCount b → length result ≡ 196 + 4 * count →
+      getD (steps .ends) 24 0 ≤ length (steps .records) → StepsSized (steps .ends) (steps .sides) (steps .prices) (steps .quantities) →
+      Publishable count steps blocks day result
+  publishable steps blocks day count result c d same size lr sized =
+      let place = block-place b (blocks .count) (blocks .records) (blocks .sides) (blocks .hours) (blocks .prices) (blocks .quantities) c a in
+      let n = record-count b a in
+      record {
+        stepsFit = sized;
+        inRecords = lr;
+        fewBlocks = c .few;
+        blockPricesFit = λ i k. place i k .priceRange .1;
+        blockQuantitiesFit = λ i k. place i k .quantityRange .1;
+        priced = λ h k.
+            let back : h + 1 - 1 ≡ h = omega arith in
+            let p = rw back at (d .pricesAre (h + 1) (omega arith) (omega arith)) in
+            omega (arith, outcome-priced (h + 1) (omega arith) (omega arith));
+        buffer = (omega (arith, n .0), omega (arith, n .1), size);
+      }

@@ -4,12 +4,14 @@ use mathlib.Core.Path.{_≡_, refl, sym, _∙_}
 use mathlib.Core.List.{List, [], _∷_}
 use native.Mathlib.Omega.{arith}
 use native.Mathlib.Numerals.{add-one}
-use native.Mathlib.Nat.{mul-le-mul-left, mul-le-mul-right, le-trans}
+use native.Mathlib.Nat.{le-trans}
 use lib.ListN.{length, drop, getD}
 use lib.Seq.{drop-cons}
-use Rattle.rules.specs.Orders.{Side, buy, sell, Step}
+use Rattle.rules.specs.Orders.{Step}
 use Rattle.rules.specs.Hour.{bySide}
 use Rattle.rules.specs.Contender.{Each, Within}
+use Rattle.rules.proofs.CurveLaws.{bySide-le}
+use Rattle.rules.proofs.BoundsLaws.{product-le}
 use Rattle.rules.proofs.DualityLaws.{value, cost}
 use Rattle.rules.proofs.ExecutionLaws.{execution-within, execution-net}
 use Rattle.orders.specs.Columns.{sideFor, stepsFrom}
@@ -17,9 +19,6 @@ use Rattle.pricing.specs.Curves.{hourWith, Columns, ExecutedOf}
 use Rattle.pricing.proofs.TotalsLaws.{side-sell, restOf, rest-more, rest-end}
 use Rattle.search.specs.Search.{Small}
 use Rattle.clearing.specs.Publish.{SumsOf, HourDone}
-
-pub product-le : (a b c d : ℕ) → a ≤ c → b ≤ d → a * b ≤ c * d
-product-le a b c d h k = le-trans (mul-le-mul-right b h) (mul-le-mul-left c k)
 
 -- ONE STEP, by its side
 module _ (w value-r cost-r s : ℕ) where
@@ -49,10 +48,6 @@ summing-none sides prices values =
       valueFits = omega arith;
       costFits = omega arith;
     }
-
-bySide-le : (side : Side) (q : ℕ) → (bySide side q 0 ≤ q) × (bySide side 0 q ≤ q)
-bySide-le buy q = (omega arith, omega arith)
-bySide-le sell q = (omega arith, omega arith)
 
 value-more : (s : Step) (l : List Step) (q : ℕ) (qs : List ℕ) → value (s ∷ l) (q ∷ qs) ≡ bySide (s .side) (q * s .price) 0 + value l qs
 unfolding value

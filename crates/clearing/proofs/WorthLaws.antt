@@ -1,7 +1,7 @@
 -- What the blocks of a set are worth, one block at a time, and how much they trade in an hour at most. Assumes nothing.
 use Prim.Native.Nat.{ℕ, zero, suc, _+_, _-_, _*_, _/_, _%_, _≤_, _<_}
 use mathlib.Core.Path.{_≡_, refl, _∙_}
-use mathlib.Core.List.{List, [], _∷_}
+use mathlib.Core.List.{List}
 use mathlib.Core.Bool.{Bool, true, false, cond}
 use native.Mathlib.Omega.{arith}
 use native.Mathlib.Numerals.{add-one}
@@ -12,14 +12,15 @@ use borrow.Author.Tests.{eq-eqb, ne-eqb}
 use Rattle.records.specs.Records.{number, holdsHour, hourCount}
 use Rattle.rules.specs.Orders.{Side, buy, sell, Block}
 use Rattle.rules.specs.Hour.{bySide, when}
-use Rattle.rules.specs.Day.{taken, decisions, overBlocks, sells, buys, blocksValue, blocksCost}
+use Rattle.rules.specs.Day.{taken, decisions, overBlocks, blocksValue, blocksCost}
 use Rattle.rules.specs.Day as day
 use Rattle.orders.specs.Columns.{sideFor, blockOf, blocksFrom}
 use Rattle.orders.proofs.BridgeLaws.{hour-count}
-use Rattle.pricing.specs.Curves.{tradersFrom}
-use Rattle.search.specs.Search.{Small}
 use Rattle.clearing.specs.Publish.{WorthOf, TradersSized, salesAt, buysAt}
-use Rattle.clearing.proofs.SumLaws.{product-le}
+use Rattle.rules.proofs.CurveLaws.{bySide-le}
+use Rattle.rules.proofs.TradeBounds.{take-one}
+use Rattle.rules.proofs.BoundsLaws.{product-le}
+use Rattle.pricing.proofs.TraderLaws.{traders-within}
 
 -- ONE BLOCK
 pub hours-few : (n x : ℕ) → hourCount n x ≤ n
@@ -45,11 +46,6 @@ module _ (p q x : ℕ) (fp : p ≤ 300000) (fq : q ≤ 50) where
   worth-not t o = rw (ne-eqb t 1 o)
 
 -- ALL BLOCKS
-take-one : (f : Block → ℕ) (b : Block) (l : List Block) (t : Bool) (set : List Bool) →
-    overBlocks f (taken (b ∷ l) (t ∷ set)) ≡ when t (f b) + overBlocks f (taken l set)
-take-one f b l true set = refl
-take-one f b l false set = omega arith
-
 first-when : (t : Bool) (side : Side) (w : ℕ) → when t (bySide side w 0) ≡ bySide side (when t w) 0
 first-when true side w = refl
 first-when false buy w = refl
@@ -59,10 +55,6 @@ second-when : (t : Bool) (side : Side) (w : ℕ) → when t (bySide side 0 w) �
 second-when true side w = refl
 second-when false buy w = refl
 second-when false sell w = refl
-
-bySide-le : (side : Side) (q : ℕ) → (bySide side q 0 ≤ q) × (bySide side 0 q ≤ q)
-bySide-le buy q = (omega arith, omega arith)
-bySide-le sell q = (omega arith, omega arith)
 
 module _ (sides hours prices quantities : List ℕ) where
   -- the blocks not yet counted, with what is left of the set
@@ -172,30 +164,9 @@ module _ (sides hours prices quantities : List ℕ) where
         }
 
 -- IN AN HOUR the blocks of a set trade 50 each at most
-when-side-le : (t : Bool) (side : Side) (q : ℕ) → q ≤ 50 → (when t (bySide side 0 q) ≤ 50) × (when t (bySide side q 0) ≤ 50)
-when-side-le true buy q k = (omega arith, k)
-when-side-le true sell q k = (k, omega arith)
-when-side-le false side q k = (omega arith, omega arith)
-
-trades-few : (h : ℕ) (sides hours quantities : List ℕ) (set : List Bool) → Small 50 quantities →
-    (overBlocks (sells h) (taken (tradersFrom sides hours quantities) set) ≤ 50 * length sides)
-    × (overBlocks (buys h) (taken (tradersFrom sides hours quantities) set) ≤ 50 * length sides)
-unfolding tradersFrom
-trades-few h [] hours quantities set small = (omega arith, omega arith)
-trades-few h (s ∷ sides) [] quantities set small = (omega arith, omega arith)
-trades-few h (s ∷ sides) (x ∷ hours) [] set small = (omega arith, omega arith)
-trades-few h (s ∷ sides) (x ∷ hours) (q ∷ quantities) [] small = (omega arith, omega arith)
-trades-few h (s ∷ sides) (x ∷ hours) (q ∷ quantities) (true ∷ set) small =
-    let t = trades-few h sides hours quantities set (λ i. small (suc i)) in
-    let o = when-side-le (holdsHour x h) (sideFor s) q (small 0) in
-    (omega (arith, t .0, o .0), omega (arith, t .1, o .1))
-trades-few h (s ∷ sides) (x ∷ hours) (q ∷ quantities) (false ∷ set) small =
-    let t = trades-few h sides hours quantities set (λ i. small (suc i)) in
-    (omega (arith, t .0), omega (arith, t .1))
-
 pub trades-fit : (sides hours quantities : List ℕ) (set h : ℕ) → TradersSized sides hours quantities →
     (salesAt sides hours quantities set h ≤ 1600) × (buysAt sides hours quantities set h ≤ 1600)
 unfolding salesAt buysAt
 trades-fit sides hours quantities set h sized =
-    let t = trades-few h sides hours quantities (decisions (length sides) set) (sized .quantitiesFit) in
-    (omega (arith, t .0, sized .few), omega (arith, t .1, sized .few))
+    let all = traders-within 50 32 h sides hours quantities (decisions (length sides) set) (sized .few) (λ i k. sized .quantitiesFit i) in
+    (omega (arith, all), omega (arith, all))

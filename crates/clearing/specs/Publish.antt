@@ -1,6 +1,6 @@
 -- THE PUBLICATION out of columns: what the steps of each hour get, hour after hour, and what it is worth; the result's bytes from them and from the day.
 -- These are the contracts of the functions of src/publish.rt; the promise of the clearing itself is in Promise. Definitions only. Assumes nothing.
-use Prim.Native.Nat.{ℕ, zero, suc, _+_, _-_, _*_, _/_, _%_, _^_, _≤_, _<_}
+use Prim.Native.Nat.{ℕ, zero, suc, _+_, _*_, _/_, _%_, _^_, _≤_, _<_}
 use mathlib.Core.Bool.{cond}
 use mathlib.Core.List.{List, [], _++_}
 use mathlib.Core.Path.{_≡_}
@@ -17,6 +17,7 @@ use Rattle.rules.proofs.PricingLaws.{net}
 use Rattle.rules.proofs.DualityLaws.{value, cost}
 use Rattle.orders.specs.Bridge.{dayFrom}
 use Rattle.orders.specs.Columns.{StepColumns, BlockColumns, stepsFrom, blocksFrom}
+use Rattle.orders.specs.declared.Steps.{Steps}
 use Rattle.orders.specs.declared.Blocks.{Blocks}
 use Rattle.pricing.specs.Curves.{tradersFrom}
 use Rattle.search.specs.Search.{Small, FirstSmall, StepsSized}
@@ -106,24 +107,28 @@ RowsOf records values brecords bquantities set rows =
     (k : ℕ) → k < 2048 → getD rows k 0 ≡ beside k records values (beside k brecords bvalues 0)
 
 -- THE RESULT, where the columns are an accepted book's, the set is the published one and the day is its day
-abbrev pub PublishedFrom : (count : ℕ) (ends records sides prices quantities brecords bsides bhours bprices bquantities : List ℕ) (set : ℕ)
-    (day : code-day.Day) (result : List ℕ) → Type 0
-PublishedFrom count ends records sides prices quantities brecords bsides bhours bprices bquantities set day result =
-    (b : List ℕ) → Accepted b → StepColumns b ends records sides prices quantities →
+abbrev pub StepsOf : List ℕ → Steps → Type 0
+StepsOf b steps = StepColumns b (steps .ends) (steps .records) (steps .sides) (steps .prices) (steps .quantities)
+
+abbrev pub BlocksOf : List ℕ → Blocks → Type 0
+BlocksOf b blocks = BlockColumns 32 b (blocks .count) (blocks .records) (blocks .sides) (blocks .hours) (blocks .prices) (blocks .quantities)
+
+abbrev pub PublishedFrom : (count : ℕ) (steps : Steps) (brecords bsides bhours bprices bquantities : List ℕ) (set : ℕ) (day : code-day.Day)
+    (result : List ℕ) → Type 0
+PublishedFrom count steps brecords bsides bhours bprices bquantities set day result =
+    (b : List ℕ) → Accepted b → StepsOf b steps →
     BlockColumns (length bsides) b (length bsides) brecords bsides bhours bprices bquantities → decisions (length bsides) set ≡ outcome (dayFrom b) →
     DayOf (dayFrom b) (outcome (dayFrom b)) day → count ≡ recordCount b → result ≡ resultBytes b
 
-abbrev pub PublishedIn : (count : ℕ) (ends records sides prices quantities : List ℕ) (blocks : Blocks) (set : ℕ) (day : code-day.Day) (result : List ℕ) → Type 0
-PublishedIn count ends records sides prices quantities blocks set day result =
-    (b : List ℕ) → Accepted b → StepColumns b ends records sides prices quantities →
-    BlockColumns 32 b (blocks .count) (blocks .records) (blocks .sides) (blocks .hours) (blocks .prices) (blocks .quantities) →
-    decisions (blocks .count) set ≡ outcome (dayFrom b) → DayOf (dayFrom b) (outcome (dayFrom b)) day → count ≡ recordCount b →
-    result ≡ resultBytes b
+abbrev pub PublishedIn : (count : ℕ) (steps : Steps) (blocks : Blocks) (set : ℕ) (day : code-day.Day) (result : List ℕ) → Type 0
+PublishedIn count steps blocks set day result =
+    (b : List ℕ) → Accepted b → StepsOf b steps → BlocksOf b blocks → decisions (blocks .count) set ≡ outcome (dayFrom b) →
+    DayOf (dayFrom b) (outcome (dayFrom b)) day → count ≡ recordCount b → result ≡ resultBytes b
 
 -- WHAT IS ASKED of a call, all of it for safe arithmetic and indexing: it holds of an accepted book's columns, set and day.
-pub record Publishable (count : ℕ) (ends records sides prices quantities : List ℕ) (blocks : Blocks) (day : code-day.Day) (result : List ℕ) : Type 0 where
-  pub steps : StepsSized ends sides prices quantities
-  pub inRecords : getD ends 24 0 ≤ length records
+pub record Publishable (count : ℕ) (steps : Steps) (blocks : Blocks) (day : code-day.Day) (result : List ℕ) : Type 0 where
+  pub stepsFit : StepsSized (steps .ends) (steps .sides) (steps .prices) (steps .quantities)
+  pub inRecords : getD (steps .ends) 24 0 ≤ length (steps .records)
   pub fewBlocks : blocks .count ≤ 32
   pub blockPricesFit : FirstSmall (blocks .count) 300000 (blocks .prices)
   pub blockQuantitiesFit : FirstSmall (blocks .count) 50 (blocks .quantities)

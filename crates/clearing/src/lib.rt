@@ -28,7 +28,6 @@ fn clear_accepted(book: &[u8], result: &mut [u8])
     let sides = steps.sides;
     let prices = steps.prices;
     let quantities = steps.quantities;
-    let records = steps.records;
     let ends = steps.ends;
     let blocks = blocks_of(book);
     let mut low = [0; 38448];
@@ -55,18 +54,7 @@ fn clear_accepted(book: &[u8], result: &mut [u8])
         &ends,
         blocks.count as u32,
     );
-    publish(
-        count,
-        &sides,
-        &prices,
-        &quantities,
-        &records,
-        ends,
-        blocks,
-        best.set,
-        best.day,
-        result,
-    );
+    publish(count, steps, blocks, best.set, best.day, result);
 }
 
 // The auction's outcome for a book, written to the result; or the first refusal whose cause holds, and the result as it was.

@@ -12,6 +12,7 @@ ghost use Rattle.search.specs.Search.{Small, ofHour, PartSized, StepsSized, ste
 ghost use Rattle.clearing.specs.Publish.{HourDone, HourPut, SumsOf, WorthOf, HoursDone, TradersSized, Priced};
 ghost use Rattle.clearing.specs.Publish.{salesAt, buysAt, Buffer, RowsOf, PublishedFrom, PublishedIn, Publishable};
 use orders::Blocks;
+use orders::Steps;
 use pricing::blocks::trades_of;
 use pricing::execution::amounts_at;
 use pricing::execution::share_out;
@@ -137,10 +138,7 @@ fn blocks_worth(sides: &[u8], hours: &[u32], prices: &[u32], quantities: &[u32],
 
 // What the steps of each hour get, hour after hour, into values, and the value and the cost of all of it.
 fn fill_hours(
-    sides: &[u8],
-    prices: &[u32],
-    quantities: &[u32],
-    ends: [u16; 25],
+    steps: Steps,
     bsides: &[u8],
     bhours: &[u32],
     bquantities: &[u32],
@@ -148,26 +146,28 @@ fn fill_hours(
     middles: [u32; 24],
     values: &mut [u32],
 ) -> Sums
-    requires { ⌜ StepsSized ends (now sides) (now prices) (now quantities) × TradersSized (now bsides) (now bhours) (now bquantities)
-        × Priced middles × (getD ends 24 0 ≤ length (now values)) ⌝ }
-    ensures { λ r. ⌜ HoursDone ends (stepsAt ends (now (sides .entry)) (now (prices .entry)) (now (quantities .entry)))
+    requires { ⌜ StepsSized (steps .ends) (steps .sides) (steps .prices) (steps .quantities) × TradersSized (now bsides) (now bhours) (now bquantities)
+        × Priced middles × (getD (steps .ends) 24 0 ≤ length (now values)) ⌝ }
+    ensures { λ r. ⌜ HoursDone (steps .ends) (stepsAt (steps .ends) (steps .sides) (steps .prices) (steps .quantities))
         (salesAt (now (bsides .entry)) (now (bhours .entry)) (now (bquantities .entry)) set)
         (buysAt (now (bsides .entry)) (now (bhours .entry)) (now (bquantities .entry)) set)
         (ofHour middles) 24 (now (values .exit)) (r .value) (r .cost) ⌝ }
 {
+    let sides = steps.sides;
+    let prices = steps.prices;
+    let quantities = steps.quantities;
+    let ends = steps.ends;
     let mut value: u64 = 0;
     let mut cost: u64 = 0;
     let mut h: usize = 0;
     while h < 24 {
-        let from = ends[h] as usize;
-        let to = ends[h + 1] as usize;
         let trades = trades_of(bsides, bhours, bquantities, set, (h + 1) as u32);
         let sums = put_hour(
-            sides,
-            prices,
-            quantities,
-            from,
-            to,
+            &sides,
+            &prices,
+            &quantities,
+            ends[h] as usize,
+            ends[h + 1] as usize,
             trades.sales,
             trades.buys,
             middles[h],
@@ -204,14 +204,10 @@ fn rows_of(
     with_rows(rows, records, values)
 }
 
-// The result out of the columns, the set and its day.
+// The result out of the steps, the blocks' columns, the set and its day.
 fn publish_columns(
     count: usize,
-    sides: &[u8],
-    prices: &[u32],
-    quantities: &[u32],
-    records: &[u16],
-    ends: [u16; 25],
+    steps: Steps,
     brecords: &[u16],
     bsides: &[u8],
     bhours: &[u32],
@@ -221,22 +217,20 @@ fn publish_columns(
     day: Day,
     result: &mut [u8],
 )
-    requires { ⌜ StepsSized ends (now sides) (now prices) (now quantities) × (getD ends 24 0 ≤ length (now records))
+    requires { ⌜ StepsSized (steps .ends) (steps .sides) (steps .prices) (steps .quantities) × (getD (steps .ends) 24 0 ≤ length (steps .records))
         × TradersSized (now bsides) (now bhours) (now bquantities) × (length (now bsides) ≡ length (now brecords))
         × (length (now bsides) ≡ length (now bprices)) × Small 300000 (now bprices) × Priced (day .prices) × Buffer count (now result) ⌝ }
-    ensures { λ _. ⌜ PublishedFrom count ends (now (records .entry)) (now (sides .entry)) (now (prices .entry)) (now (quantities .entry))
-        (now (brecords .entry)) (now (bsides .entry)) (now (bhours .entry)) (now (bprices .entry))
+    ensures { λ _. ⌜ PublishedFrom count steps (now (brecords .entry)) (now (bsides .entry)) (now (bhours .entry)) (now (bprices .entry))
         (now (bquantities .entry)) set day (now (result .exit)) ⌝ }
 {
+    let records = steps.records;
+    let ends = steps.ends;
     let n = ends[24] as usize;
     let middles = day.prices;
     let traded = day.quantities;
     let mut values = [0; 2048];
-    let steps = fill_hours(
-        sides,
-        prices,
-        quantities,
-        ends,
+    let sums = fill_hours(
+        steps,
         bsides,
         bhours,
         bquantities,
@@ -245,27 +239,22 @@ fn publish_columns(
         &mut values,
     );
     let worth = blocks_worth(bsides, bhours, bprices, bquantities, set);
-    let welfare = less(steps.value + worth.value, steps.cost + worth.cost);
+    let welfare = less(sums.value + worth.value, sums.cost + worth.cost);
     let rows = rows_of(&records[..n], &values[..n], brecords, bquantities, set);
     write_result(result, count, welfare, middles, traded, &rows);
 }
 
-// The result of a book of so many records: its steps' columns, its blocks, the published set and its day.
+// The result of a book of so many records: its steps, its blocks, the published set and its day.
 pub fn publish(
     count: usize,
-    sides: &[u8],
-    prices: &[u32],
-    quantities: &[u32],
-    records: &[u16],
-    ends: [u16; 25],
+    steps: Steps,
     blocks: Blocks,
     set: u32,
     day: Day,
     result: &mut [u8],
 )
-    requires { ⌜ Publishable count ends (now records) (now sides) (now prices) (now quantities) blocks day (now result) ⌝ }
-    ensures { λ _. ⌜ PublishedIn count ends (now (records .entry)) (now (sides .entry)) (now (prices .entry))
-        (now (quantities .entry)) blocks set day (now (result .exit)) ⌝ }
+    requires { ⌜ Publishable count steps blocks day (now result) ⌝ }
+    ensures { λ _. ⌜ PublishedIn count steps blocks set day (now (result .exit)) ⌝ }
 {
     let m = blocks.count;
     let brecords = blocks.records;
@@ -275,11 +264,7 @@ pub fn publish(
     let bquantities = blocks.quantities;
     publish_columns(
         count,
-        sides,
-        prices,
-        quantities,
-        records,
-        ends,
+        steps,
         &brecords[..m],
         &bsides[..m],
         &bhours[..m],

@@ -1,5 +1,5 @@
 -- A pricing call: the hour's columns and N are the hour of the book's day under the set, and the refusals come in their order. Assumes nothing.
-use Prim.Native.Nat.{ℕ, zero, suc, _+_, _-_, _*_, _/_, _^_, _≤_, _<_}
+use Prim.Native.Nat.{ℕ, zero, suc, _+_, _-_, _/_, _^_, _≤_, _<_}
 use mathlib.Core.Path.{_≡_, refl, sym, ap, subst, _∙_}
 use mathlib.Core.List.{List, [], _∷_, _++_}
 use mathlib.Core.Bool.{Bool, true, false, cond, not, _&&_, _||_, true≢false}
@@ -15,65 +15,25 @@ use Rattle.book.specs.Chains.{blockChain}
 use Rattle.book.specs.Refusals.{Accepted, refusal, firstOf, ownCauses}
 use Rattle.book.proofs.Accepted.{accepted-zero}
 use Rattle.book.proofs.Refused.{bounds, refusal-then}
-use Rattle.rules.specs.Orders.{Side, buy, sell, Block}
-use Rattle.rules.specs.Hour.{bySide, when, Pricing, cleared, doesNotClear, pricing}
+use Rattle.rules.specs.Orders.{Block}
+use Rattle.rules.specs.Hour.{Pricing, cleared, doesNotClear, pricing}
 use Rattle.rules.specs.Day.{stepsIn, taken, decisions, overBlocks, sells, buys}
 use Rattle.rules.specs.Contender.{PricesInRange}
 use Rattle.rules.proofs.Tests.{by-le, by-lt, by-eq}
-use Rattle.rules.proofs.CurveLaws.{when-zero, when-le}
 use Rattle.rules.proofs.PricingLaws.{pricing-net}
 use Rattle.rules.proofs.ChainLaws.{prices-in}
 use Rattle.orders.specs.Bridge.{dayFrom}
-use Rattle.orders.specs.Columns.{StepColumns, BlockColumns, stepsFrom, blocksFrom, blockOf, sideFor}
+use Rattle.orders.specs.Columns.{StepColumns, BlockColumns, stepsFrom}
 use Rattle.orders.proofs.HourLaws.{hour-from-columns}
 use Rattle.orders.proofs.BridgeLaws.{prices-in-range, blocks-from-columns, block-count}
 use Rattle.orders.proofs.PlaceLaws.{block-place}
+use Rattle.pricing.proofs.TraderLaws.{traders-same, traders-within}
 use Rattle.pricing.specs.Curves.{bias, tradersFrom, TradesOf}
 use Rattle.pricing.specs.Answers.{answerFor, AnswerOf, blocksOf, NetOf, hourAnswered, wrongCall, priceCauses, hourAnswer, numberOf}
 use Rattle.pricing.specs.declared.HourAnswer.{HourAnswer}
 use Rattle.pricing.specs.declared.HourAnswer.the-variants.{Refused}
 
 -- TRADES
--- a block's number and price play no part in what it sells or buys in an hour
-traders-same : (f : Block → ℕ) → ((n s x p q : ℕ) → f (blockOf n s x p q) ≡ f (blockOf 0 s x 0 q)) →
-    (b records sides hours prices quantities : List ℕ) → length sides ≡ length records → length hours ≡ length records → length prices ≡ length records →
-    length quantities ≡ length records → (set : List Bool) →
-    overBlocks f (taken (blocksFrom b records sides hours prices quantities) set) ≡ overBlocks f (taken (tradersFrom sides hours quantities) set)
-unfolding blocksFrom tradersFrom
-traders-same f e b [] [] hours prices quantities a c d g set = refl
-traders-same f e b [] (s ∷ sides) hours prices quantities a c d g set = absurd (omega arith)
-traders-same f e b (k ∷ records) [] hours prices quantities a c d g set = absurd (omega arith)
-traders-same f e b (k ∷ records) (s ∷ sides) [] prices quantities a c d g set = absurd (omega arith)
-traders-same f e b (k ∷ records) (s ∷ sides) (x ∷ hours) [] quantities a c d g set = absurd (omega arith)
-traders-same f e b (k ∷ records) (s ∷ sides) (x ∷ hours) (p ∷ prices) [] a c d g set = absurd (omega arith)
-traders-same f e b (k ∷ records) (s ∷ sides) (x ∷ hours) (p ∷ prices) (q ∷ quantities) a c d g [] = refl
-traders-same f e b (k ∷ records) (s ∷ sides) (x ∷ hours) (p ∷ prices) (q ∷ quantities) a c d g (true ∷ set) =
-    omega (
-      arith,
-      e (Rattle.records.specs.Records.number b k) s x p q,
-      traders-same f e b records sides hours prices quantities (omega arith) (omega arith) (omega arith) (omega arith) set,
-    )
-traders-same f e b (k ∷ records) (s ∷ sides) (x ∷ hours) (p ∷ prices) (q ∷ quantities) a c d g (false ∷ set) =
-    traders-same f e b records sides hours prices quantities (omega arith) (omega arith) (omega arith) (omega arith) set
-
--- blocks of at most 50 each
-traders-fit : (f : Block → ℕ) → ((s x q : ℕ) → f (blockOf 0 s x 0 q) ≤ q) → (sides hours quantities : List ℕ) →
-    ((i : ℕ) → i < length sides → getD quantities i 0 ≤ 50) → (set : List Bool) →
-    overBlocks f (taken (tradersFrom sides hours quantities) set) ≤ length sides * 50
-unfolding tradersFrom
-traders-fit f e [] hours quantities small set = omega arith
-traders-fit f e (s ∷ sides) [] quantities small set = omega arith
-traders-fit f e (s ∷ sides) (x ∷ hours) [] small set = omega arith
-traders-fit f e (s ∷ sides) (x ∷ hours) (q ∷ quantities) small [] = omega arith
-traders-fit f e (s ∷ sides) (x ∷ hours) (q ∷ quantities) small (true ∷ set) =
-    omega (arith, e s x q, small 0 (omega arith), traders-fit f e sides hours quantities (λ i k. small (suc i) (omega arith)) set)
-traders-fit f e (s ∷ sides) (x ∷ hours) (q ∷ quantities) small (false ∷ set) =
-    omega (arith, traders-fit f e sides hours quantities (λ i k. small (suc i) (omega arith)) set)
-
-side-le : (t : Bool) (side : Side) (q : ℕ) → (when t (bySide side q 0) ≤ q) × (when t (bySide side 0 q) ≤ q)
-side-le t buy q = (when-le t q, omega (arith, when-zero t))
-side-le t sell q = (omega (arith, when-zero t), when-le t q)
-
 module _ (b : List ℕ) (a : Accepted b) (count : ℕ) (records sides hours prices quantities : List ℕ)
     (columns : BlockColumns 32 b count records sides hours prices quantities)
     (er : length records ≡ 32) (es : length sides ≡ 32) (eh : length hours ≡ 32) (ep : length prices ≡ 32) (eq : length quantities ≡ 32)
@@ -87,22 +47,10 @@ module _ (b : List ℕ) (a : Accepted b) (count : ℕ) (records sides hours pric
       let small : (i : ℕ) → i < length (take count sides) → getD (take count quantities) i 0 ≤ 50 = λ i k.
       let j : i < count = omega (arith, size sides es) in
       rw (getD-take count quantities i 0 j) (block-place b count records sides hours prices quantities columns a i j .quantityRange .1) in
-      let n = size sides es in (
-        omega (
-          arith,
-          trades .sold,
-          columns .few,
-          traders-fit (sells h) (λ s x q. side-le (Rattle.records.specs.Records.holdsHour x h) (sideFor s) q .1) (take count sides) (take count hours) (take count quantities)
-              small (decisions (length (take count sides)) set),
-        ),
-        omega (
-          arith,
-          trades .bought,
-          columns .few,
-          traders-fit (buys h) (λ s x q. side-le (Rattle.records.specs.Records.holdsHour x h) (sideFor s) q .0) (take count sides) (take count hours) (take count quantities)
-              small (decisions (length (take count sides)) set),
-        ),
-      )
+      let few : length (take count sides) ≤ 32 = omega (arith, size sides es, columns .few) in
+      let all =
+      traders-within 50 32 h (take count sides) (take count hours) (take count quantities) (decisions (length (take count sides)) set) few small in
+      (omega (arith, trades .sold, all), omega (arith, trades .bought, all))
 
   abbrev S : List Block
   S = taken (dayFrom b .blocks) (decisions (length (dayFrom b .blocks)) set)

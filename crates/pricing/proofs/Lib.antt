@@ -1,6 +1,7 @@
 -- Laws of pricing.
 pub mod TotalsLaws
 pub mod TradeLaws
+pub mod TraderLaws
 pub mod EndLaws
 pub mod AnswerLaws
 pub mod ShareLaws

@@ -1,5 +1,5 @@
 -- TWO SETS WITH THE SAME N IN AN HOUR GET THE SAME ANSWER (document 02, P4), whatever the book. Assumes nothing.
-use Prim.Native.Nat.{ℕ, _+_, _^_, _<_}
+use Prim.Native.Nat.{ℕ, _^_}
 use mathlib.Core.Path.{_≡_}
 use mathlib.Core.List.{List}
 use lib.ListN.{length}

@@ -4,14 +4,14 @@ use mathlib.Core.Path.{_≡_, refl, _∙_}
 use mathlib.Core.List.{List, [], _∷_}
 use native.Mathlib.Omega.{arith}
 use native.Mathlib.Numerals.{add-one}
-use mathlib.Core.Bool.{Bool, true, false, cond, not, _&&_}
+use mathlib.Core.Bool.{false, cond, not, _&&_}
 use lib.Dec.{eqb, ltb, leb}
 use lib.ListN.{length, drop, getD, drop-of-length-le}
 use lib.Seq.{drop-cons}
 use borrow.Author.Tests.{ne-eqb}
-use Rattle.rules.specs.Orders.{Side, buy, sell, Step}
+use Rattle.rules.specs.Orders.{Side, sell, Step}
 use Rattle.rules.specs.Hour.{bySide, when, buysAbove, sellsTo}
-use Rattle.rules.proofs.CurveLaws.{when-zero, when-le}
+use Rattle.rules.proofs.CurveLaws.{when-zero, when-le, bySide-le, times-when}
 use Rattle.orders.specs.Columns.{sideFor, stepsFrom}
 use Rattle.pricing.specs.Curves.{Columns, QuantitiesInRange, TotalsOf}
 
@@ -21,10 +21,6 @@ side-sell zero h = absurd (h refl)
 side-sell (suc s) h = refl
 
 -- ONE ORDER: what is added to the buys over p, and to the sells up to t
-times-when : (t : Bool) (x : ℕ) → cond t 1 0 * x ≡ when t x
-times-when true x = omega arith
-times-when false x = omega arith
-
 -- what is added is at most the quantity
 pub added-le : (n q : ℕ) → n ≤ 1 → n * q ≤ q
 added-le zero q k = omega arith
@@ -95,10 +91,6 @@ counted-none sides prices quantities over to =
       uptoFits = omega arith;
       aboveSmall = λ small. omega arith;
     }
-
-bySide-le : (side : Side) (q : ℕ) → (bySide side q 0 ≤ q) × (bySide side 0 q ≤ q)
-bySide-le buy q = (omega arith, omega arith)
-bySide-le sell q = (omega arith, omega arith)
 
 module _ (sides prices quantities : List ℕ) (columns : Columns sides prices quantities) (over to : ℕ) where
   more : (h i : ℕ) → i < length sides →

@@ -1,17 +1,18 @@
 -- What the blocks of a set sell and buy in an hour, one block at a time. Assumes nothing.
 use Prim.Native.Nat.{ℕ, suc, _+_, _-_, _*_, _/_, _%_, _^_, _≤_, _<_}
 use mathlib.Core.Path.{_≡_, refl}
-use mathlib.Core.List.{List, _∷_}
+use mathlib.Core.List.{List}
 use mathlib.Core.Bool.{Bool, true, false, _&&_}
 use native.Mathlib.Omega.{arith}
 use native.Mathlib.Numerals.{add-one}
 use lib.Dec.{eqb}
 use lib.ListN.{length, drop, getD, drop-of-length-le}
 use lib.Seq.{drop-cons}
-use Rattle.rules.specs.Orders.{Side, buy, sell, Block}
+use Rattle.rules.specs.Orders.{Side, Block}
 use Rattle.rules.specs.Hour.{bySide, when}
 use Rattle.rules.specs.Day.{taken, decisions, overBlocks, sells, buys}
-use Rattle.rules.proofs.CurveLaws.{when-le}
+use Rattle.rules.proofs.CurveLaws.{when-le, bySide-le}
+use Rattle.rules.proofs.TradeBounds.{take-one}
 use Rattle.orders.specs.Columns.{sideFor, blockOf}
 use Rattle.pricing.specs.Curves.{Columns, tradersFrom, TradesOf}
 use Rattle.pricing.proofs.TotalsLaws.{side-sell}
@@ -31,11 +32,6 @@ module _ (t : Bool) (q a u : ℕ) where
   not-traded s e = rw e (omega arith, omega arith)
 
 -- ALL BLOCKS
-take-one : (f : Block → ℕ) (b : Block) (l : List Block) (t : Bool) (set : List Bool) →
-    overBlocks f (taken (b ∷ l) (t ∷ set)) ≡ when t (f b) + overBlocks f (taken l set)
-take-one f b l true set = refl
-take-one f b l false set = omega arith
-
 when-when : (t u : Bool) (n : ℕ) → when t (when u n) ≡ when (t && u) n
 when-when true u n = refl
 when-when false u n = refl
@@ -59,10 +55,6 @@ module _ (sides hours quantities : List ℕ) (h : ℕ) where
   summed-none set =
       let e : length sides - 0 ≡ length sides = omega arith in
       record { inside = omega arith; sold = rw e (omega arith); purchased = rw e (omega arith); salesFit = omega arith; buysFit = omega arith }
-
-  side-le : (side : Side) (q : ℕ) → (bySide side q 0 ≤ q) × (bySide side 0 q ≤ q)
-  side-le buy q = (omega arith, omega arith)
-  side-le sell q = (omega arith, omega arith)
 
   module _ (columns : Columns sides hours quantities) where
     rest-more : (f : Block → ℕ) (i rest : ℕ) → i < length sides →
@@ -95,8 +87,8 @@ module _ (sides hours quantities : List ℕ) (h : ℕ) where
           inside = omega arith;
           sold = omega (arith, s .sold, rest-more (sells h) i rest k, when-when chosen runs (bySide side 0 q));
           purchased = omega (arith, s .purchased, rest-more (buys h) i rest k, when-when chosen runs (bySide side q 0));
-          salesFit = omega (arith, s .salesFit, when-le (chosen && runs) (bySide side 0 q), side-le side q);
-          buysFit = omega (arith, s .buysFit, when-le (chosen && runs) (bySide side q 0), side-le side q);
+          salesFit = omega (arith, s .salesFit, when-le (chosen && runs) (bySide side 0 q), bySide-le side q);
+          buysFit = omega (arith, s .buysFit, when-le (chosen && runs) (bySide side q 0), bySide-le side q);
         }
 
     pub summed-all : (set sales bought rest i : ℕ) → Summed set sales bought rest i → length sides ≤ i → TradesOf sides hours quantities set h sales bought

@@ -3,7 +3,7 @@ ghost use mathlib.Core.Path.{_≡_};
 ghost use Prim.Native.Nat.{_+_, _-_, _≤_, min};
 ghost use Rattle.rules.specs.Execution.{inFull, buyingAt, sellingAt};
 ghost use lib.ListN.{length};
-ghost use Rattle.pricing.specs.Curves.{stepFor, Columns, QuantitiesInRange, TradedAt, AmountsOf, ExecutedOf, SharedOut};
+ghost use Rattle.pricing.specs.Curves.{stepFor, Columns, QuantitiesInRange, TradedAt, AmountsOf, SharedOut};
 use crate::hour::totals_at;
 use crate::hour::totals_between;
 

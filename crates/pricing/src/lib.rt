@@ -3,7 +3,7 @@ ghost use mathlib.Core.Path.{_≡_};
 ghost use Prim.Native.Nat.{_^_, _≤_};
 ghost use lib.Dec.{leb};
 ghost use Rattle.book.specs.Refusals.{Accepted};
-ghost use Rattle.rules.specs.Hour.{Hour, pricing};
+ghost use Rattle.rules.specs.Hour.{pricing};
 ghost use Rattle.rules.specs.Day.{stepsIn};
 ghost use Rattle.orders.specs.Bridge.{dayFrom};
 ghost use Rattle.pricing.specs.Curves.{bias};

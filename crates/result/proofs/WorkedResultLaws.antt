@@ -1,10 +1,10 @@
 -- S5'S RESULT MEETS THE DEMANDS, AND WRONG ONES DO NOT: each result below differs from it in one byte, or is another outcome whole, and is refuted by
 -- the demands alone (the promise's bytes play no part). Assumes nothing.
-use Prim.Native.Nat.{ℕ, suc, _+_, _≤_}
+use Prim.Native.Nat.{ℕ}
 use native.Mathlib.Omega.{arith}
-use mathlib.Core.Bool.{true, false}
+use mathlib.Core.Bool.{true}
 use mathlib.Core.Path.{_≡_, refl, sym, _∙_}
-use mathlib.Core.List.{List, [], _∷_}
+use mathlib.Core.List.{[], _∷_}
 use Rattle.records.specs.Bytes.{u16At, u24At, u32At}
 use Rattle.records.specs.Records.{stepAt, blockAt}
 use Rattle.book.specs.Chains.{chainFrom}

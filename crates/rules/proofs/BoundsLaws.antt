@@ -64,7 +64,7 @@ unfolding weight
 weight-small hours h = omega arith
 
 -- products of bounded numbers
-product-le : (a b c d : ℕ) → a ≤ c → b ≤ d → a * b ≤ c * d
+pub product-le : (a b c d : ℕ) → a ≤ c → b ≤ d → a * b ≤ c * d
 product-le a b c d h k = le-trans (mul-le-mul-right b h) (mul-le-mul-left c k)
 
 -- THE STEPS

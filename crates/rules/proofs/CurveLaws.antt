@@ -1,14 +1,14 @@
 -- M1 and M2: the four totals of an hour's steps. Buys fall and sells rise with the price; one cent apart, "at or above" is "above" and "below" is
 -- "at or below"; at the ends of the price range they are all or nothing. Assumes nothing.
-use Prim.Native.Nat.{ℕ, suc, _+_, _≤_}
-use mathlib.Core.Bool.{Bool, true, false}
+use Prim.Native.Nat.{ℕ, suc, _+_, _*_, _≤_}
+use mathlib.Core.Bool.{Bool, true, false, cond}
 use mathlib.Core.Path.{_≡_, refl}
 use mathlib.Core.List.{List, [], _∷_}
 use native.Mathlib.Omega.{arith}
 use lib.Dec.{ltb, leb, eqb, leb·suc-suc}
 use borrow.Author.Tests.{ltb-true, leb-true, lt-ltb, le-ltb, le-leb, lt-leb, ne-eqb}
-use Rattle.rules.specs.Orders.{Step, maxPrice}
-use Rattle.rules.specs.Hour.{total, when, buying, selling, allBuys, allSells, buysAbove, buysFrom, sellsTo, sellsBelow}
+use Rattle.rules.specs.Orders.{Side, buy, sell, Step, maxPrice}
+use Rattle.rules.specs.Hour.{total, bySide, when, buying, selling, allBuys, allSells, buysAbove, buysFrom, sellsTo, sellsBelow}
 use Rattle.rules.specs.Execution.{buyingAt, sellingAt}
 use Rattle.rules.specs.Contender.{PricesInRange}
 use Rattle.rules.proofs.Tests.{by-lt, by-eq}
@@ -21,6 +21,14 @@ when-zero false = refl
 pub when-le : (t : Bool) (n : ℕ) → when t n ≤ n
 when-le true n = omega arith
 when-le false n = omega arith
+
+pub times-when : (t : Bool) (x : ℕ) → cond t 1 0 * x ≡ when t x
+times-when true x = omega arith
+times-when false x = omega arith
+
+pub bySide-le : (side : Side) (q : ℕ) → (bySide side q 0 ≤ q) × (bySide side 0 q ≤ q)
+bySide-le buy q = (omega arith, omega arith)
+bySide-le sell q = (omega arith, omega arith)
 
 when-mono : (a b : Bool) (n : ℕ) → (a ≡ true → b ≡ true) → when a n ≤ when b n
 when-mono false b n h = omega arith

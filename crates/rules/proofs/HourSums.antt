@@ -23,7 +23,7 @@ unfolding sumTo
 sumTo-same zero f g k = refl
 sumTo-same (suc n) f g k = omega (arith, sumTo-same n f g k, k (suc n))
 
-sumTo-add : (n : ℕ) (f g : ℕ → ℕ) → sumTo n (λ h. f h + g h) ≡ sumTo n f + sumTo n g
+pub sumTo-add : (n : ℕ) (f g : ℕ → ℕ) → sumTo n (λ h. f h + g h) ≡ sumTo n f + sumTo n g
 unfolding sumTo
 sumTo-add zero f g = omega arith
 sumTo-add (suc n) f g = omega (arith, sumTo-add n f g)

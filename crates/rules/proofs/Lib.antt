@@ -26,3 +26,4 @@ pub mod LawCutLaws
 pub mod TwinLaws
 pub mod OutcomeRulesLaws
 pub mod BoundsLaws
+pub mod TradeBounds

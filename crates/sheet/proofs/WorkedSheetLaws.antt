@@ -1,7 +1,5 @@
 -- S5'S SHEET FROM THE DEFINITIONS: what is published of S5's book is a line of the worked books' table; the text computes. Assumes nothing.
 use mathlib.Core.Path.{_≡_, refl}
-use mathlib.Core.Bool.{true}
-use mathlib.Core.List.{[], _∷_}
 use borrow.Author.Tests.{eq-eqb}
 use Rattle.records.specs.Bytes.{u16At, u24At}
 use Rattle.records.specs.Records.{blockAt}
@@ -9,18 +7,13 @@ use Rattle.book.specs.Chains.{chainFrom}
 use Rattle.book.specs.Refusals.{refusal}
 use Rattle.rules.specs.Orders.{canonical}
 use Rattle.rules.specs.Day.{dayOf}
-use Rattle.rules.specs.WorkedDays.{block12, baseDay, workedDays}
 use Rattle.orders.specs.Bridge.{blockFrom, ordersOf, dayFrom}
-use Rattle.orders.specs.WorkedBooks.{chained, bookOf, workedBooks, Worked}
-use Rattle.orders.proofs.WorkedBookLaws.{worked-books-hold}
+use Rattle.orders.specs.WorkedBooks.{chained, bookOf}
+use Rattle.result.specs.WorkedResult.{s5Book}
+use Rattle.result.proofs.WorkedResultLaws.{s5-worked}
 use Rattle.text.specs.Text.{text, decimalIn, decimal, field}
 use Rattle.sheet.specs.Sheet.{hourLine, hourLines, ofHour, blockLine, blockLines, outcomeSheet, sheetOf}
-use Rattle.sheet.specs.WorkedSheet.{s5Book, s5Sheet}
-
--- the fifth line of the table
-s5-worked : Worked s5Book (baseDay (block12 1 2900 ∷ []) 3000 100 (true ∷ []) (100 ∷ 50 ∷ 100 ∷ 50 ∷ []) 410000 [])
-unfolding workedBooks workedDays
-s5-worked = worked-books-hold .1 .1 .1 .1 .0
+use Rattle.sheet.specs.WorkedSheet.{s5Sheet}
 
 pub s5-sheet : sheetOf s5Book ≡ s5Sheet
 unfolding sheetOf s5Sheet outcomeSheet hourLines hourLine ofHour blockLines blockLine field decimal decimalIn text dayFrom dayOf canonical ordersOf

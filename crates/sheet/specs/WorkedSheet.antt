@@ -1,13 +1,8 @@
--- S5'S SHEET (document 01, "Days to check by hand") to the byte, and S5's book. `proofs/WorkedSheetLaws.antt` proves that it is the book's sheet.
+-- S5'S SHEET (document 01, "Days to check by hand") to the byte. `proofs/WorkedSheetLaws.antt` proves that it is the sheet of S5's book.
 -- Definitions only. Assumes nothing.
 use Prim.Native.Nat.{ℕ}
-use mathlib.Core.List.{List, [], _∷_, _++_}
-use Rattle.orders.specs.WorkedBooks.{sellBlock, baseBook}
+use mathlib.Core.List.{List, _++_}
 use Rattle.text.specs.Text.{text}
-
--- The base book with block number 1 at 2900.
-abbrev pub s5Book : List ℕ
-s5Book = baseBook (sellBlock 1 2900 ∷ [])
 
 -- The sheet, as the paper has it.
 unfoldable pub s5Sheet : List ℕ

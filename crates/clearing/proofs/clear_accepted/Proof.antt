@@ -3,11 +3,8 @@ use Prim.Native.Nat.{_≤_}
 use native.Mathlib.Omega.{arith}
 use mathlib.Core.Path.{_≡_, sym}
 use lib.ListN.{length, getD}
-use Rattle.rules.specs.Outcome.{outcome}
-use Rattle.orders.specs.Bridge.{dayFrom}
 use Rattle.orders.proofs.HourLaws.{ends-fit}
 use Rattle.search.specs.Search.{StepsSized}
-use Rattle.search.specs.Meaning.{DayOf}
 use Rattle.setup.proofs.SetupLaws.{steps-held, blocks-held}
 use Rattle.clearing.proofs.PublishLaws.{columns-steps}
 use Rattle.clearing.proofs.PublishableLaws.{steps-sized, publishable}

@@ -12,7 +12,7 @@ use Rattle.clearing.proofs.publish.fill_hours.Statement.{statement}
 use Rattle.clearing.proofs.publish.fill_hours.Tie as tie
 
 abbrev Inv-loop : tie.InvT-loop
-Inv-loop sides prices quantities bsides bhours bquantities set values₀ ends middles value₀ cost₀ h₀ values value cost h =
+Inv-loop steps bsides bhours bquantities set middles values₀ sides prices quantities ends value₀ cost₀ h₀ values value cost h =
     (length values ≡ length values₀) × (h ≤ 24)
     × HoursDone ends (stepsAt ends sides prices quantities) (salesAt bsides bhours bquantities set) (buysAt bsides bhours bquantities set)
     (ofHour middles) h values value cost

@@ -2,7 +2,8 @@
 use Prim.Native.Nat.{_-_}
 use native.Mathlib.Omega.{arith}
 use lib.ListN.{length}
-use Rattle.clearing.proofs.SumLaws.{Summing, summing-none, summing-next, summing-all, product-le}
+use Rattle.rules.proofs.BoundsLaws.{product-le}
+use Rattle.clearing.proofs.SumLaws.{Summing, summing-none, summing-next, summing-all}
 use borrow.Author.Needs.{needs}
 use Rattle.clearing.proofs.publish.sums_of.Statement.{statement}
 use Rattle.clearing.proofs.publish.sums_of.Tie as tie
