@@ -93,9 +93,9 @@ zeros zero k = refl
 zeros (suc n) zero = refl
 zeros (suc n) (suc k) = zeros n k
 
-module _ (low places : List ℕ) where
+module _ (unitPrices places : List ℕ) where
   abbrev priceHere : ℕ → ℕ
-  priceHere k = (getD low (k * 1602 + getD places k 0) 0 + getD low (k * 1602 + getD places k 0 + 1) 0) / 2
+  priceHere k = (getD unitPrices (k * 1602 + getD places k 0) 0 + getD unitPrices (k * 1602 + getD places k 0 + 1) 0) / 2
 
   pub record PricesTo (h : ℕ) (prices : List ℕ) : Type 0 where
     pub inside : h ≤ 24
@@ -117,7 +117,7 @@ module _ (low places : List ℕ) where
         ahead = λ j a. getD-set-other prices h j _ 0 (omega arith) ∙ g .ahead j (omega arith);
       }
 
-  pub prices-all : (h : ℕ) (prices : List ℕ) → PricesTo h prices → 24 ≤ h → Small 300000 low → PricesOf low places prices
+  pub prices-all : (h : ℕ) (prices : List ℕ) → PricesTo h prices → 24 ≤ h → Small 300000 unitPrices → PricesOf unitPrices places prices
   prices-all h prices g k small =
       let e : h ≡ 24 = omega (arith, g .inside) in
       record {

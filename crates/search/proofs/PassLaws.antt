@@ -18,6 +18,7 @@ use Rattle.rules.proofs.LossSearchLaws as by-loss
 use Rattle.rules.proofs.TwinLaws.{InTurn, outcome-in-turn}
 use Rattle.rules.proofs.PlaceLaws.{place, place-none}
 use Rattle.search.specs.Search.{cell, isOut}
+use Rattle.search.specs.Tables.{Tables}
 use Rattle.search.specs.Meaning.{Fits, Known, Turning, Branch, lossAbove, bestAs, DayOf, StepsAre, Outcome, ExploredFrom}
 use Rattle.search.specs.declared.Best.{Best}
 use Rattle.search.specs.declared.Node.{Node}
@@ -29,10 +30,10 @@ use Rattle.search.proofs.BranchLaws.{sumTo-in, sumTo-add, daySum-plain,
 abbrev pub root : Node
 root = record { set = 0; loss = 0; places = replicate 24 0 }
 
-pub root-fits : (n : ℕ) → Fits n 0 0 (replicate 24 0)
+pub root-fits : (n : ℕ) → Fits n root
 root-fits n = record { setFits = pow-pos n; lossFits = omega arith; placesSize = refl; placesFit = λ i. omega (arith, zeros 24 i) }
 
-root-branch : (day : Day) (p : ℕ → ℕ) → Branch day p [] 0 0 (replicate 24 0)
+root-branch : (day : Day) (p : ℕ → ℕ) → Branch day p [] root
 unfolding decisions
 root-branch day p = record {
   setIs = refl;
@@ -50,10 +51,10 @@ unfolding sumTo
 sum-fits zero m f k = omega arith
 sum-fits (suc n) m f k = omega (arith, sum-fits n m f k, k (suc n))
 
-module _ {low gap first last blocks : List ℕ} {count : ℕ} (few : count ≤ 32) (small : (i : ℕ) → getD blocks i 0 < 2 ^ 32) (smallGap : (i : ℕ) → getD gap i 0 < 2 ^ 32)
-    {day : Day} {p rest : ℕ → ℕ} (known : Known day p rest low gap first last blocks count) where
+module _ {tables : Tables} (few : tables .count ≤ 32) (small : (i : ℕ) → getD (tables .blocks) i 0 < 2 ^ 32)
+    (smallGap : (i : ℕ) → getD (tables .gaps) i 0 < 2 ^ 32) {day : Day} {p rest : ℕ → ℕ} (known : Known day p rest tables) where
   -- all gains together
-  gains-fit : (n j : ℕ) → j + n ≡ count → overBlocks (gain (day .hours) p) (drop j (day .blocks)) ≤ n * 2 ^ 32
+  gains-fit : (n j : ℕ) → j + n ≡ tables .count → overBlocks (gain (day .hours) p) (drop j (day .blocks)) ≤ n * 2 ^ 32
   gains-fit zero j e = none (day .blocks) j (omega (arith, known .counted))
     where
       none : (l : List Block) (k : ℕ) → length l ≤ k → overBlocks (gain (day .hours) p) (drop k l) ≤ 0
@@ -69,12 +70,12 @@ module _ {low gap first last blocks : List ℕ} {count : ℕ} (few : count ≤ 3
       let none = replicate (length (day .blocks)) false in
       let size = length-replicate (length (day .blocks)) false ∙ known .counted in
       let law = empty-lawful day (known .prices) (known .hours) in
-      let at : ℕ → ℕ = λ h. cell gap h (place (day .blocks) none h) in
+      let at : ℕ → ℕ = λ h. cell (tables .gaps) h (place (day .blocks) none h) in
       let g : ℕ → ℕ = λ h. slack (p h) (hourOf day (taken (day .blocks) none) h) in
       omega (
         arith,
         losses-empty (day .hours) p (day .blocks),
-        gains-fit count 0 (omega arith),
+        gains-fit (tables .count) 0 (omega arith),
         daySum-plain (day .hours) g,
         sumTo-in 24 g (λ h. at h + rest h)
             (λ h a b. gap-of-lawful known none size law h (counts (day .hours) h a b)),
@@ -89,9 +90,9 @@ module _ {low gap first last blocks : List ℕ} {count : ℕ} (few : count ≤ 3
       by-loss.adds-less day (lossOf day p) (lossAbove day p rest) _ (daySum (day .hours) rest) (by-loss.loss-adds day (known .prices) (known .hours) p)
       (λ set size law. omega (arith, bound-with day p [] set 0 rest (omega arith) (rest-below known set (size ∙ known .counted) law)))
 
-  module _ {turn : List ℕ} {steps : ℕ → List Step} (turning : Turning gap first last turn) (same : StepsAre day steps) {best r : Best}
-      (pass : ExploredFrom low gap first last turn blocks steps count count 0 root best r) where
-    outcome-of : Outcome day p rest count count [] best r
+  module _ {steps : ℕ → List Step} (turning : Turning tables) (same : StepsAre day steps) {best r : Best}
+      (pass : ExploredFrom tables steps (tables .count) 0 root best r) where
+    outcome-of : Outcome day p rest (tables .count) (tables .count) [] best r
     outcome-of = pass day p rest [] same record {
       known = known;
       turning = turning;
@@ -100,17 +101,17 @@ module _ {low gap first last blocks : List ℕ} {count : ℕ} (few : count ≤ 3
       outOf = λ t k l law less inside is. clash is (none-out k);
     }
 
-    whole-pass : by-loss.Pass day (InTurn day p) (lossAbove day p rest) (bestAs count best) (bestAs count r)
+    whole-pass : by-loss.Pass day (InTurn day p) (lossAbove day p rest) (bestAs (tables .count) best) (bestAs (tables .count) r)
     whole-pass =
-        subst (λ n. by-loss.Explored day (InTurn day p) (lossAbove day p rest) n [] (bestAs count best) (bestAs count r)) (sym (known .counted)) (outcome-of .explored)
+        subst (λ n. by-loss.Explored day (InTurn day p) (lossAbove day p rest) n [] (bestAs (tables .count) best) (bestAs (tables .count) r)) (sym (known .counted)) (outcome-of .explored)
 
     in-turn : InTurn day p (outcome day)
     in-turn = outcome-in-turn day (known .prices) (known .hours) p
 
-    pub pass-is : r .limit < best .limit → (decisions count (r .set) ≡ outcome day) × (r .set < 2 ^ count) × DayOf day (outcome day) (r .day)
+    pub pass-is : r .limit < best .limit → (decisions (tables .count) (r .set) ≡ outcome day) × (r .set < 2 ^ tables .count) × DayOf day (outcome day) (r .day)
     pass-is less =
         let o = outcome-of in
-        let e : decisions count (r .set) ≡ outcome day =
+        let e : decisions (tables .count) (r .set) ≡ outcome day =
         by-loss.pass-outcome day (InTurn day p) (known .prices) (known .hours) (lossAbove day p rest) _ adds _ _ whole-pass in-turn less in
         (e, o .found less .0, rw e at (o .found less .1))
 

@@ -23,6 +23,7 @@ use Rattle.rules.proofs.DayLaws.{all-clear}
 use Rattle.rules.proofs.SetBits.{bits-at}
 use Rattle.pricing.specs.Curves.{TradedAt}
 use Rattle.search.specs.Search.{Small, ofHour, sideAt, rowAt, addedIn, sellsIn, buysIn, SetTrades, TradedIn, StepsSized, stepsAt}
+use Rattle.search.specs.Tables.{Tables}
 use Rattle.search.specs.Meaning.{Shown, Known, StepsAre}
 use Rattle.search.proofs.LeafLaws.{zeros, below-next, places-grow}
 use Rattle.search.proofs.StepLaws.{steps-next}
@@ -49,7 +50,7 @@ module _ {day : Day} {p : ℕ → ℕ} {blocks : List ℕ} {j : ℕ} (s : Shown 
   buys-at = rw (s .sideIs, s .rowIs h a b) (buys-row (sideAt blocks j) (s .block .runs h) (s .block .quantity))
 
 -- A SET'S BLOCKS in an hour, by their rows
-module _ {day : Day} {p rest : ℕ → ℕ} {low gap first last blocks : List ℕ} {count : ℕ} (known : Known day p rest low gap first last blocks count)
+module _ {day : Day} {p rest : ℕ → ℕ} {tables : Tables} (known : Known day p rest tables)
     (chosen h : ℕ) (a : 1 ≤ h) (b : h ≤ 24) where
   -- the decisions t are those of the set for the blocks from number i on
   abbrev Holds : ℕ → ℕ → List Bool → Type 0
@@ -61,9 +62,9 @@ module _ {day : Day} {p rest : ℕ → ℕ} {low gap first last blocks : List �
   holds-first : (n i : ℕ) (x : Bool) (t : List Bool) → Holds (suc n) i (x ∷ t) → eqb (chosen / 2 ^ i % 2) 1 ≡ x
   holds-first n i x t f = let e : i + 0 ≡ i = omega arith in sym (rw e at (f 0 (omega arith)))
 
-  rest-trades : (n i : ℕ) (t : List Bool) → i + n ≡ count → length t ≡ n → Holds n i t →
-      (addedIn blocks (sellsIn blocks chosen) h n i ≡ overBlocks (sells h) (taken (drop i (day .blocks)) t))
-      × (addedIn blocks (buysIn blocks chosen) h n i ≡ overBlocks (buys h) (taken (drop i (day .blocks)) t))
+  rest-trades : (n i : ℕ) (t : List Bool) → i + n ≡ tables .count → length t ≡ n → Holds n i t →
+      (addedIn (tables .blocks) (sellsIn (tables .blocks) chosen) h n i ≡ overBlocks (sells h) (taken (drop i (day .blocks)) t))
+      × (addedIn (tables .blocks) (buysIn (tables .blocks) chosen) h n i ≡ overBlocks (buys h) (taken (drop i (day .blocks)) t))
   unfolding addedIn
   rest-trades zero i [] e l f = (sym (none (sells h) (drop i (day .blocks))), sym (none (buys h) (drop i (day .blocks))))
     where
@@ -82,11 +83,11 @@ module _ {day : Day} {p rest : ℕ → ℕ} {low gap first last blocks : List �
       let more = rest-trades n (suc i) t (omega arith) (suc-inj l) (holds-next n i false t f) in
       rw (s .next, holds-first n i false t f) (omega (arith, more .0), omega (arith, more .1))
 
-  pub set-trades : (d : List Bool) → length d ≡ count → decisions (length d) chosen ≡ d →
-      (addedIn blocks (sellsIn blocks chosen) h count 0 ≡ overBlocks (sells h) (taken (day .blocks) d))
-      × (addedIn blocks (buysIn blocks chosen) h count 0 ≡ overBlocks (buys h) (taken (day .blocks) d))
+  pub set-trades : (d : List Bool) → length d ≡ tables .count → decisions (length d) chosen ≡ d →
+      (addedIn (tables .blocks) (sellsIn (tables .blocks) chosen) h (tables .count) 0 ≡ overBlocks (sells h) (taken (day .blocks) d))
+      × (addedIn (tables .blocks) (buysIn (tables .blocks) chosen) h (tables .count) 0 ≡ overBlocks (buys h) (taken (day .blocks) d))
   set-trades d size is =
-      rest-trades count 0 d (omega arith) size (λ k inside.
+      rest-trades (tables .count) 0 d (omega arith) size (λ k inside.
       let e : 0 + k ≡ k = omega arith in
       rw e (rw is at (bits-at (length d) chosen k (omega arith))))
 
@@ -104,9 +105,9 @@ price-positive day prices hours chosen law h c =
     go doesNotClear s k = absurd (s k)
 
 -- THE TRADED QUANTITY of a lawful set: at its prices, with the day's steps and what its blocks sell and buy
-pub traded-are : {day : Day} {p rest : ℕ → ℕ} {low gap first last blocks : List ℕ} {count : ℕ} → Known day p rest low gap first last blocks count →
-    {steps : ℕ → List Step} → StepsAre day steps → {chosen : ℕ} {d : List Bool} → length d ≡ count → decisions (length d) chosen ≡ d →
-    lawful day d ≡ true → {sales purchases : List ℕ} (prices quantities : List ℕ) → SetTrades blocks count chosen sales purchases →
+pub traded-are : {day : Day} {p rest : ℕ → ℕ} {tables : Tables} → Known day p rest tables →
+    {steps : ℕ → List Step} → StepsAre day steps → {chosen : ℕ} {d : List Bool} → length d ≡ tables .count → decisions (length d) chosen ≡ d →
+    lawful day d ≡ true → {sales purchases : List ℕ} (prices quantities : List ℕ) → SetTrades (tables .blocks) (tables .count) chosen sales purchases →
     ((h : ℕ) → 1 ≤ h → h ≤ 24 → ofHour prices h ≡ setPrices day (taken (day .blocks) d) h) → TradedIn steps sales purchases prices quantities →
     (h : ℕ) → 1 ≤ h → h ≤ 24 → ofHour quantities h ≡ traded day (taken (day .blocks) d) h
 unfolding traded

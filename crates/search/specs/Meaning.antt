@@ -21,6 +21,7 @@ use Rattle.rules.proofs.LossSearchLaws as by-loss
 use Rattle.rules.proofs.PlaceLaws.{place, hourAt}
 use Rattle.rules.proofs.TwinLaws.{Ahead, InTurn}
 use Rattle.search.specs.Search.{Small, cell, ofHour, sideAt, hoursAt, limitAt, againstAt, gainAt, aheadAt, behindAt, rowAt, isOut}
+use Rattle.search.specs.Tables.{Tables}
 use Rattle.search.specs.declared.Day as code-day
 use Rattle.search.specs.declared.Best.{Best}
 use Rattle.search.specs.declared.Node.{Node}
@@ -32,21 +33,22 @@ pub record BlocksSized (blocks : List ℕ) : Type 0 where
   pub rowsFit : (i h : ℕ) → rowAt blocks i h ≤ 50000
   pub twinsFit : (i : ℕ) → i < 32 → (aheadAt blocks i ≤ 32) × (behindAt blocks i ≤ 32)
 
-pub record Sized (low gap first last blocks : List ℕ) : Type 0 where
-  pub lowRows : length low ≡ 38448
-  pub gapRows : length gap ≡ 38448
-  pub firstHours : length first ≡ 24
-  pub lastHours : length last ≡ 24
-  pub lastFits : Small 1600 last
-  pub lowFits : Small 300000 low
-  pub blocksFit : BlocksSized blocks
+pub record Sized (t : Tables) : Type 0 where
+  pub priceRows : length (t .unitPrices) ≡ 38448
+  pub gapRows : length (t .gaps) ≡ 38448
+  pub firstHours : length (t .first) ≡ 24
+  pub lastHours : length (t .last) ≡ 24
+  pub lastFits : Small 1600 (t .last)
+  pub pricesFit : Small 300000 (t .unitPrices)
+  pub blocksFit : BlocksSized (t .blocks)
+  pub few : t .count ≤ 32
 
 -- A node with so many blocks decided.
-pub record Fits (decided set loss : ℕ) (places : List ℕ) : Type 0 where
-  pub setFits : set < 2 ^ decided
-  pub lossFits : loss ≤ decided * 2 ^ 32
-  pub placesSize : length places ≡ 24
-  pub placesFit : Small (decided * 50000) places
+pub record Fits (decided : ℕ) (node : Node) : Type 0 where
+  pub setFits : node .set < 2 ^ decided
+  pub lossFits : node .loss ≤ decided * 2 ^ 32
+  pub placesSize : length (node .places) ≡ 24
+  pub placesFit : Small (decided * 50000) (node .places)
 
 -- THE DAY behind the tables, at hourly prices p; `rest` is what the tables leave off each hour's gaps
 -- Block j of the day and its columns.
@@ -60,36 +62,39 @@ pub record Shown (day : Day) (p : ℕ → ℕ) (blocks : List ℕ) (j : ℕ) : T
   pub againstIs : against (day .hours) p block ≡ againstAt blocks j
   pub gainIs : gain (day .hours) p block ≡ gainAt blocks j
 
-pub record Known (day : Day) (p rest : ℕ → ℕ) (low gap first last blocks : List ℕ) (count : ℕ) : Type 0 where
+pub record Known (day : Day) (p rest : ℕ → ℕ) (t : Tables) : Type 0 where
   pub prices : PricesInRange (day .steps)
   pub hours : HoursInRange (day .steps)
-  pub counted : length (day .blocks) ≡ count
+  pub counted : length (day .blocks) ≡ t .count
   -- no hour's blocks together reach past its row
   pub fits : (h : ℕ) → 1 ≤ h → h ≤ 24 → overBlocks (sells h) (day .blocks) + overBlocks (buys h) (day .blocks) ≤ 1600
   -- the price table: the least price that meets the demand, one unit of N below the place
-  pub lowIs : (h i : ℕ) → 1 ≤ h → h ≤ 24 → i ≤ 1601 →
-      cell low h i ≡ unitPrice (net (stepsIn h (day .steps)) i (suc (overBlocks (buys h) (day .blocks))))
+  pub unitPriceIs : (h i : ℕ) → 1 ≤ h → h ≤ 24 → i ≤ 1601 →
+      cell (t .unitPrices) h i ≡ unitPrice (net (stepsIn h (day .steps)) i (suc (overBlocks (buys h) (day .blocks))))
   -- the places at which an hour clears, of those that its blocks can reach
-  pub clears : (h i : ℕ) → 1 ≤ h → h ≤ 24 → i ≤ 1600 → ofHour first h ≤ i → i ≤ ofHour last h → Clearable (hourAt day h i)
+  pub clears : (h i : ℕ) → 1 ≤ h → h ≤ 24 → i ≤ 1600 → ofHour (t .first) h ≤ i → i ≤ ofHour (t .last) h → Clearable (hourAt day h i)
   pub clearsOnly : (h i : ℕ) → 1 ≤ h → h ≤ 24 → i ≤ overBlocks (sells h) (day .blocks) + overBlocks (buys h) (day .blocks) → Clearable (hourAt day h i) →
-      (ofHour first h ≤ i) × (i ≤ ofHour last h)
+      (ofHour (t .first) h ≤ i) × (i ≤ ofHour (t .last) h)
   -- the gap table
-  pub gapIs : (h i : ℕ) → 1 ≤ h → h ≤ 24 → ofHour first h ≤ i → i ≤ ofHour last h → slack (p h) (hourAt day h i) ≡ cell gap h i + rest h
-  pub shown : (j : ℕ) → j < count → Shown day p blocks j
+  pub gapIs : (h i : ℕ) → 1 ≤ h → h ≤ 24 → ofHour (t .first) h ≤ i → i ≤ ofHour (t .last) h →
+      slack (p h) (hourAt day h i) ≡ cell (t .gaps) h i + rest h
+  pub shown : (j : ℕ) → j < t .count → Shown day p (t .blocks) j
   -- the twins
-  pub ahead : (j a : ℕ) → j < count → aheadAt blocks j ≡ suc a → (a < j) × Ahead day p a j
-  pub behind : (j b : ℕ) → j < count → behindAt blocks j ≡ suc b → (b < j) × Ahead day p j b
+  pub ahead : (j a : ℕ) → j < t .count → aheadAt (t .blocks) j ≡ suc a → (a < j) × Ahead day p a j
+  pub behind : (j b : ℕ) → j < t .count → behindAt (t .blocks) j ≡ suc b → (b < j) × Ahead day p j b
 
 -- Each hour's gaps fall to the place where they turn, and rise from it.
-pub record Turning (gap first last turn : List ℕ) : Type 0 where
-  pub falls : (h i j : ℕ) → 1 ≤ h → h ≤ 24 → ofHour first h ≤ i → i ≤ j → j ≤ ofHour last h → j ≤ ofHour turn h → cell gap h j ≤ cell gap h i
-  pub rises : (h i j : ℕ) → 1 ≤ h → h ≤ 24 → ofHour first h ≤ i → i ≤ j → j ≤ ofHour last h → ofHour turn h ≤ i → cell gap h i ≤ cell gap h j
+pub record Turning (t : Tables) : Type 0 where
+  pub falls : (h i j : ℕ) → 1 ≤ h → h ≤ 24 → ofHour (t .first) h ≤ i → i ≤ j → j ≤ ofHour (t .last) h → j ≤ ofHour (t .turn) h →
+      cell (t .gaps) h j ≤ cell (t .gaps) h i
+  pub rises : (h i j : ℕ) → 1 ≤ h → h ≤ 24 → ofHour (t .first) h ≤ i → i ≤ j → j ≤ ofHour (t .last) h → ofHour (t .turn) h ≤ i →
+      cell (t .gaps) h i ≤ cell (t .gaps) h j
 
 -- THE BRANCH of the decided blocks d
-pub record Branch (day : Day) (p : ℕ → ℕ) (d : List Bool) (set loss : ℕ) (places : List ℕ) : Type 0 where
-  pub setIs : decisions (length d) set ≡ d
-  pub lossIs : loss ≡ losses (day .hours) p (day .blocks) d
-  pub placesAre : (h : ℕ) → 1 ≤ h → h ≤ 24 → ofHour places h ≡ place (day .blocks) d h
+pub record Branch (day : Day) (p : ℕ → ℕ) (d : List Bool) (node : Node) : Type 0 where
+  pub setIs : decisions (length d) (node .set) ≡ d
+  pub lossIs : node .loss ≡ losses (day .hours) p (day .blocks) d
+  pub placesAre : (h : ℕ) → 1 ≤ h → h ≤ 24 → ofHour (node .places) h ≡ place (day .blocks) d h
 
 -- the loss of a set, less what the tables leave off
 unfoldable pub lossAbove : Day → (ℕ → ℕ) → (ℕ → ℕ) → List Bool → ℕ
@@ -114,42 +119,40 @@ pub record Outcome (day : Day) (p rest : ℕ → ℕ) (count left : ℕ) (d : Li
 abbrev pub StepsAre : Day → (ℕ → List Step) → Type 0
 StepsAre day steps = (h : ℕ) → 1 ≤ h → h ≤ 24 → steps h ≡ stepsIn h (day .steps)
 
-abbrev pub Decided : (low gap first last blocks : List ℕ) (steps : ℕ → List Step) (count set loss : ℕ) (places : List ℕ) (best r : Best) → Type 0
-Decided low gap first last blocks steps count set loss places best r =
-    (day : _) (p rest : ℕ → ℕ) (d : List Bool) → StepsAre day steps → Known day p rest low gap first last blocks count → Branch day p d set loss places →
-    length d ≡ count → set < 2 ^ count → Outcome day p rest count 0 d best r
+abbrev pub Decided : (t : Tables) (steps : ℕ → List Step) (node : Node) (best r : Best) → Type 0
+Decided t steps node best r =
+    (day : _) (p rest : ℕ → ℕ) (d : List Bool) → StepsAre day steps → Known day p rest t → Branch day p d node →
+    length d ≡ t .count → node .set < 2 ^ t .count → Outcome day p rest (t .count) 0 d best r
 
 -- THE BLOCKS THAT ARE OUT of a branch: no lawful completion that loses less than the limit takes one of them.
 abbrev pub OutOf : (day : Day) (p rest : ℕ → ℕ) (d : List Bool) (left limit out : ℕ) → Type 0
 OutOf day p rest d left limit out =
-    (t : List Bool) (k : ℕ) → length t ≡ left → lawful day (d ++ t) ≡ true → lossAbove day p rest (d ++ t) < limit → k < left →
-    isOut out k ≡ true → getD t k false ≡ false
+    (tail : List Bool) (k : ℕ) → length tail ≡ left → lawful day (d ++ tail) ≡ true → lossAbove day p rest (d ++ tail) < limit → k < left →
+    isOut out k ≡ true → getD tail k false ≡ false
 
 -- THE BRANCH AT ITS TABLES, with its blocks that are out
-pub record At (low gap first last turn blocks : List ℕ) (count left : ℕ) (node : Node) (limit out : ℕ) (day : Day) (p rest : ℕ → ℕ) (d : List Bool) :
-    Type 0 where
-  pub known : Known day p rest low gap first last blocks count
-  pub turning : Turning gap first last turn
-  pub branch : Branch day p d (node .set) (node .loss) (node .places)
-  pub size : length d + left ≡ count
+pub record At (t : Tables) (left : ℕ) (node : Node) (limit out : ℕ) (day : Day) (p rest : ℕ → ℕ) (d : List Bool) : Type 0 where
+  pub known : Known day p rest t
+  pub turning : Turning t
+  pub branch : Branch day p d node
+  pub size : length d + left ≡ t .count
   pub outOf : OutOf day p rest d left limit out
 
-abbrev pub ExploredFrom : (low gap first last turn blocks : List ℕ) (steps : ℕ → List Step) (count left out : ℕ) (node : Node) (best r : Best) → Type 0
-ExploredFrom low gap first last turn blocks steps count left out node best r =
-    (day : _) (p rest : ℕ → ℕ) (d : List Bool) → StepsAre day steps → At low gap first last turn blocks count left node (best .limit) out day p rest d →
-    Outcome day p rest count left d best r
+abbrev pub ExploredFrom : (t : Tables) (steps : ℕ → List Step) (left out : ℕ) (node : Node) (best r : Best) → Type 0
+ExploredFrom t steps left out node best r =
+    (day : _) (p rest : ℕ → ℕ) (d : List Bool) → StepsAre day steps → At t left node (best .limit) out day p rest d →
+    Outcome day p rest (t .count) left d best r
 
 -- A BRANCH TO DROP: no lawful completion loses less than the limit.
-abbrev pub DroppedFrom : (low gap first last turn blocks : List ℕ) (count left out : ℕ) (node : Node) (limit : ℕ) → Type 0
-DroppedFrom low gap first last turn blocks count left out node limit =
-    (day : _) (p rest : ℕ → ℕ) (d t : List Bool) → At low gap first last turn blocks count left node limit out day p rest d →
-    length t ≡ left → lawful day (d ++ t) ≡ true → limit ≤ lossAbove day p rest (d ++ t)
+abbrev pub DroppedFrom : (t : Tables) (left out : ℕ) (node : Node) (limit : ℕ) → Type 0
+DroppedFrom t left out node limit =
+    (day : _) (p rest : ℕ → ℕ) (d tail : List Bool) → At t left node limit out day p rest d →
+    length tail ≡ left → lawful day (d ++ tail) ≡ true → limit ≤ lossAbove day p rest (d ++ tail)
 
 -- A BRANCH JUDGED: it is dropped, or these blocks are out of it.
-pub record JudgedFrom (low gap first last turn blocks : List ℕ) (count left out : ℕ) (node : Node) (limit : ℕ) (isDropped : Bool) (r : ℕ) : Type 0 where
-  pub dropped : isDropped ≡ true → DroppedFrom low gap first last turn blocks count left out node limit
-  pub outOf : isDropped ≡ false → (day : _) (p rest : ℕ → ℕ) (d : List Bool) → At low gap first last turn blocks count left node limit out day p rest d →
-      OutOf day p rest d left limit r
+pub record JudgedFrom (t : Tables) (left out : ℕ) (node : Node) (limit : ℕ) (isDropped : Bool) (r : ℕ) : Type 0 where
+  pub dropped : isDropped ≡ true → DroppedFrom t left out node limit
+  pub outOf : isDropped ≡ false → (day : _) (p rest : ℕ → ℕ) (d : List Bool) → At t left node limit out day p rest d → OutOf day p rest d left limit r
 
 -- ONE MORE BLOCK decided: the set, the loss, and the places moved on by what a sell sells if taken, a buy buys if left out
 pub record TakenTo (blocks : List ℕ) (at : ℕ) (node r : Node) : Type 0 where
@@ -165,7 +168,7 @@ pub record LeftTo (blocks : List ℕ) (at : ℕ) (node r : Node) : Type 0 where
       ofHour (r .places) h ≡ ofHour (node .places) h + when (eqb (sideAt blocks at) 0) (rowAt blocks at h)
 
 -- THE PUBLISHED SET, with its day
-abbrev pub FoundIn : (low gap first last turn blocks : List ℕ) (steps : ℕ → List Step) (count : ℕ) (r : Best) → Type 0
-FoundIn low gap first last turn blocks steps count r =
-    (day : _) (p rest : ℕ → ℕ) → StepsAre day steps → Known day p rest low gap first last blocks count → Turning gap first last turn →
-    (decisions count (r .set) ≡ outcome day) × (r .set < 2 ^ count) × DayOf day (outcome day) (r .day)
+abbrev pub FoundIn : (t : Tables) (steps : ℕ → List Step) (r : Best) → Type 0
+FoundIn t steps r =
+    (day : _) (p rest : ℕ → ℕ) → StepsAre day steps → Known day p rest t → Turning t →
+    (decisions (t .count) (r .set) ≡ outcome day) × (r .set < 2 ^ t .count) × DayOf day (outcome day) (r .day)

@@ -35,14 +35,14 @@ abbrev pub ofHour : List ℕ → ℕ → ℕ
 ofHour column h = getD column (h - 1) 0
 
 -- THE HOURS: three columns of 24 numbers: the first and the last place at which each clears, and the place of its least gap, where its gaps turn.
-abbrev pub firstOf : List ℕ → List ℕ
-firstOf hours = take 24 hours
+abbrev pub clearsFirst : List ℕ → List ℕ
+clearsFirst hours = take 24 hours
 
-abbrev pub lastOf : List ℕ → List ℕ
-lastOf hours = take 24 (drop 24 hours)
+abbrev pub clearsLast : List ℕ → List ℕ
+clearsLast hours = take 24 (drop 24 hours)
 
-abbrev pub turnOf : List ℕ → List ℕ
-turnOf hours = take 24 (drop 48 hours)
+abbrev pub gapsTurn : List ℕ → List ℕ
+gapsTurn hours = take 24 (drop 48 hours)
 
 -- Each hour clears at its place, the place lying from the hour's first to its last.
 abbrev pub InRange : List ℕ → List ℕ → List ℕ → Type 0
@@ -56,8 +56,8 @@ pub record GapsOf (gap first last places : List ℕ) (clears : Bool) (sum : ℕ)
   pub fits : sum ≤ 24 * 2 ^ 32
 
 -- The prices at the places: the middle of the two neighbouring entries.
-pub record PricesOf (low places prices : List ℕ) : Type 0 where
-  pub are : (h : ℕ) → 1 ≤ h → h ≤ 24 → ofHour prices h ≡ (cell low h (ofHour places h) + cell low h (ofHour places h + 1)) / 2
+pub record PricesOf (unitPrices places prices : List ℕ) : Type 0 where
+  pub are : (h : ℕ) → 1 ≤ h → h ≤ 24 → ofHour prices h ≡ (cell unitPrices h (ofHour places h) + cell unitPrices h (ofHour places h + 1)) / 2
   pub small : Small 300000 prices
 
 -- THE BLOCKS: eight columns of 32 numbers: side, hours, quantity, limit (price times hour count), loss if taken, loss if left out, and for twins the

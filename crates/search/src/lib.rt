@@ -8,8 +8,9 @@ ghost use Rattle.rules.specs.Hour.{when};
 ghost use Rattle.records.specs.Records.{holdsHour};
 ghost use mathlib.Core.Bool.{cond};
 ghost use Rattle.pricing.specs.Curves.{TradedAt};
-ghost use Rattle.search.specs.Search.{Small, DayPrices, sumOfHours, ofHour, GapsOf, PricesOf, keepsAt, allKeep, isOut, isRuledOut, mustMove, mayMove, AddedTo, isBarred, isDue, isForced, rowAt, RestOf, ReachOf, ReachedBy, leastGaps, firstOf, lastOf, turnOf, SetTrades, TradedIn, StepsSized, PartSized, stepsAt};
+ghost use Rattle.search.specs.Search.{Small, DayPrices, sumOfHours, ofHour, GapsOf, PricesOf, keepsAt, allKeep, isOut, isRuledOut, mustMove, mayMove, AddedTo, isBarred, isDue, isForced, rowAt, RestOf, ReachOf, ReachedBy, leastGaps, clearsFirst, clearsLast, SetTrades, TradedIn, StepsSized, PartSized, stepsAt};
 ghost use Rattle.search.specs.Search as numbers;
+ghost use Rattle.search.specs.Tables.{tablesOf};
 ghost use Rattle.search.specs.Meaning.{BlocksSized, Sized, Fits, Decided, TakenTo, LeftTo, JudgedFrom, ExploredFrom, FoundIn};
 use pricing::execution::traded_at;
 
@@ -98,15 +99,15 @@ fn gaps_at(gap: &[u32], first: &[u32], last: &[u32], places: [u32; 24]) -> Gaps
 }
 
 // The price of each hour at its place.
-pub fn prices_at(low: &[u32], places: [u32; 24]) -> [u32; 24]
-    requires { ⌜ (length (now low) ≡ 38448) × Small 300000 (now low) × Small 1600 places ⌝ }
-    ensures { λ r. ⌜ PricesOf (now (low .entry)) places r ⌝ }
+pub fn prices_at(unit_prices: &[u32], places: [u32; 24]) -> [u32; 24]
+    requires { ⌜ (length (now «unit_prices») ≡ 38448) × Small 300000 (now «unit_prices») × Small 1600 places ⌝ }
+    ensures { λ r. ⌜ PricesOf (now («unit_prices» .entry)) places r ⌝ }
 {
     let mut prices = [0; 24];
     let mut h: usize = 0;
     while h < 24 {
         let at = h * 1602 + (places[h] as usize);
-        prices[h] = (low[at] + low[at + 1]) / 2;
+        prices[h] = (unit_prices[at] + unit_prices[at + 1]) / 2;
         h += 1;
     }
     prices
@@ -256,7 +257,7 @@ fn traded_in(
 
 // All blocks are decided: the set becomes the best where it is lawful and loses less, with its day.
 fn decide(
-    low: &[u32],
+    unit_prices: &[u32],
     gap: &[u32],
     hours: &[u32],
     blocks: &[u32],
@@ -268,9 +269,10 @@ fn decide(
     node: Node,
     best: Best,
 ) -> Best
-    requires { ⌜ Sized (now low) (now gap) (firstOf (now hours)) (lastOf (now hours)) (now blocks) × (length (now hours) ≡ 72) × (length (now ends) ≡ 25) × StepsSized (now ends) (now sides) (now prices) (now quantities) × (count ≤ 32) × (node .loss ≤ 32 * 2 ^ 32) ⌝ }
-    ensures { λ r. ⌜ Decided (now (low .entry)) (now (gap .entry)) (firstOf (now (hours .entry))) (lastOf (now (hours .entry))) (now (blocks .entry))
-        (stepsAt (now (ends .entry)) (now (sides .entry)) (now (prices .entry)) (now (quantities .entry))) count (node .set) (node .loss) (node .places) best r ⌝ }
+    requires { ⌜ Sized (tablesOf (now «unit_prices») (now gap) (now hours) (now blocks) count) × (length (now hours) ≡ 72)
+        × (length (now ends) ≡ 25) × StepsSized (now ends) (now sides) (now prices) (now quantities) × (node .loss ≤ 32 * 2 ^ 32) ⌝ }
+    ensures { λ r. ⌜ Decided (tablesOf (now («unit_prices» .entry)) (now (gap .entry)) (now (hours .entry)) (now (blocks .entry)) count)
+        (stepsAt (now (ends .entry)) (now (sides .entry)) (now (prices .entry)) (now (quantities .entry))) node best r ⌝ }
 {
     let places = node.places;
     let gaps = gaps_at(gap, &hours[0..24], &hours[24..48], places);
@@ -281,7 +283,7 @@ fn decide(
     if best.limit <= total {
         return best;
     }
-    let middles = prices_at(low, places);
+    let middles = prices_at(unit_prices, places);
     if !keeps_limits(blocks, count as usize, node.set, &middles, &middles) {
         return best;
     }
@@ -300,8 +302,8 @@ fn decide(
 
 // The node with block number at taken: a sell moves the places on in its hours.
 fn take(blocks: &[u32], at: u32, node: Node) -> Node
-    requires { ⌜ BlocksSized (now blocks) × (at < 32) × Fits at (node .set) (node .loss) (node .places) ⌝ }
-    ensures { λ r. ⌜ Fits (at + 1) (r .set) (r .loss) (r .places) × TakenTo (now (blocks .entry)) at node r ⌝ }
+    requires { ⌜ BlocksSized (now blocks) × (at < 32) × Fits at node ⌝ }
+    ensures { λ r. ⌜ Fits (at + 1) r × TakenTo (now (blocks .entry)) at node r ⌝ }
 {
     let i = at as usize;
     let places = node.places;
@@ -315,8 +317,8 @@ fn take(blocks: &[u32], at: u32, node: Node) -> Node
 
 // The node with block number at left out: a buy moves the places on in its hours.
 fn leave(blocks: &[u32], at: u32, node: Node) -> Node
-    requires { ⌜ BlocksSized (now blocks) × (at < 32) × Fits at (node .set) (node .loss) (node .places) ⌝ }
-    ensures { λ r. ⌜ Fits (at + 1) (r .set) (r .loss) (r .places) × LeftTo (now (blocks .entry)) at node r ⌝ }
+    requires { ⌜ BlocksSized (now blocks) × (at < 32) × Fits at node ⌝ }
+    ensures { λ r. ⌜ Fits (at + 1) r × LeftTo (now (blocks .entry)) at node r ⌝ }
 {
     let i = at as usize;
     let places = node.places;
@@ -487,7 +489,7 @@ fn reach_at(
     limit: u64,
 ) -> Reach
     requires { ⌜ BlocksSized (now blocks) × (length (now hours) ≡ 72) × (count ≤ 32) × (at ≤ count) × (node .loss ≤ 32 * 2 ^ 32) × Small (at * 50000) (node .places) ⌝ }
-    ensures { λ r. ⌜ ReachedBy (firstOf (now (hours .entry))) (lastOf (now (hours .entry))) (now (blocks .entry)) count at out (node .loss) limit (node .places) (r .balances) (r .from) (r .to) ⌝ }
+    ensures { λ r. ⌜ ReachedBy (clearsFirst (now (hours .entry))) (clearsLast (now (hours .entry))) (now (blocks .entry)) count at out (node .loss) limit (node .places) (r .balances) (r .from) (r .to) ⌝ }
 {
     let places = node.places;
     let rest = rest_of(blocks, count, at, out, node.loss, limit, places);
@@ -539,7 +541,7 @@ pub struct Judged {
 // longer balance, where the least gaps within reach come to as much, or where a taken block misses its limit at the best prices within reach. An undecided
 // block that misses its limit there is out.
 fn judge(
-    low: &[u32],
+    unit_prices: &[u32],
     gap: &[u32],
     hours: &[u32],
     blocks: &[u32],
@@ -549,9 +551,10 @@ fn judge(
     node: Node,
     limit: u64,
 ) -> Judged
-    requires { ⌜ Sized (now low) (now gap) (firstOf (now hours)) (lastOf (now hours)) (now blocks) × (length (now hours) ≡ 72) × (count ≤ 32) × (left ≤ count) × Fits (count - left) (node .set) (node .loss) (node .places) ⌝ }
-    ensures { λ r. ⌜ JudgedFrom (now (low .entry)) (now (gap .entry)) (firstOf (now (hours .entry))) (lastOf (now (hours .entry))) (turnOf (now (hours .entry)))
-        (now (blocks .entry)) count left out node limit (r .dropped) (r .out) ⌝ }
+    requires { ⌜ Sized (tablesOf (now «unit_prices») (now gap) (now hours) (now blocks) count) × (length (now hours) ≡ 72)
+        × (left ≤ count) × Fits (count - left) node ⌝ }
+    ensures { λ r. ⌜ JudgedFrom (tablesOf (now («unit_prices» .entry)) (now (gap .entry)) (now (hours .entry)) (now (blocks .entry)) count)
+        left out node limit (r .dropped) (r .out) ⌝ }
 {
     let drop = Judged {
         dropped: true,
@@ -576,8 +579,8 @@ fn judge(
     if limit <= node.loss + least_gaps(gap, &hours[48..72], from, to) {
         return drop;
     }
-    let high = prices_at(low, from);
-    let lowest = prices_at(low, to);
+    let high = prices_at(unit_prices, from);
+    let lowest = prices_at(unit_prices, to);
     if !keeps_limits(blocks, at, node.set, &high, &lowest) {
         return drop;
     }
@@ -614,7 +617,7 @@ fn is_due(blocks: &[u32], i: usize, set: u32) -> bool
 // Every way to decide the blocks that are left, each first taken and then left out; of twins, the one that is taken before the other first. A block that
 // is out is only left out. Each branch has its own node by value, so nothing is released.
 fn explore(
-    low: &[u32],
+    unit_prices: &[u32],
     gap: &[u32],
     hours: &[u32],
     blocks: &[u32],
@@ -628,18 +631,29 @@ fn explore(
     node: Node,
     best: Best,
 ) -> Best
-    requires { ⌜ Sized (now low) (now gap) (firstOf (now hours)) (lastOf (now hours)) (now blocks) × (length (now hours) ≡ 72) × (length (now ends) ≡ 25) × StepsSized (now ends) (now sides) (now prices) (now quantities) × (count ≤ 32) × (left ≤ count) × Fits (count - left) (node .set) (node .loss) (node .places) ⌝ }
-    ensures { λ r. ⌜ ExploredFrom (now (low .entry)) (now (gap .entry)) (firstOf (now (hours .entry))) (lastOf (now (hours .entry))) (turnOf (now (hours .entry))) (now (blocks .entry))
-        (stepsAt (now (ends .entry)) (now (sides .entry)) (now (prices .entry)) (now (quantities .entry))) count left out node best r ⌝ }
+    requires { ⌜ Sized (tablesOf (now «unit_prices») (now gap) (now hours) (now blocks) count) × (length (now hours) ≡ 72)
+        × (length (now ends) ≡ 25) × StepsSized (now ends) (now sides) (now prices) (now quantities) × (left ≤ count) × Fits (count - left) node ⌝ }
+    ensures { λ r. ⌜ ExploredFrom (tablesOf (now («unit_prices» .entry)) (now (gap .entry)) (now (hours .entry)) (now (blocks .entry)) count)
+        (stepsAt (now (ends .entry)) (now (sides .entry)) (now (prices .entry)) (now (quantities .entry))) left out node best r ⌝ }
 {
     let limit = best.limit;
-    let judged = judge(low, gap, hours, blocks, count, left, out, node, limit);
+    let judged = judge(
+        unit_prices,
+        gap,
+        hours,
+        blocks,
+        count,
+        left,
+        out,
+        node,
+        limit,
+    );
     if judged.dropped {
         return best;
     }
     if left == 0 {
         return decide(
-            low,
+            unit_prices,
             gap,
             hours,
             blocks,
@@ -658,7 +672,7 @@ fn explore(
     let without = leave(blocks, at, node);
     if is_out(judged.out, 0) | is_barred(blocks, at as usize, node.set) {
         return explore(
-            low,
+            unit_prices,
             gap,
             hours,
             blocks,
@@ -675,7 +689,7 @@ fn explore(
     }
     let with = take(blocks, at, node);
     let taken = explore(
-        low,
+        unit_prices,
         gap,
         hours,
         blocks,
@@ -693,7 +707,7 @@ fn explore(
         return taken;
     }
     explore(
-        low,
+        unit_prices,
         gap,
         hours,
         blocks,
@@ -711,7 +725,7 @@ fn explore(
 
 // The published set: a pass with a small threshold first, doubled until a pass finds a set. A pass that finds one has found the published one.
 pub fn find(
-    low: &[u32],
+    unit_prices: &[u32],
     gap: &[u32],
     hours: &[u32],
     blocks: &[u32],
@@ -721,9 +735,10 @@ pub fn find(
     ends: &[u16],
     count: u32,
 ) -> Best
-    requires { ⌜ Sized (now low) (now gap) (firstOf (now hours)) (lastOf (now hours)) (now blocks) × (length (now hours) ≡ 72) × (length (now ends) ≡ 25) × StepsSized (now ends) (now sides) (now prices) (now quantities) × (count ≤ 32) ⌝ }
-    ensures { λ r. ⌜ FoundIn (now (low .entry)) (now (gap .entry)) (firstOf (now (hours .entry))) (lastOf (now (hours .entry))) (turnOf (now (hours .entry))) (now (blocks .entry))
-        (stepsAt (now (ends .entry)) (now (sides .entry)) (now (prices .entry)) (now (quantities .entry))) count r ⌝ }
+    requires { ⌜ Sized (tablesOf (now «unit_prices») (now gap) (now hours) (now blocks) count) × (length (now hours) ≡ 72)
+        × (length (now ends) ≡ 25) × StepsSized (now ends) (now sides) (now prices) (now quantities) ⌝ }
+    ensures { λ r. ⌜ FoundIn (tablesOf (now («unit_prices» .entry)) (now (gap .entry)) (now (hours .entry)) (now (blocks .entry)) count)
+        (stepsAt (now (ends .entry)) (now (sides .entry)) (now (prices .entry)) (now (quantities .entry))) r ⌝ }
 {
     let day = Day {
         prices: [0; 24],
@@ -742,7 +757,7 @@ pub fn find(
             day: day,
         };
         let found = explore(
-            low,
+            unit_prices,
             gap,
             hours,
             blocks,
@@ -767,7 +782,7 @@ pub fn find(
         day: day,
     };
     explore(
-        low,
+        unit_prices,
         gap,
         hours,
         blocks,

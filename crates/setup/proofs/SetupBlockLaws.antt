@@ -14,7 +14,7 @@ use Rattle.orders.specs.Columns.{sideFor}
 use Rattle.rules.specs.Orders.{Side, buy, sell}
 use Rattle.rules.specs.Hour.{bySide, when}
 use Rattle.search.specs.Search.{Small, sideAt, hoursAt, quantityAt, limitAt, againstAt, gainAt, sumOfHours}
-use Rattle.setup.specs.Setup.{BlocksHeld, sumBelow, tradedIn, TradedBy, written, Written}
+use Rattle.setup.specs.Setup.{BlocksHeld, sumBelow, blocksTrade, TradedBy, written, Written}
 use Rattle.search.proofs.LeafLaws.{zeros}
 use Rattle.roots.proofs.SizeLaws.{side-le, chosen-le, moved-most}
 
@@ -23,7 +23,7 @@ module _ (sides hours quantities : List ℕ) (all : Bool) where
   pub record TradedTo (i : ℕ) (column : List ℕ) : Type 0 where
     pub size : length column ≡ 24
     pub small : Small (i * 50) column
-    pub is : (h : ℕ) → 1 ≤ h → h ≤ 24 → getD column (h - 1) 0 ≡ tradedIn i sides hours quantities all h
+    pub is : (h : ℕ) → 1 ≤ h → h ≤ 24 → getD column (h - 1) 0 ≡ blocksTrade i sides hours quantities all h
 
   pub traded-start : TradedTo 0 (replicate 24 0)
   unfolding sumBelow
@@ -49,7 +49,7 @@ module _ (sides hours quantities : List ℕ) (all : Bool) where
   traded-all count i column t e few = record { small = λ j. omega (arith, t .small j); is = λ h a b. rw (← e) (t .is h a b) }
 
 -- the buys are no more than all
-bought-least : (sides hours quantities : List ℕ) (h n : ℕ) → tradedIn n sides hours quantities false h ≤ tradedIn n sides hours quantities true h
+bought-least : (sides hours quantities : List ℕ) (h n : ℕ) → blocksTrade n sides hours quantities false h ≤ blocksTrade n sides hours quantities true h
 unfolding sumBelow
 bought-least sides hours quantities h zero = omega arith
 bought-least sides hours quantities h (suc n) =

@@ -37,18 +37,19 @@ use Rattle.tables.specs.Tables.{UnitPrices, NotRising}
 use Rattle.tables.proofs.LevelLaws.{table-in-range, table-not-rising}
 use Rattle.tables.proofs.GapLaws.{gap-table, gap-falls, gap-rises}
 use Rattle.search.specs.Search.{Small, cell, ofHour, sideAt, quantityAt, limitAt, aheadAt, behindAt, sumOfHours}
+use Rattle.search.specs.Tables.{Tables}
 use Rattle.search.specs.Meaning.{BlocksSized, Sized, Shown, Known, Turning}
 use Rattle.setup.specs.Setup.{
   StepsHeld,
   BlocksHeld,
-  between,
-  partOf,
-  rowOf,
+  fromTo,
+  hourPart,
+  tableRow,
   RowsAre,
   RangedAt,
   RangesAre,
   sumBelow,
-  tradedIn,
+  blocksTrade,
   TradedBy,
   Written,
   TwinsAt,
@@ -108,28 +109,28 @@ trades-fit h [] e = omega arith
 trades-fit h (s ∷ l) e = omega (arith, trade-fits h s (e .0), trades-fit h l (e .1))
 
 -- THE TABLE IS SMALL
-row-at : (table : List ℕ) (h i : ℕ) → i < 1602 → getD (rowOf table h) i 0 ≡ getD table (h * 1602 + i) 0
+row-at : (table : List ℕ) (h i : ℕ) → i < 1602 → getD (tableRow table h) i 0 ≡ getD table (h * 1602 + i) 0
 row-at table h i k = getD-take 1602 (drop (h * 1602) table) i 0 k ∙ getD-drop (h * 1602) table i 0
 
-module _ (sides prices quantities ends off low : List ℕ) (size : length low ≡ 38448) (rows : RowsAre sides prices quantities ends off low) where
-  pub low-small : Small 300000 low
-  low-small i = elim (decLe 38448 i) [
-    | yes k ↦ let z : length low ≤ i = omega arith in rw (lib.ListN.List·getD-eq-default low 0 z) (omega arith)
+module _ (sides prices quantities ends off unitPrices : List ℕ) (size : length unitPrices ≡ 38448) (rows : RowsAre sides prices quantities ends off unitPrices) where
+  pub prices-small : Small 300000 unitPrices
+  prices-small i = elim (decLe 38448 i) [
+    | yes k ↦ let z : length unitPrices ≤ i = omega arith in rw (lib.ListN.List·getD-eq-default unitPrices 0 z) (omega arith)
     | no k ↦
         let a : i < 38448 = lt-of-not-le k in
         let h = i / 1602 in
         let hk : i / 1602 < 24 = omega arith in
         let e : h * 1602 + i % 1602 ≡ i = omega arith in
         let m : i % 1602 < 1602 = omega arith in
-        let inside : i % 1602 < length (rowOf low h) = omega (arith, row-length low h size hk) in
-        let l = stepsFrom 0 (partOf ends h sides) (partOf ends h prices) (partOf ends h quantities) in
-        let top = table-in-range l (getD off h 0) (rowOf low h) (rows h hk 0) (i % 1602) inside in
-        rw e at (rw (row-at low h (i % 1602) m) at top)
+        let inside : i % 1602 < length (tableRow unitPrices h) = omega (arith, row-length unitPrices h size hk) in
+        let l = stepsFrom 0 (hourPart ends h sides) (hourPart ends h prices) (hourPart ends h quantities) in
+        let top = table-in-range l (getD off h 0) (tableRow unitPrices h) (rows h hk 0) (i % 1602) inside in
+        rw e at (rw (row-at unitPrices h (i % 1602) m) at top)
   ]
 
 -- a part of a column, in either form
-slice-between : (a e : ℕ) (l : List ℕ) → a ≤ e → slice a e l ≡ between a e l
-slice-between a e l k = let z : a + (e - a) ≡ e = omega arith in rw (take-drop a (e - a) l, z)
+slice-from-to : (a e : ℕ) (l : List ℕ) → a ≤ e → slice a e l ≡ fromTo a e l
+slice-from-to a e l k = let z : a + (e - a) ≡ e = omega arith in rw (take-drop a (e - a) l, z)
 
 -- THE DAY OF AN ACCEPTED BOOK
 module _ (b ends stepRecords sides prices quantities : List ℕ) (count : ℕ) (records blockSides hours blockPrices blockQuantities : List ℕ)
@@ -164,11 +165,11 @@ module _ (b ends stepRecords sides prices quantities : List ℕ) (count : ℕ) (
   none-after : drop count (dayFrom b .blocks) ≡ []
   none-after = let most : length (dayFrom b .blocks) ≤ count = omega (arith, blocks-counted) in drop-of-length-le (dayFrom b .blocks) most
 
-  bought-is : (h : ℕ) → tradedIn count blockSides hours blockQuantities false h ≡ overBlocks (buys h) (dayFrom b .blocks)
+  bought-is : (h : ℕ) → blocksTrade count blockSides hours blockQuantities false h ≡ overBlocks (buys h) (dayFrom b .blocks)
   bought-is h =
       omega (arith, over-below (dayFrom b .blocks) blockHere (buys h) count block-next, ap (overBlocks (buys h)) none-after)
 
-  traded-is : (h : ℕ) → tradedIn count blockSides hours blockQuantities true h
+  traded-is : (h : ℕ) → blocksTrade count blockSides hours blockQuantities true h
       ≡ overBlocks (sells h) (dayFrom b .blocks) + overBlocks (buys h) (dayFrom b .blocks)
   traded-is h =
       omega (
@@ -184,7 +185,7 @@ module _ (b ends stepRecords sides prices quantities : List ℕ) (count : ℕ) (
   blocks-fit h = omega (arith, trades-fit h (dayFrom b .blocks) (blocks-in-range b a), blocks-counted, bc .few)
 
   abbrev stepsHere : ℕ → List Step
-  stepsHere h = stepsFrom h (partOf ends (h - 1) sides) (partOf ends (h - 1) prices) (partOf ends (h - 1) quantities)
+  stepsHere h = stepsFrom h (hourPart ends (h - 1) sides) (hourPart ends (h - 1) prices) (hourPart ends (h - 1) quantities)
 
   steps-are : (h : ℕ) → 1 ≤ h → h ≤ 24 → stepsIn h (dayFrom b .steps) ≡ stepsHere h
   steps-are h first last =
@@ -193,9 +194,9 @@ module _ (b ends stepRecords sides prices quantities : List ℕ) (count : ℕ) (
       rw one
       (hour-from-columns b ends stepRecords sides prices quantities sc a h first last
       ∙ rw (
-        slice-between (getD ends (h - 1) 0) (getD ends h 0) sides rise,
-        slice-between (getD ends (h - 1) 0) (getD ends h 0) prices rise,
-        slice-between (getD ends (h - 1) 0) (getD ends h 0) quantities rise,
+        slice-from-to (getD ends (h - 1) 0) (getD ends h 0) sides rise,
+        slice-from-to (getD ends (h - 1) 0) (getD ends h 0) prices rise,
+        slice-from-to (getD ends (h - 1) 0) (getD ends h 0) quantities rise,
       ))
 
   -- A BLOCK OF THE COLUMNS, at the prices root
@@ -281,9 +282,9 @@ module _ (b ends stepRecords sides prices quantities : List ℕ) (count : ℕ) (
         (below, twins-ahead j c k (omega arith) (twins-back columns c j (f .1)) (omega (arith, less)) (λ n. (f .3, less)))
 
   -- THE HOURS
-  module _ (off most root low gap first last turn columns : List ℕ) (lowSize : length low ≡ 38448)
+  module _ (off most root unitPrices gap first last turn columns : List ℕ) (pricesSize : length unitPrices ≡ 38448)
       (bought : TradedBy count blockSides hours blockQuantities false off) (traded : TradedBy count blockSides hours blockQuantities true most)
-      (rows : RowsAre sides prices quantities ends off low) (ranges : RangesAre sides prices quantities ends off most root low gap first last turn)
+      (rows : RowsAre sides prices quantities ends off unitPrices) (ranges : RangesAre sides prices quantities ends off most root unitPrices gap first last turn)
       (blocks : Completed blockSides hours blockPrices blockQuantities root count columns) where
     abbrev rootOf : ℕ → ℕ
     rootOf h = getD root (h - 1) 0
@@ -308,10 +309,10 @@ module _ (b ends stepRecords sides prices quantities : List ℕ) (count : ℕ) (
       abbrev offHere : ℕ
       offHere = getD off (h - 1) 0
 
-      range : RangedAt sides prices quantities ends off most root low gap first last turn (h - 1)
+      range : RangedAt sides prices quantities ends off most root unitPrices gap first last turn (h - 1)
       range = ranges (h - 1) inside
 
-      unit-prices : UnitPrices steps offHere (rowOf low (h - 1))
+      unit-prices : UnitPrices steps offHere (tableRow unitPrices (h - 1))
       unit-prices = rw (steps-are h from to) (rows (h - 1) inside h)
 
       prices-here : PricesInRange steps
@@ -329,18 +330,18 @@ module _ (b ends stepRecords sides prices quantities : List ℕ) (count : ℕ) (
       clearing-at : (i : ℕ) → i ≤ mostHere → ((ofHour first h ≤ i) × (i ≤ ofHour last h)) ↔ Clearable (net steps i offHere)
       clearing-at = range .range .clearing steps bought-here sold-here
 
-      cell-is : (table : List ℕ) (i : ℕ) → i ≤ 1601 → getD (rowOf table (h - 1)) i 0 ≡ cell table h i
+      cell-is : (table : List ℕ) (i : ℕ) → i ≤ 1601 → getD (tableRow table (h - 1)) i 0 ≡ cell table h i
       cell-is table i k = row-at table (h - 1) i (omega arith)
 
-      low-is : (i : ℕ) → i ≤ 1601 → cell low h i ≡ unitPrice (net steps i (suc (overBlocks (buys h) (dayFrom b .blocks))))
-      low-is i k =
-          rw (← off-is) (sym (cell-is low i k) ∙ unit-prices i (omega (arith, row-length low (h - 1) lowSize inside)))
+      unit-price-is : (i : ℕ) → i ≤ 1601 → cell unitPrices h i ≡ unitPrice (net steps i (suc (overBlocks (buys h) (dayFrom b .blocks))))
+      unit-price-is i k =
+          rw (← off-is) (sym (cell-is unitPrices i k) ∙ unit-prices i (omega (arith, row-length unitPrices (h - 1) pricesSize inside)))
 
-      row-falls : NotRising (rowOf low (h - 1))
-      row-falls = table-not-rising steps offHere (rowOf low (h - 1)) unit-prices
+      row-falls : NotRising (tableRow unitPrices (h - 1))
+      row-falls = table-not-rising steps offHere (tableRow unitPrices (h - 1)) unit-prices
 
-      row-inside : ofHour last h < length (rowOf low (h - 1))
-      row-inside = omega (arith, range .range .inside, traded .small (h - 1), row-length low (h - 1) lowSize inside)
+      row-inside : ofHour last h < length (tableRow unitPrices (h - 1))
+      row-inside = omega (arith, range .range .inside, traded .small (h - 1), row-length unitPrices (h - 1) pricesSize inside)
 
       clears-at : (i : ℕ) → i ≤ 1600 → ofHour first h ≤ i → i ≤ ofHour last h → Clearable (hourAt (dayFrom b) h i)
       clears-at i k x y = rw (← off-is) (clearing-at i (omega (arith, range .range .inside)) .0 (x, y))
@@ -355,13 +356,13 @@ module _ (b ends stepRecords sides prices quantities : List ℕ) (count : ℕ) (
           (bought-within count blockSides hours blockQuantities off most bought traded (h - 1) inside)
 
       gap-here : (i : ℕ) → ofHour first h ≤ i → i ≤ ofHour last h →
-          slack (rootOf h) (net steps i offHere) ≡ getD (rowOf gap (h - 1)) i 0 + slack (rootOf h) (net steps (ofHour turn h) offHere)
+          slack (rootOf h) (net steps i offHere) ≡ getD (tableRow gap (h - 1)) i 0 + slack (rootOf h) (net steps (ofHour turn h) offHere)
       gap-here =
           let o = ordered in
           let top = range .range .inside in
           let fits = traded .small (h - 1) in
-          gap-table steps prices-here offHere (rowOf low (h - 1)) unit-prices (rootOf h) (ofHour first h) (ofHour last h) (ofHour turn h)
-          (rowOf gap (h - 1)) (range .gaps) (omega (arith, row-length low (h - 1) lowSize inside))
+          gap-table steps prices-here offHere (tableRow unitPrices (h - 1)) unit-prices (rootOf h) (ofHour first h) (ofHour last h) (ofHour turn h)
+          (tableRow gap (h - 1)) (range .gaps) (omega (arith, row-length unitPrices (h - 1) pricesSize inside))
           (clearing-at (ofHour first h) (omega arith) .0 (omega arith, omega arith))
           (clearing-at (ofHour last h) (omega arith) .0 (omega arith, omega arith))
 
@@ -379,13 +380,16 @@ module _ (b ends stepRecords sides prices quantities : List ℕ) (count : ℕ) (
             cell-is gap (ofHour first h) (omega arith),
           ))
 
-    pub known : Known (dayFrom b) rootOf restOf low gap first last columns count
+    abbrev tables : Tables
+    tables = record { unitPrices = unitPrices; gaps = gap; first = first; last = last; turn = turn; blocks = columns; count = count }
+
+    pub known : Known (dayFrom b) rootOf restOf tables
     known = record {
       prices = prices-in-range b a;
       hours = hours-in-range b a;
       counted = blocks-counted;
       fits = λ h from to. blocks-fit h;
-      lowIs = λ h i from to. low-is h from to i;
+      unitPriceIs = λ h i from to. unit-price-is h from to i;
       clears = λ h i from to. clears-at h from to i;
       clearsOnly = λ h i from to. clears-only h from to i;
       gapIs = λ h i from to. gap-is h from to i;
@@ -394,7 +398,7 @@ module _ (b ends stepRecords sides prices quantities : List ℕ) (count : ℕ) (
       behind = is-behind root columns blocks;
     }
 
-    pub turning : Turning gap first last turn
+    pub turning : Turning tables
     turning = record {
       falls = λ h i j from to x y z t.
           let o = range h from to .range .inside in
@@ -409,25 +413,35 @@ module _ (b ends stepRecords sides prices quantities : List ℕ) (count : ℕ) (
     }
 
 -- WHAT IS PREPARED
-pub set-up : (low gap first last columns : List ℕ) → length low ≡ 38448 → length gap ≡ 38448 → length first ≡ 24 → length last ≡ 24 →
-    Small 1600 last → Small 300000 low → BlocksSized columns → Sized low gap first last columns
-set-up low gap first last columns l g f t s m c =
-    record { lowRows = l; gapRows = g; firstHours = f; lastHours = t; lastFits = s; lowFits = m; blocksFit = c }
+pub set-up : (t : Tables) → length (t .unitPrices) ≡ 38448 → length (t .gaps) ≡ 38448 → length (t .first) ≡ 24 → length (t .last) ≡ 24 →
+    Small 1600 (t .last) → Small 300000 (t .unitPrices) → BlocksSized (t .blocks) → t .count ≤ 32 → Sized t
+set-up t prices gaps first last fits small blocks few =
+    record {
+      priceRows = prices;
+      gapRows = gaps;
+      firstHours = first;
+      lastHours = last;
+      lastFits = fits;
+      pricesFit = small;
+      blocksFit = blocks;
+      few = few;
+    }
 
 pub ready : (sides prices quantities ends : List ℕ) (count : ℕ) (records blockSides hours blockPrices blockQuantities : List ℕ)
-    (off most root low gap first last turn columns : List ℕ) → length low ≡ 38448 → TradedBy count blockSides hours blockQuantities false off →
-    TradedBy count blockSides hours blockQuantities true most → RowsAre sides prices quantities ends off low →
-    RangesAre sides prices quantities ends off most root low gap first last turn →
+    (off most root unitPrices gap first last turn columns : List ℕ) → length unitPrices ≡ 38448 → TradedBy count blockSides hours blockQuantities false off →
+    TradedBy count blockSides hours blockQuantities true most → RowsAre sides prices quantities ends off unitPrices →
+    RangesAre sides prices quantities ends off most root unitPrices gap first last turn →
     Completed blockSides hours blockPrices blockQuantities root count columns →
-    ReadyFor sides prices quantities ends count records blockSides hours blockPrices blockQuantities low gap first last turn columns
-ready sides prices quantities ends count records blockSides hours blockPrices blockQuantities off most root low gap first last turn columns l o t rows
+    ReadyFor sides prices quantities ends records blockSides hours blockPrices blockQuantities
+    record { unitPrices = unitPrices; gaps = gap; first = first; last = last; turn = turn; blocks = columns; count = count }
+ready sides prices quantities ends count records blockSides hours blockPrices blockQuantities off most root unitPrices gap first last turn columns l o t rows
     ranges w b stepRecords a sc bc =
     record {
       p = _;
       rest = _;
-      known = known b ends stepRecords sides prices quantities count records blockSides hours blockPrices blockQuantities a sc bc off most root low
+      known = known b ends stepRecords sides prices quantities count records blockSides hours blockPrices blockQuantities a sc bc off most root unitPrices
           gap first last turn columns l o t rows ranges w;
-      turning = turning b ends stepRecords sides prices quantities count records blockSides hours blockPrices blockQuantities a sc bc off most root low
+      turning = turning b ends stepRecords sides prices quantities count records blockSides hours blockPrices blockQuantities a sc bc off most root unitPrices
           gap first last turn columns l o t rows ranges w;
     }
 

@@ -13,7 +13,7 @@ use Rattle.orders.specs.Columns.{stepsFrom}
 use Rattle.tables.specs.Tables.{PriceTable, AllOf, ClearRange, NotRising, GapsFor, GapTable}
 use Rattle.tables.proofs.LevelLaws.{table-not-rising, table-in-range}
 use Rattle.search.specs.Search.{Small}
-use Rattle.setup.specs.Setup.{StepsHeld, PartHeld, partOf, rowOf, RowIs, RowsAre, Ranged, RangedAt, RangesAre}
+use Rattle.setup.specs.Setup.{StepsHeld, PartHeld, hourPart, tableRow, RowIs, RowsAre, Ranged, RangedAt, RangesAre}
 use Rattle.search.proofs.LeafLaws.{zeros}
 use Rattle.roots.proofs.SizeLaws.{set-small}
 
@@ -40,7 +40,7 @@ part-held sides prices quantities ends s h k = record {
 
 -- ROWS
 module _ (table row : List ℕ) (h k : ℕ) (size : length table ≡ 38448) (here : h < 24) (full : length row ≡ 1602) (wide : k ≡ 1602) where
-  pub row-put : rowOf (putMid (h * 1602) k table row) h ≡ row
+  pub row-put : tableRow (putMid (h * 1602) k table row) h ≡ row
   row-put =
       let n : h * 1602 ≤ length table = omega arith in
       rw (
@@ -48,7 +48,7 @@ module _ (table row : List ℕ) (h k : ℕ) (size : length table ≡ 38448) (her
         take-at row (drop k (drop (h * 1602) table)) 1602 full,
       )
 
-  pub row-before : (j : ℕ) → j < h → rowOf (putMid (h * 1602) k table row) j ≡ rowOf table j
+  pub row-before : (j : ℕ) → j < h → tableRow (putMid (h * 1602) k table row) j ≡ tableRow table j
   row-before j a =
       part-front (j * 1602) 1602 (h * 1602) (putMid (h * 1602) k table row) table (omega arith) (take-put (h * 1602) k table row (omega arith))
 
@@ -57,7 +57,7 @@ module _ (table row : List ℕ) (h k : ℕ) (size : length table ≡ 38448) (her
       let e : length row ≡ length (midOf (h * 1602) k table) = rw (wide, full) (simp (length-take, length-drop) (omega arith)) in
       same-len-mid (h * 1602) k table row e ∙ size
 
-pub row-length : (table : List ℕ) (h : ℕ) → length table ≡ 38448 → h < 24 → length (rowOf table h) ≡ 1602
+pub row-length : (table : List ℕ) (h : ℕ) → length table ≡ 38448 → h < 24 → length (tableRow table h) ≡ 1602
 row-length table h size k = simp (length-take, length-drop) (omega arith)
 
 pub part-length : (table : List ℕ) (h : ℕ) → length table ≡ 38448 → h < 24 →
@@ -68,7 +68,7 @@ pub row-wide : (h : ℕ) → h * 1602 + 1602 - h * 1602 ≡ 1602
 row-wide h = omega arith
 
 -- the part of a table that is lent is the row
-pub part-row : (table : List ℕ) (h : ℕ) → take (h * 1602 + 1602 - h * 1602) (drop (h * 1602) table) ≡ rowOf table h
+pub part-row : (table : List ℕ) (h : ℕ) → take (h * 1602 + 1602 - h * 1602) (drop (h * 1602) table) ≡ tableRow table h
 part-row table h = rw (row-wide h)
 
 -- what holds below h and at h holds below h + 1
@@ -80,26 +80,26 @@ below-next P h k f p a = elim (decLe h k) [
 
 -- THE PRICE TABLES
 module _ (sides prices quantities ends off : List ℕ) where
-  pub record RowsTo (low : List ℕ) (h : ℕ) : Type 0 where
+  pub record RowsTo (unitPrices : List ℕ) (h : ℕ) : Type 0 where
     pub inside : h ≤ 24
-    pub size : length low ≡ 38448
-    pub done : (j : ℕ) → j < h → RowIs sides prices quantities ends off low j
+    pub size : length unitPrices ≡ 38448
+    pub done : (j : ℕ) → j < h → RowIs sides prices quantities ends off unitPrices j
 
-  pub rows-start : (low : List ℕ) → length low ≡ 38448 → RowsTo low 0
-  rows-start low e = record { inside = omega arith; size = e; done = λ j a. absurd (omega arith) }
+  pub rows-start : (unitPrices : List ℕ) → length unitPrices ≡ 38448 → RowsTo unitPrices 0
+  rows-start unitPrices e = record { inside = omega arith; size = e; done = λ j a. absurd (omega arith) }
 
-  pub rows-next : (low row : List ℕ) (h k : ℕ) → RowsTo low h → h < 24 → length row ≡ 1602 → k ≡ 1602 →
-      PriceTable (partOf ends h sides) (partOf ends h prices) (partOf ends h quantities) (getD off h 0) row →
-      RowsTo (putMid (h * 1602) k low row) (h + 1)
-  rows-next low row h k r a full wide t = record {
+  pub rows-next : (unitPrices row : List ℕ) (h k : ℕ) → RowsTo unitPrices h → h < 24 → length row ≡ 1602 → k ≡ 1602 →
+      PriceTable (hourPart ends h sides) (hourPart ends h prices) (hourPart ends h quantities) (getD off h 0) row →
+      RowsTo (putMid (h * 1602) k unitPrices row) (h + 1)
+  rows-next unitPrices row h k r a full wide t = record {
     inside = omega arith;
-    size = put-size low row h k (r .size) a full wide;
-    done = λ j b. below-next (RowIs sides prices quantities ends off (putMid (h * 1602) k low row)) h j
-        (λ c. rw (row-before low row h k (r .size) a full wide j c) (r .done j c)) (rw (row-put low row h k (r .size) a full wide) t) b;
+    size = put-size unitPrices row h k (r .size) a full wide;
+    done = λ j b. below-next (RowIs sides prices quantities ends off (putMid (h * 1602) k unitPrices row)) h j
+        (λ c. rw (row-before unitPrices row h k (r .size) a full wide j c) (r .done j c)) (rw (row-put unitPrices row h k (r .size) a full wide) t) b;
   }
 
-  pub rows-all : (low : List ℕ) (h : ℕ) → RowsTo low h → 24 ≤ h → RowsAre sides prices quantities ends off low
-  rows-all low h r k j a = r .done j (omega arith)
+  pub rows-all : (unitPrices : List ℕ) (h : ℕ) → RowsTo unitPrices h → 24 ≤ h → RowsAre sides prices quantities ends off unitPrices
+  rows-all unitPrices h r k j a = r .done j (omega arith)
 
 -- ONE HOUR'S RANGE: it has the place off
 pub range-holds : (buys sells off most first last : ℕ) → ClearRange buys sells off most first last → off ≤ most → (first ≤ off) × (off ≤ last)
@@ -133,7 +133,7 @@ module _ (sides prices quantities : List ℕ) (off most price : ℕ) (row : List
   )
 
 -- THE RANGES AND THE GAP TABLES
-module _ (sides prices quantities ends off most root low : List ℕ) where
+module _ (sides prices quantities ends off most root unitPrices : List ℕ) where
   pub record RangesTo (gap first last turn : List ℕ) (h : ℕ) : Type 0 where
     pub inside : h ≤ 24
     pub size : length gap ≡ 38448
@@ -141,7 +141,7 @@ module _ (sides prices quantities ends off most root low : List ℕ) where
     pub lastSize : length last ≡ 24
     pub turnSize : length turn ≡ 24
     pub small : (j : ℕ) → getD last j 0 ≤ 1600
-    pub done : (j : ℕ) → j < h → RangedAt sides prices quantities ends off most root low gap first last turn j
+    pub done : (j : ℕ) → j < h → RangedAt sides prices quantities ends off most root unitPrices gap first last turn j
 
   pub ranges-start : (gap : List ℕ) → length gap ≡ 38448 → RangesTo gap (replicate 24 0) (replicate 24 0) (replicate 24 0) 0
   ranges-start gap e = record {
@@ -155,7 +155,7 @@ module _ (sides prices quantities ends off most root low : List ℕ) where
   }
 
   pub ranges-next : (gap first last turn row : List ℕ) (h k f l m : ℕ) → RangesTo gap first last turn h → h < 24 → length row ≡ 1602 → k ≡ 1602 → l ≤ 1600 →
-      Ranged (partOf ends h sides) (partOf ends h prices) (partOf ends h quantities) (getD off h 0) (getD most h 0) (getD root h 0) f l m (rowOf low h) row →
+      Ranged (hourPart ends h sides) (hourPart ends h prices) (hourPart ends h quantities) (getD off h 0) (getD most h 0) (getD root h 0) f l m (tableRow unitPrices h) row →
       RangesTo (putMid (h * 1602) k gap row) (set first h f) (set last h l) (set turn h m) (h + 1)
   ranges-next gap first last turn row h k f l m r a full wide small t =
       let inF : h < length first = omega (arith, r .firstSize) in
@@ -169,7 +169,7 @@ module _ (sides prices quantities ends off most root low : List ℕ) where
         lastSize = rw length-set (r .lastSize);
         turnSize = rw length-set (r .turnSize);
         small = set-small 1600 last h l inL small (r .small);
-        done = λ j b. below-next (RangedAt sides prices quantities ends off most root low new (set first h f) (set last h l) (set turn h m)) h j
+        done = λ j b. below-next (RangedAt sides prices quantities ends off most root unitPrices new (set first h f) (set last h l) (set turn h m)) h j
             (λ c. rw (
               row-before gap row h k (r .size) a full wide j c,
               getD-set-other first h j f 0 (λ e. omega arith),
@@ -186,5 +186,5 @@ module _ (sides prices quantities ends off most root low : List ℕ) where
 
   pub ranges-all : (gap first last turn : List ℕ) (h : ℕ) → RangesTo gap first last turn h → 24 ≤ h →
       ((length first ≡ 24) × (length last ≡ 24) × (length turn ≡ 24) × Small 1600 last)
-      × RangesAre sides prices quantities ends off most root low gap first last turn
+      × RangesAre sides prices quantities ends off most root unitPrices gap first last turn
   ranges-all gap first last turn h r k = ((r .firstSize, r .lastSize, r .turnSize, r .small), λ j a. r .done j (omega arith))

@@ -17,7 +17,7 @@ use Rattle.rules.specs.Orders.{Side, buy, sell}
 use Rattle.rules.specs.Hour.{bySide, when}
 use Rattle.rules.specs.Execution.{testSide}
 use Rattle.rules.proofs.Tests.{by-test, both}
-use Rattle.search.specs.Search.{firstOf, lastOf, turnOf, sideAt, hoursAt, quantityAt, limitAt, aheadAt, behindAt, rowAt}
+use Rattle.search.specs.Search.{clearsFirst, clearsLast, gapsTurn, sideAt, hoursAt, quantityAt, limitAt, aheadAt, behindAt, rowAt}
 use Rattle.search.specs.Meaning.{BlocksSized}
 use Rattle.setup.specs.Setup.{
   Written,
@@ -100,7 +100,7 @@ module _ (first last turn : List ℕ) where
       getD-take 24 (drop from r) k 0 b ∙ getD-drop from r k 0 ∙ is k b)
 
   pub joined-all : (h : ℕ) (r : List ℕ) → JoinedTo h r → 24 ≤ h → length first ≡ 24 → length last ≡ 24 → length turn ≡ 24 →
-      (firstOf r ≡ first) × (lastOf r ≡ last) × (turnOf r ≡ turn)
+      (clearsFirst r ≡ first) × (clearsLast r ≡ last) × (gapsTurn r ≡ turn)
   joined-all h r j k f l t = (
     column-is r first 0 (j .size) (omega arith) f (λ i a. let z : 0 + i ≡ i = omega arith in rw z (j .firsts i (omega arith))),
     column-is r last 24 (j .size) (omega arith) l (λ i a. j .lasts i (omega arith)),

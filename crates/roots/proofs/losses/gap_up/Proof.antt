@@ -8,10 +8,10 @@ use Rattle.roots.proofs.losses.gap_up.Reads as reads
 use Rattle.roots.proofs.losses.gap_up.Lts as lts
 
 abbrev Inv-loop : tie.InvT-loop
-Inv-loop low row from price sum₀ i₀ sum i = (i ≤ 1602) × (sum ≤ i * 300000)
+Inv-loop unitPrices row from price sum₀ i₀ sum i = (i ≤ 1602) × (sum ≤ i * 300000)
 
 abbrev μ-loop : tie.MeasureT-loop
-μ-loop low row from price sum₀ i₀ sum i = 1602 - i
+μ-loop unitPrices row from price sum₀ i₀ sum i = 1602 - i
 
 add-i : tie.Need-add-i Inv-loop μ-loop
 add-i c = search needs

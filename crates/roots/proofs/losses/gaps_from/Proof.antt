@@ -10,10 +10,10 @@ use Rattle.roots.proofs.losses.gap_down.Reads as gap-down-reads
 use Rattle.roots.proofs.losses.gap_up.Reads as gap-up-reads
 
 abbrev Inv-loop : tie.InvT-loop
-Inv-loop low off prices sum₀ h₀ sum h = (h ≤ 24) × (sum ≤ h * 961200000)
+Inv-loop unitPrices off prices sum₀ h₀ sum h = (h ≤ 24) × (sum ≤ h * 961200000)
 
 abbrev μ-loop : tie.MeasureT-loop
-μ-loop low off prices sum₀ h₀ sum h = 24 - h
+μ-loop unitPrices off prices sum₀ h₀ sum h = 24 - h
 
 loop-holds : tie.Need-loop-holds Inv-loop μ-loop
 loop-holds c = (omega arith, omega arith)

@@ -13,10 +13,10 @@ use Rattle.roots.proofs.moves.averaged.Reads as averaged-reads
 use Rattle.roots.proofs.moves.closer.Reads as closer-reads
 
 abbrev Inv-loop : tie.InvT-loop
-Inv-loop low count hours limits quantities n root₀ sum₀ k₀ root sum k = (1 ≤ k) × (k ≤ n + 7) × Small 300000 root × Small (k * 1600) sum
+Inv-loop unitPrices count hours limits quantities n root₀ sum₀ k₀ root sum k = (1 ≤ k) × (k ≤ n + 7) × Small 300000 root × Small (k * 1600) sum
 
 abbrev μ-loop : tie.MeasureT-loop
-μ-loop low count hours limits quantities n root₀ sum₀ k₀ root sum k = n + 7 - k
+μ-loop unitPrices count hours limits quantities n root₀ sum₀ k₀ root sum k = n + 7 - k
 
 loop-holds : tie.Need-loop-holds Inv-loop μ-loop
 loop-holds c =
