@@ -11,6 +11,7 @@ use lib.Dec.{eqb, leb}
 use lib.ListN.{length, drop, getD, length-append}
 use lib.Pow.{pow-mono, shr-shr}
 use borrow.Author.Tests.{eqb-true, eqb-false, eq-eqb, ne-eqb, not-true}
+use Rattle.search.specs.Layout.{dayHours, lastPlace, mostAdded, mostBlocks}
 use Rattle.records.specs.Records.{holdsHour}
 use Rattle.orders.specs.Columns.{sideFor}
 use Rattle.rules.specs.Orders.{Side, buy, Step, Block}
@@ -121,9 +122,9 @@ unfolding sumTo
 sumTo-add zero f g = omega arith
 sumTo-add (suc n) f g = omega (arith, sumTo-add n f g)
 
-pub daySum-plain : (hours : ℕ) (f : ℕ → ℕ) → daySum hours f ≡ sumTo 24 f
+pub daySum-plain : (hours : ℕ) (f : ℕ → ℕ) → daySum hours f ≡ sumTo dayHours f
 unfolding daySum weight
-daySum-plain hours f = sumTo-in 24 _ f (λ h a b. omega arith)
+daySum-plain hours f = sumTo-in dayHours _ f (λ h a b. omega arith)
 
 -- A SET'S BLOCKS
 taken-le : (f : Block → ℕ) (l : List Block) (s : List Bool) → overBlocks f (taken l s) ≤ overBlocks f l
@@ -180,7 +181,7 @@ same-test side side′ sum sum′ limit limit′ a b c = rw (a, b, c)
 -- THE DAY AT ITS TABLES
 -- the price at a place, by the price table
 pub price-at-table : {day : Day} {p rest : ℕ → ℕ} {tables : Tables} → Known day p rest tables →
-    {places prices : List ℕ} → PricesOf (tables .unitPrices) places prices → (h : ℕ) → 1 ≤ h → h ≤ 24 → ofHour places h ≤ 1600 →
+    {places prices : List ℕ} → PricesOf (tables .unitPrices) places prices → (h : ℕ) → 1 ≤ h → h ≤ dayHours → ofHour places h ≤ lastPlace →
     ofHour prices h ≡ pricesAt day (ofHour places) h
 unfolding pricesAt tablePrice
 price-at-table {day} known {places} priced h a b fits =
@@ -199,7 +200,7 @@ module _ {day : Day} {p rest : ℕ → ℕ} {tables : Tables} (known : Known day
   size : length d ≡ length (day .blocks)
   size = whole ∙ sym (known .counted)
 
-  place-fits : (h : ℕ) → 1 ≤ h → h ≤ 24 → place (day .blocks) d h ≤ 1600
+  place-fits : (h : ℕ) → 1 ≤ h → h ≤ dayHours → place (day .blocks) d h ≤ lastPlace
   place-fits h a b = omega (arith, place-within (day .blocks) d h size, known .fits h a b)
 
   -- a lawful set's places are in range
@@ -209,17 +210,17 @@ module _ {day : Day} {p rest : ℕ → ℕ} {tables : Tables} (known : Known day
       (known .clearsOnly h (place (day .blocks) d h) a b (place-within (day .blocks) d h size) (lawful-clears day d size (known .prices) (known .hours) law h (counts (day .hours) h a b)))
 
   module _ (inside : InRange (tables .first) (tables .last) (node .places)) where
-    clear-at : (h : ℕ) → 1 ≤ h → h ≤ 24 → Clearable (hourAt day h (place (day .blocks) d h))
+    clear-at : (h : ℕ) → 1 ≤ h → h ≤ dayHours → Clearable (hourAt day h (place (day .blocks) d h))
     clear-at h a b =
         let r = inside h a b in
         let e = branch .placesAre h a b in
         known .clears h (place (day .blocks) d h) a b (place-fits h a b) (rw e at (r .0)) (rw e at (r .1))
 
     -- the loss by the gap table
-    pub loss-is : (sum : ℕ) → sum ≡ sumTo 24 (λ h. cell (tables .gaps) h (ofHour (node .places) h)) → lossOf day p d ≡ node .loss + sum + daySum (day .hours) rest
+    pub loss-is : (sum : ℕ) → sum ≡ sumTo dayHours (λ h. cell (tables .gaps) h (ofHour (node .places) h)) → lossOf day p d ≡ node .loss + sum + daySum (day .hours) rest
     unfolding lossOf gapsAt
     loss-is sum e =
-        let gap-at : (h : ℕ) → 1 ≤ h → h ≤ 24 → gapsAt day p (place (day .blocks) d) h ≡ cell (tables .gaps) h (ofHour (node .places) h) + rest h = λ h a b.
+        let gap-at : (h : ℕ) → 1 ≤ h → h ≤ dayHours → gapsAt day p (place (day .blocks) d) h ≡ cell (tables .gaps) h (ofHour (node .places) h) + rest h = λ h a b.
         let r = inside h a b in
         rw (branch .placesAre h a b) (known .gapIs h (place (day .blocks) d h) a b (rw (branch .placesAre h a b) at (r .0)) (rw (branch .placesAre h a b) at (r .1))) in
         omega (
@@ -227,21 +228,21 @@ module _ {day : Day} {p rest : ℕ → ℕ} {tables : Tables} (known : Known day
           branch .lossIs,
           gaps-by-place day d size p,
           daySum-plain (day .hours) (gapsAt day p (place (day .blocks) d)),
-          sumTo-in 24 (gapsAt day p (place (day .blocks) d)) (λ h. cell (tables .gaps) h (ofHour (node .places) h) + rest h) gap-at,
-          sumTo-add 24 (λ h. cell (tables .gaps) h (ofHour (node .places) h)) rest,
+          sumTo-in dayHours (gapsAt day p (place (day .blocks) d)) (λ h. cell (tables .gaps) h (ofHour (node .places) h) + rest h) gap-at,
+          sumTo-add dayHours (λ h. cell (tables .gaps) h (ofHour (node .places) h)) rest,
           daySum-plain (day .hours) rest,
         )
 
     -- the prices by the price table
     module _ {prices : List ℕ} (priced : PricesOf (tables .unitPrices) (node .places) prices) where
-      price-at : (h : ℕ) → 1 ≤ h → h ≤ 24 → ofHour prices h ≡ pricesAt day (place (day .blocks) d) h
+      price-at : (h : ℕ) → 1 ≤ h → h ≤ dayHours → ofHour prices h ≡ pricesAt day (place (day .blocks) d) h
       unfolding pricesAt
       price-at h a b =
           let e = branch .placesAre h a b in
-          let fits : ofHour (node .places) h ≤ 1600 = omega (arith, place-fits h a b) in
+          let fits : ofHour (node .places) h ≤ lastPlace = omega (arith, place-fits h a b) in
           rw e at (price-at-table known priced h a b fits)
 
-      pub prices-are : (h : ℕ) → 1 ≤ h → h ≤ 24 → ofHour prices h ≡ setPrices day (taken (day .blocks) d) h
+      pub prices-are : (h : ℕ) → 1 ≤ h → h ≤ dayHours → ofHour prices h ≡ setPrices day (taken (day .blocks) d) h
       prices-are h a b = price-at h a b ∙ sym (price-at-place day d size (known .prices) (known .hours) h (clear-at h a b))
 
       -- a block's limit by the columns
@@ -250,8 +251,8 @@ module _ {day : Day} {p rest : ℕ → ℕ} {tables : Tables} (known : Known day
       unfolding keepsLimit keepsAt priceSum sumOfHours
       keeps-same j s =
           let sum : daySum (day .hours) (λ h. when (s .block .runs h) (pricesAt day (place (day .blocks) d) h))
-          ≡ sumTo 24 (λ h. when (holdsHour (hoursAt (tables .blocks) j) h) (getD prices (h - 1) 0)) =
-          daySum-plain (day .hours) _ ∙ sumTo-in 24 _ _ (λ h a b. rw (s .runsIs h, ← (price-at h a b))) in
+          ≡ sumTo dayHours (λ h. when (holdsHour (hoursAt (tables .blocks) j) h) (getD prices (h - 1) 0)) =
+          daySum-plain (day .hours) _ ∙ sumTo-in dayHours _ _ (λ h a b. rw (s .runsIs h, ← (price-at h a b))) in
           same-test _ _ _ _ _ _ (s .sideIs) sum (s .limitIs)
 
       bit-is : (j : ℕ) → j < tables .count → getD d j false ≡ eqb (node .set / 2 ^ j % 2) 1
@@ -348,11 +349,11 @@ module _ {tables : Tables} {node : Node} {clears : Bool} {sum : ℕ}
 -- ONE MORE BLOCK, in the code's numbers
 -- the node with the block taken, and with it left out
 module _ (blocks : List ℕ) (at : ℕ) (node : Node) (moved : List ℕ) (sized : BlocksSized blocks)
-    (fits : Fits at node) (size : length moved ≡ 24) where
+    (fits : Fits at node) (size : length moved ≡ dayHours) where
   abbrev MovedBy : Bool → Type 0
-  MovedBy t = (h : ℕ) → 1 ≤ h → h ≤ 24 → ofHour moved h ≡ ofHour (node .places) h + when t (rowAt blocks at h)
+  MovedBy t = (h : ℕ) → 1 ≤ h → h ≤ dayHours → ofHour moved h ≡ ofHour (node .places) h + when t (rowAt blocks at h)
 
-  moved-fits : (t : Bool) → MovedBy t → Small ((at + 1) * 50000) moved
+  moved-fits : (t : Bool) → MovedBy t → Small ((at + 1) * mostAdded) moved
   moved-fits t m =
       places-grow at (node .places) moved size (fits .placesFit) (λ h a b.
       omega (arith, m h a b, when-le t (rowAt blocks at h), sized .rowsFit at h))
@@ -408,14 +409,14 @@ module _ {day : Day} {p rest : ℕ → ℕ} {tables : Tables} (known : Known day
   }
 
 -- a set of fewer than 32 blocks and one more fits 32 bits
-pub set-room : (at set b : ℕ) → at < 32 → set < 2 ^ at → b ≡ 2 ^ at → set + b < 2 ^ 32
+pub set-room : (at set b : ℕ) → at < mostBlocks → set < 2 ^ at → b ≡ 2 ^ at → set + b < 2 ^ 32
 set-room at set b k room e = rw e (omega (arith, bits-room at set room, pow-mono {i = suc at} {j = 32} k))
 
 -- LAWFUL SETS at the tables
 module _ {day : Day} {p rest : ℕ → ℕ} {tables : Tables} (known : Known day p rest tables) where
   -- a lawful set's places are in range
   pub lawful-place : (s : List Bool) → length s ≡ tables .count →
-      lawful day s ≡ true → (h : ℕ) → 1 ≤ h → h ≤ 24 → (ofHour (tables .first) h ≤ place (day .blocks) s h) × (place (day .blocks) s h ≤ ofHour (tables .last) h)
+      lawful day s ≡ true → (h : ℕ) → 1 ≤ h → h ≤ dayHours → (ofHour (tables .first) h ≤ place (day .blocks) s h) × (place (day .blocks) s h ≤ ofHour (tables .last) h)
   lawful-place s size law h a b =
       let n : length s ≡ length (day .blocks) = size ∙ sym (known .counted) in
       let i = place (day .blocks) s h in

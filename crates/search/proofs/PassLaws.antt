@@ -6,6 +6,7 @@ use mathlib.Core.Bool.{false}
 use native.Mathlib.Omega.{arith}
 use lib.ListN.{length, drop, getD, replicate, length-replicate}
 use lib.Pow.{shr-le, pow-pos}
+use Rattle.search.specs.Layout.{dayHours, gainColumn, lastLimit, mostBlocks, rowSize}
 use Rattle.rules.specs.Orders.{Step, Block}
 use Rattle.rules.specs.Day.{Day, daySum, sumTo, taken, decisions, overBlocks, hourOf}
 use Rattle.rules.specs.Outcome.{outcome}
@@ -28,17 +29,17 @@ use Rattle.search.proofs.BranchLaws.{sumTo-in, sumTo-add, daySum-plain,
 
 -- THE ROOT: nothing is decided
 abbrev pub root : Node
-root = record { set = 0; loss = 0; places = replicate 24 0 }
+root = record { set = 0; loss = 0; places = replicate dayHours 0 }
 
 pub root-fits : (n : ℕ) → Fits n root
-root-fits n = record { setFits = pow-pos n; lossFits = omega arith; placesSize = refl; placesFit = λ i. omega (arith, zeros 24 i) }
+root-fits n = record { setFits = pow-pos n; lossFits = omega arith; placesSize = refl; placesFit = λ i. omega (arith, zeros dayHours i) }
 
 root-branch : (day : Day) (p : ℕ → ℕ) → Branch day p [] root
 unfolding decisions
 root-branch day p = record {
   setIs = refl;
   lossIs = sym (losses-none (day .hours) p (day .blocks));
-  placesAre = λ h a b. zeros 24 (h - 1) ∙ sym (place-none (day .blocks) h);
+  placesAre = λ h a b. zeros dayHours (h - 1) ∙ sym (place-none (day .blocks) h);
 }
 
 -- and none is out
@@ -51,7 +52,7 @@ unfolding sumTo
 sum-fits zero m f k = omega arith
 sum-fits (suc n) m f k = omega (arith, sum-fits n m f k, k (suc n))
 
-module _ {tables : Tables} (few : tables .count ≤ 32) (small : (i : ℕ) → getD (tables .blocks) i 0 < 2 ^ 32)
+module _ {tables : Tables} (few : tables .count ≤ mostBlocks) (small : (i : ℕ) → getD (tables .blocks) i 0 < 2 ^ 32)
     (smallGap : (i : ℕ) → getD (tables .gaps) i 0 < 2 ^ 32) {day : Day} {p rest : ℕ → ℕ} (known : Known day p rest tables) where
   -- all gains together
   gains-fit : (n j : ℕ) → j + n ≡ tables .count → overBlocks (gain (day .hours) p) (drop j (day .blocks)) ≤ n * 2 ^ 32
@@ -61,10 +62,10 @@ module _ {tables : Tables} (few : tables .count ≤ 32) (small : (i : ℕ) → g
       none l k z = rw (lib.ListN.drop-of-length-le l z) (omega arith)
   gains-fit (suc n) j e =
       let s = known .shown j (omega arith) in
-      rw (s .next) (omega (arith, s .gainIs, small (160 + j), gains-fit n (suc j) (omega arith)))
+      rw (s .next) (omega (arith, s .gainIs, small (gainColumn + j), gains-fit n (suc j) (omega arith)))
 
   -- the empty set's loss
-  empty-loss : lossAbove day p rest (replicate (length (day .blocks)) false) < 549755813888
+  empty-loss : lossAbove day p rest (replicate (length (day .blocks)) false) < lastLimit
   unfolding lossAbove lossOf gaps
   empty-loss =
       let none = replicate (length (day .blocks)) false in
@@ -77,11 +78,11 @@ module _ {tables : Tables} (few : tables .count ≤ 32) (small : (i : ℕ) → g
         losses-empty (day .hours) p (day .blocks),
         gains-fit (tables .count) 0 (omega arith),
         daySum-plain (day .hours) g,
-        sumTo-in 24 g (λ h. at h + rest h)
+        sumTo-in dayHours g (λ h. at h + rest h)
             (λ h a b. gap-of-lawful known none size law h (counts (day .hours) h a b)),
-        sumTo-add 24 at rest,
+        sumTo-add dayHours at rest,
         daySum-plain (day .hours) rest,
-        sum-fits 24 (2 ^ 32) at (λ h. omega (arith, smallGap ((h - 1) * 1602 + place (day .blocks) none h))),
+        sum-fits dayHours (2 ^ 32) at (λ h. omega (arith, smallGap ((h - 1) * rowSize + place (day .blocks) none h))),
       )
 
   adds : by-loss.Adds day (lossAbove day p rest) (wholeOf day p - daySum (day .hours) rest)
@@ -115,7 +116,7 @@ module _ {tables : Tables} (few : tables .count ≤ 32) (small : (i : ℕ) → g
         by-loss.pass-outcome day (InTurn day p) (known .prices) (known .hours) (lossAbove day p rest) _ adds _ _ whole-pass in-turn less in
         (e, o .found less .0, rw e at (o .found less .1))
 
-    pub pass-found : 549755813888 ≤ best .limit → r .limit < best .limit
+    pub pass-found : lastLimit ≤ best .limit → r .limit < best .limit
     pass-found k =
         by-loss.pass-finds-any day (InTurn day p) (known .prices) (known .hours) (lossAbove day p rest) _ adds _ _ whole-pass in-turn
         (replicate (length (day .blocks)) false) (length-replicate _ _) (empty-lawful day (known .prices) (known .hours)) (omega (arith, empty-loss))

@@ -13,6 +13,7 @@ use lib.Dec.{eqb, leb}
 use lib.ListN.{length, drop, getD, set, replicate, length-append, length-set, List·getD-append, List·getD-eq-default}
 use lib.Seq.{getD-set-same, getD-set-other}
 use borrow.Author.Tests.{leb-true, le-leb, lt-leb, eq-eqb, ne-eqb}
+use Rattle.search.specs.Layout.{dayHours, lastPlace, mostAdded, mostBlocks, mostGaps, rowSize}
 use Rattle.rules.specs.Orders.{Side, buy, Block}
 use Rattle.rules.specs.Hour.{when}
 use Rattle.rules.specs.Execution.{testSide}
@@ -156,7 +157,7 @@ module _ (blocks : List ℕ) (out : Bool) (loss limit i row : ℕ) where
 
 -- THE PLACE OF THE REST at a loss below the limit, where it takes no block that is out
 module _ {day : Day} {p rest : ℕ → ℕ} {tables : Tables} (known : Known day p rest tables)
-    (at out loss limit h : ℕ) (hour-first : 1 ≤ h) (hour-last : h ≤ 24) where
+    (at out loss limit h : ℕ) (hour-first : 1 ≤ h) (hour-last : h ≤ dayHours) where
   abbrev must : ℕ → ℕ → ℕ
   must = addedIn (tables .blocks) (mustFrom (tables .blocks) at out loss limit) h
 
@@ -206,15 +207,15 @@ same-could side side′ floor floor′ cap cap′ limit limit′ a b c d = rw (a
 
 module _ {day : Day} {p rest : ℕ → ℕ} {tables : Tables} (known : Known day p rest tables)
     {from to high lowest : List ℕ} (priced-high : PricesOf (tables .unitPrices) from high) (priced-low : PricesOf (tables .unitPrices) to lowest)
-    (from-fits : (h : ℕ) → 1 ≤ h → h ≤ 24 → ofHour from h ≤ 1600) (to-fits : (h : ℕ) → 1 ≤ h → h ≤ 24 → ofHour to h ≤ 1600)
+    (from-fits : (h : ℕ) → 1 ≤ h → h ≤ dayHours → ofHour from h ≤ lastPlace) (to-fits : (h : ℕ) → 1 ≤ h → h ≤ dayHours → ofHour to h ≤ lastPlace)
     {j : ℕ} (s : Shown day p (tables .blocks) j) where
   -- the sum of prices at places, by the table
-  sum-same : (at prices : List ℕ) → PricesOf (tables .unitPrices) at prices → ((h : ℕ) → 1 ≤ h → h ≤ 24 → ofHour at h ≤ 1600) →
+  sum-same : (at prices : List ℕ) → PricesOf (tables .unitPrices) at prices → ((h : ℕ) → 1 ≤ h → h ≤ dayHours → ofHour at h ≤ lastPlace) →
       priceSum (day .hours) (pricesAt day (ofHour at)) (s .block) ≡ sumOfHours prices (hoursAt (tables .blocks) j)
   unfolding priceSum sumOfHours
   sum-same at prices priced fits =
       daySum-plain (day .hours) _
-      ∙ sumTo-in 24 _ _ (λ h a b. rw (s .runsIs h, ← (price-at-table known priced h a b (fits h a b))))
+      ∙ sumTo-in dayHours _ _ (λ h a b. rw (s .runsIs h, ← (price-at-table known priced h a b (fits h a b))))
 
   could-same : keepsAt (sideAt (tables .blocks) j) (hoursAt (tables .blocks) j) (limitAt (tables .blocks) j) high lowest
       ≡ couldKeep (day .hours) (pricesAt day (ofHour from)) (pricesAt day (ofHour to)) (s .block)
@@ -288,7 +289,7 @@ module _ {tables : Tables} {left out : ℕ} {node : Node} {limit : ℕ} where
                 (rest-below known (d ++ t) whole law),
           )
 
-      in-reach : lossAbove day p rest (d ++ t) < limit → (h : ℕ) → 1 ≤ h → h ≤ 24 →
+      in-reach : lossAbove day p rest (d ++ t) < limit → (h : ℕ) → 1 ≤ h → h ≤ dayHours →
           (ofHour from h ≤ place (day .blocks) (d ++ t) h) × (place (day .blocks) (d ++ t) h ≤ ofHour to h)
       in-reach k h a b =
           let here : tables .count - left ≡ length d = omega arith in
@@ -316,7 +317,7 @@ module _ {tables : Tables} {left out : ℕ} {node : Node} {limit : ℕ} where
             branch .lossIs,
             bound-with day p d t 0 (λ h. g h + rest h) (omega arith) gap-least,
             daySum-plain (day .hours) (λ h. g h + rest h),
-            sumTo-add 24 g rest,
+            sumTo-add dayHours g rest,
             daySum-plain (day .hours) rest,
           )
         where
@@ -339,7 +340,7 @@ module _ {tables : Tables} {left out : ℕ} {node : Node} {limit : ℕ} where
               )
 
       -- each of its blocks keeps its limit at the best prices there
-      block-could : {high lowest : List ℕ} → PricesOf (tables .unitPrices) from high → PricesOf (tables .unitPrices) to lowest → balances ≡ true → Small 1600 (tables .last) →
+      block-could : {high lowest : List ℕ} → PricesOf (tables .unitPrices) from high → PricesOf (tables .unitPrices) to lowest → balances ≡ true → Small lastPlace (tables .last) →
           lossAbove day p rest (d ++ t) < limit → (j : ℕ) → j < tables .count → getD (d ++ t) j false ≡ true →
           keepsAt (sideAt (tables .blocks) j) (hoursAt (tables .blocks) j) (limitAt (tables .blocks) j) high lowest ≡ true
       block-could ph pl e small k j inside set-bit =
@@ -350,7 +351,7 @@ module _ {tables : Tables} {left out : ℕ} {node : Node} {limit : ℕ} where
           could-same known ph pl (fits-in .0) (fits-in .1) s
           ∙ rw (block-at (day .blocks) j (s .block) _ other (s .next)) at could
         where
-          fits-in : ((h : ℕ) → 1 ≤ h → h ≤ 24 → ofHour from h ≤ 1600) × ((h : ℕ) → 1 ≤ h → h ≤ 24 → ofHour to h ≤ 1600)
+          fits-in : ((h : ℕ) → 1 ≤ h → h ≤ dayHours → ofHour from h ≤ lastPlace) × ((h : ℕ) → 1 ≤ h → h ≤ dayHours → ofHour to h ≤ lastPlace)
           fits-in = (
             λ h a b.
                 let below = smaller-below (ofHour least h + ofHour free h) (ofHour (tables .last) h) .1 in
@@ -361,7 +362,7 @@ module _ {tables : Tables} {left out : ℕ} {node : Node} {limit : ℕ} where
           )
 
       -- the decided ones, and one of the rest
-      decided-could : {high lowest : List ℕ} → PricesOf (tables .unitPrices) from high → PricesOf (tables .unitPrices) to lowest → balances ≡ true → Small 1600 (tables .last) →
+      decided-could : {high lowest : List ℕ} → PricesOf (tables .unitPrices) from high → PricesOf (tables .unitPrices) to lowest → balances ≡ true → Small lastPlace (tables .last) →
           lossAbove day p rest (d ++ t) < limit → allKeep (tables .blocks) (node .set) high lowest (tables .count - left) ≡ true
       decided-could {high} {lowest} ph pl e small k =
           all-keep (tables .blocks) (node .set) high lowest (tables .count - left) (λ j m bit.
@@ -369,7 +370,7 @@ module _ {tables : Tables} {left out : ℕ} {node : Node} {limit : ℕ} where
           block-could ph pl e small k j (omega arith)
           (List·getD-append d t false j here ∙ rw (← (branch .setIs)) (bits-at (length d) (node .set) j here ∙ eq-eqb _ 1 bit)))
 
-      rest-could : {high lowest : List ℕ} → PricesOf (tables .unitPrices) from high → PricesOf (tables .unitPrices) to lowest → balances ≡ true → Small 1600 (tables .last) →
+      rest-could : {high lowest : List ℕ} → PricesOf (tables .unitPrices) from high → PricesOf (tables .unitPrices) to lowest → balances ≡ true → Small lastPlace (tables .last) →
           lossAbove day p rest (d ++ t) < limit → (j : ℕ) → j < left → getD t j false ≡ true →
           keepsAt (sideAt (tables .blocks) (tables .count - left + j)) (hoursAt (tables .blocks) (tables .count - left + j)) (limitAt (tables .blocks) (tables .count - left + j)) high lowest ≡ true
       rest-could ph pl e small k j inside bit =
@@ -387,13 +388,13 @@ module _ {tables : Tables} {left out : ℕ} {node : Node} {limit : ℕ} where
     dropped-by-gaps z day p rest d t at l law = unless _ _ (λ k. absurd (omega (arith, gaps-least t at l law k)))
 
     -- a taken block misses its limit at the best prices within reach
-    pub dropped-by-limit : {high lowest : List ℕ} → PricesOf (tables .unitPrices) from high → PricesOf (tables .unitPrices) to lowest → balances ≡ true → Small 1600 (tables .last) →
+    pub dropped-by-limit : {high lowest : List ℕ} → PricesOf (tables .unitPrices) from high → PricesOf (tables .unitPrices) to lowest → balances ≡ true → Small lastPlace (tables .last) →
         allKeep (tables .blocks) (node .set) high lowest (tables .count - left) ≡ false → DroppedFrom tables left out node limit
     dropped-by-limit ph pl e small misses day p rest d t at l law =
         unless _ _ (λ k. clash (decided-could t at l law ph pl e small k) misses)
 
     -- WHAT IS OUT: what was before, and an undecided block that misses its limit at the best prices within reach
-    pub judged-open : {high lowest : List ℕ} → PricesOf (tables .unitPrices) from high → PricesOf (tables .unitPrices) to lowest → balances ≡ true → Small 1600 (tables .last) → left ≤ tables .count → {r : ℕ} →
+    pub judged-open : {high lowest : List ℕ} → PricesOf (tables .unitPrices) from high → PricesOf (tables .unitPrices) to lowest → balances ≡ true → Small lastPlace (tables .last) → left ≤ tables .count → {r : ℕ} →
         ((k : ℕ) → k < tables .count - (tables .count - left) → isOut r k ≡ isRuledOut (tables .blocks) (tables .count - left + k) (isOut out k) high lowest) →
         JudgedFrom tables left out node limit false r
     unfolding isRuledOut
@@ -408,25 +409,25 @@ module _ {tables : Tables} {left out : ℕ} {node : Node} {limit : ℕ} where
     }
 
 -- THE PLACES WITHIN REACH lie in the tables' rows
-column-small : (m : ℕ) (l : List ℕ) → length l ≡ 24 → ((h : ℕ) → h < 24 → getD l h 0 ≤ m) → Small m l
-column-small m l size f i = elim (decLe 24 i) [
+column-small : (m : ℕ) (l : List ℕ) → length l ≡ dayHours → ((h : ℕ) → h < dayHours → getD l h 0 ≤ m) → Small m l
+column-small m l size f i = elim (decLe dayHours i) [
   | yes k ↦ let z : length l ≤ i = omega arith in rw (List·getD-eq-default l 0 z) (omega arith)
   | no k ↦ f i (lt-of-not-le k)
 ]
 
 module _ {first last least free : List ℕ} {balances : Bool} {from to : List ℕ} (reach : ReachOf first last least free balances from to)
-    (small : Small 1600 last) where
-  pub to-fits : (h : ℕ) → h < 24 → getD to h 0 ≤ 1600
+    (small : Small lastPlace last) where
+  pub to-fits : (h : ℕ) → h < dayHours → getD to h 0 ≤ lastPlace
   to-fits h k =
       let is = rw sub-one at (reach .toIs (suc h) (omega arith) (omega arith)) in
       omega (arith, small h, smaller-below (getD least h 0 + getD free h 0) (getD last h 0) .1)
 
-  pub to-small : length to ≡ 24 → Small 1600 to
-  to-small size = column-small 1600 to size to-fits
+  pub to-small : length to ≡ dayHours → Small lastPlace to
+  to-small size = column-small lastPlace to size to-fits
 
-  pub from-small : balances ≡ true → length from ≡ 24 → Small 1600 from
+  pub from-small : balances ≡ true → length from ≡ dayHours → Small lastPlace from
   from-small e size =
-      column-small 1600 from size (λ h k.
+      column-small lastPlace from size (λ h k.
       let le = rw sub-one at (reach .balanced e (suc h) (omega arith) (omega arith)) in
       omega (arith, to-fits h k))
 
@@ -438,14 +439,14 @@ module _ (blocks : List ℕ) (count at out loss limit : ℕ) (places : List ℕ)
   pub record RestTo (i : ℕ) (least free : List ℕ) : Type 0 where
     pub from : at ≤ i
     pub to : i ≤ count
-    pub leastSize : length least ≡ 24
-    pub freeSize : length free ≡ 24
-    pub leastIs : (h : ℕ) → 1 ≤ h → h ≤ 24 → ofHour least h ≡ ofHour places h + added (mustFrom blocks at out loss limit) h i
-    pub freeIs : (h : ℕ) → 1 ≤ h → h ≤ 24 → ofHour free h ≡ added (mayFrom blocks at out loss limit) h i
-    pub leastFits : Small ((at + (count - i)) * 50000) least
-    pub freeFits : Small ((count - i) * 50000) free
+    pub leastSize : length least ≡ dayHours
+    pub freeSize : length free ≡ dayHours
+    pub leastIs : (h : ℕ) → 1 ≤ h → h ≤ dayHours → ofHour least h ≡ ofHour places h + added (mustFrom blocks at out loss limit) h i
+    pub freeIs : (h : ℕ) → 1 ≤ h → h ≤ dayHours → ofHour free h ≡ added (mayFrom blocks at out loss limit) h i
+    pub leastFits : Small ((at + (count - i)) * mostAdded) least
+    pub freeFits : Small ((count - i) * mostAdded) free
 
-  pub rest-start : at ≤ count → length places ≡ 24 → Small (at * 50000) places → RestTo count places (replicate 24 0)
+  pub rest-start : at ≤ count → length places ≡ dayHours → Small (at * mostAdded) places → RestTo count places (replicate dayHours 0)
   unfolding addedIn
   rest-start few size small =
       let none : count - count ≡ 0 = omega arith in
@@ -456,16 +457,16 @@ module _ (blocks : List ℕ) (count at out loss limit : ℕ) (places : List ℕ)
         leastSize = size;
         freeSize = refl;
         leastIs = λ h a b. rw none (omega arith);
-        freeIs = λ h a b. rw none (zeros 24 (h - 1));
+        freeIs = λ h a b. rw none (zeros dayHours (h - 1));
         leastFits = rw same small;
-        freeFits = λ i. omega (arith, zeros 24 i);
+        freeFits = λ i. omega (arith, zeros dayHours i);
       }
 
   one-more : (moves : ℕ → Bool) (h i : ℕ) → 0 < i → i ≤ count →
       added moves h (i - 1) ≡ when (moves (i - 1)) (rowAt blocks (i - 1) h) + added moves h i
   one-more moves h i = added-more blocks moves h count i
 
-  pub rest-next : (i : ℕ) (least free more freer : List ℕ) → RestTo i least free → at < i → ((h : ℕ) → rowAt blocks (i - 1) h ≤ 50000) →
+  pub rest-next : (i : ℕ) (least free more freer : List ℕ) → RestTo i least free → at < i → ((h : ℕ) → rowAt blocks (i - 1) h ≤ mostAdded) →
       AddedTo blocks (i - 1) (mustFrom blocks at out loss limit (i - 1)) (mayFrom blocks at out loss limit (i - 1)) least free more freer → RestTo (i - 1) more freer
   rest-next i least free more freer r pos few added =
       let sm = added .moreSize in
@@ -488,7 +489,7 @@ module _ (blocks : List ℕ) (count at out loss limit : ℕ) (places : List ℕ)
             omega (arith, f h x y, when-le (mayFrom blocks at out loss limit (i - 1)) (rowAt blocks (i - 1) h), few h)));
       }
 
-  pub rest-all : (i : ℕ) (least free : List ℕ) → RestTo i least free → i ≤ at → count ≤ 32 → RestOf blocks count at out loss limit places least free
+  pub rest-all : (i : ℕ) (least free : List ℕ) → RestTo i least free → i ≤ at → count ≤ mostBlocks → RestOf blocks count at out loss limit places least free
   rest-all i least free r k few =
       let e : i ≡ at = omega (arith, r .from) in
       record {
@@ -561,7 +562,7 @@ module _ (blocks : List ℕ) (count at out : ℕ) (high low : List ℕ) where
           rw z (upper-bit r b k (bit-small test b e) ∙ v .is k (omega arith))
 
   -- no bit is lost
-  pub ruled-room : (i r : ℕ) → RuledTo i r → at < i → count ≤ 32 → 2 * r + 1 < 2 ^ 32
+  pub ruled-room : (i r : ℕ) → RuledTo i r → at < i → count ≤ mostBlocks → 2 * r + 1 < 2 ^ 32
   ruled-room i r v pos few = omega (arith, v .fits, pow-mono {i = suc (count - i)} {j = 32} (omega (arith, v .to)))
 
   pub ruled-all : (i r : ℕ) → RuledTo i r → i ≤ at → (k : ℕ) → k < count - at → isOut r k ≡ ruledAt k
@@ -573,7 +574,7 @@ module _ (blocks : List ℕ) (count at out : ℕ) (high low : List ℕ) where
 -- the hours one after the other
 module _ (gap turn from to : List ℕ) where
   pub record LeastTo (h sum : ℕ) : Type 0 where
-    pub inside : h ≤ 24
+    pub inside : h ≤ dayHours
     pub is : sum ≡ sumTo h (λ k. cell gap k (nearest (ofHour turn k) (ofHour from k) (ofHour to k)))
     pub fits : sum ≤ h * 2 ^ 32
 
@@ -581,15 +582,15 @@ module _ (gap turn from to : List ℕ) where
   unfolding sumTo
   least-start = record { inside = omega arith; is = refl; fits = omega arith }
 
-  pub least-next : (h sum near : ℕ) → LeastTo h sum → h < 24 → near ≡ nearest (getD turn h 0) (getD from h 0) (getD to h 0) →
-      getD gap (h * 1602 + near) 0 < 2 ^ 32 → LeastTo (h + 1) (sum + getD gap (h * 1602 + near) 0)
+  pub least-next : (h sum near : ℕ) → LeastTo h sum → h < dayHours → near ≡ nearest (getD turn h 0) (getD from h 0) (getD to h 0) →
+      getD gap (h * rowSize + near) 0 < 2 ^ 32 → LeastTo (h + 1) (sum + getD gap (h * rowSize + near) 0)
   unfolding sumTo
   least-next h sum near g k e small = record { inside = omega arith; is = rw (g .is, e, add-one, sub-one); fits = omega (arith, g .fits) }
 
-  pub least-all : (h sum : ℕ) → LeastTo h sum → 24 ≤ h → (sum ≡ leastGaps gap turn from to) × (sum ≤ 24 * 2 ^ 32)
+  pub least-all : (h sum : ℕ) → LeastTo h sum → dayHours ≤ h → (sum ≡ leastGaps gap turn from to) × (sum ≤ mostGaps)
   unfolding leastGaps
   least-all h sum g k =
-      let e : h ≡ 24 = omega (arith, g .inside) in
+      let e : h ≡ dayHours = omega (arith, g .inside) in
       (rw (g .is, e), omega (arith, g .fits))
 
 module _ (first last least free : List ℕ) where
@@ -600,15 +601,15 @@ module _ (first last least free : List ℕ) where
   highestAt k = smaller (getD least k 0 + getD free k 0) (getD last k 0)
 
   pub record ReachTo (h : ℕ) (balances : Bool) (from to : List ℕ) : Type 0 where
-    pub inside : h ≤ 24
-    pub fromSize : length from ≡ 24
-    pub toSize : length to ≡ 24
+    pub inside : h ≤ dayHours
+    pub fromSize : length from ≡ dayHours
+    pub toSize : length to ≡ dayHours
     pub fromIs : (k : ℕ) → k < h → getD from k 0 ≡ lowestAt k
     pub toIs : (k : ℕ) → k < h → getD to k 0 ≡ highestAt k
     pub balanced : balances ≡ true → (k : ℕ) → k < h → lowestAt k ≤ highestAt k
     pub unbalanced : balances ≡ false → ((k : ℕ) → k < h → lowestAt k ≤ highestAt k) → ⊥
 
-  pub reach-start : ReachTo 0 true (replicate 24 0) (replicate 24 0)
+  pub reach-start : ReachTo 0 true (replicate dayHours 0) (replicate dayHours 0)
   reach-start = record {
     inside = omega arith;
     fromSize = refl;
@@ -619,7 +620,7 @@ module _ (first last least free : List ℕ) where
     unbalanced = λ e. clash refl e;
   }
 
-  pub reach-next : (h : ℕ) (balances : Bool) (from to : List ℕ) (lowest highest : ℕ) → ReachTo h balances from to → h < 24 →
+  pub reach-next : (h : ℕ) (balances : Bool) (from to : List ℕ) (lowest highest : ℕ) → ReachTo h balances from to → h < dayHours →
       lowest ≡ lowestAt h → highest ≡ highestAt h →
       ReachTo (h + 1) (balances && leb lowest highest) (set from h lowest) (set to h highest)
   reach-next h balances from to lowest highest r k el eh =
@@ -642,10 +643,10 @@ module _ (first last least free : List ℕ) where
             (λ b _ _. r .unbalanced b (λ j a. f j (omega arith))) e refl;
       }
 
-  pub reach-all : (h : ℕ) (balances : Bool) (from to : List ℕ) → ReachTo h balances from to → 24 ≤ h →
+  pub reach-all : (h : ℕ) (balances : Bool) (from to : List ℕ) → ReachTo h balances from to → dayHours ≤ h →
       ReachOf first last least free balances from to
   reach-all h balances from to r k =
-      let e : h ≡ 24 = omega (arith, r .inside) in
+      let e : h ≡ dayHours = omega (arith, r .inside) in
       record {
         fromIs = λ j a b. r .fromIs (j - 1) (omega arith);
         toIs = λ j a b. r .toIs (j - 1) (omega arith);

@@ -6,9 +6,10 @@ use lib.Dec.{eqb}
 use mathlib.Core.List.{List, _∷_, _++_}
 use mathlib.Core.Path.{_≡_}
 use lib.ListN.{length, drop, getD}
+use Rattle.search.specs.Layout.{blockListSize, dayHours, lastPlace, mostAdded, mostBlocks, tableSize}
 use Rattle.records.specs.Records.{holdsHour}
 use Rattle.orders.specs.Columns.{sideFor}
-use Rattle.rules.specs.Orders.{Step, Block}
+use Rattle.rules.specs.Orders.{Step, Block, maxPrice}
 use Rattle.rules.specs.Day.{Day, daySum, taken, decisions, overBlocks, sells, buys, stepsIn, setPrices, hourCount, lawful, traded}
 use Rattle.rules.specs.Outcome.{outcome}
 use Rattle.rules.specs.Contender.{PricesInRange, HoursInRange}
@@ -29,26 +30,26 @@ use Rattle.rules.specs.Hour.{when}
 
 -- SIZES, for safe arithmetic and indexing
 pub record BlocksSized (blocks : List ℕ) : Type 0 where
-  pub columns : length blocks ≡ 1024
-  pub rowsFit : (i h : ℕ) → rowAt blocks i h ≤ 50000
-  pub twinsFit : (i : ℕ) → i < 32 → (aheadAt blocks i ≤ 32) × (behindAt blocks i ≤ 32)
+  pub columns : length blocks ≡ blockListSize
+  pub rowsFit : (i h : ℕ) → rowAt blocks i h ≤ mostAdded
+  pub twinsFit : (i : ℕ) → i < mostBlocks → (aheadAt blocks i ≤ mostBlocks) × (behindAt blocks i ≤ mostBlocks)
 
 pub record Sized (t : Tables) : Type 0 where
-  pub priceRows : length (t .unitPrices) ≡ 38448
-  pub gapRows : length (t .gaps) ≡ 38448
-  pub firstHours : length (t .first) ≡ 24
-  pub lastHours : length (t .last) ≡ 24
-  pub lastFits : Small 1600 (t .last)
-  pub pricesFit : Small 300000 (t .unitPrices)
+  pub priceRows : length (t .unitPrices) ≡ tableSize
+  pub gapRows : length (t .gaps) ≡ tableSize
+  pub firstHours : length (t .first) ≡ dayHours
+  pub lastHours : length (t .last) ≡ dayHours
+  pub lastFits : Small lastPlace (t .last)
+  pub pricesFit : Small maxPrice (t .unitPrices)
   pub blocksFit : BlocksSized (t .blocks)
-  pub few : t .count ≤ 32
+  pub few : t .count ≤ mostBlocks
 
 -- A node with so many blocks decided.
 pub record Fits (decided : ℕ) (node : Node) : Type 0 where
   pub setFits : node .set < 2 ^ decided
   pub lossFits : node .loss ≤ decided * 2 ^ 32
-  pub placesSize : length (node .places) ≡ 24
-  pub placesFit : Small (decided * 50000) (node .places)
+  pub placesSize : length (node .places) ≡ dayHours
+  pub placesFit : Small (decided * mostAdded) (node .places)
 
 -- THE DAY behind the tables, at hourly prices p; `rest` is what the tables leave off each hour's gaps
 -- Block j of the day and its columns.
@@ -57,7 +58,7 @@ pub record Shown (day : Day) (p : ℕ → ℕ) (blocks : List ℕ) (j : ℕ) : T
   pub next : drop j (day .blocks) ≡ block ∷ drop (suc j) (day .blocks)
   pub sideIs : block .side ≡ sideFor (sideAt blocks j)
   pub runsIs : (h : ℕ) → block .runs h ≡ holdsHour (hoursAt blocks j) h
-  pub rowIs : (h : ℕ) → 1 ≤ h → h ≤ 24 → rowAt blocks j h ≡ when (block .runs h) (block .quantity)
+  pub rowIs : (h : ℕ) → 1 ≤ h → h ≤ dayHours → rowAt blocks j h ≡ when (block .runs h) (block .quantity)
   pub limitIs : block .price * hourCount (day .hours) block ≡ limitAt blocks j
   pub againstIs : against (day .hours) p block ≡ againstAt blocks j
   pub gainIs : gain (day .hours) p block ≡ gainAt blocks j
@@ -67,16 +68,16 @@ pub record Known (day : Day) (p rest : ℕ → ℕ) (t : Tables) : Type 0 where
   pub hours : HoursInRange (day .steps)
   pub counted : length (day .blocks) ≡ t .count
   -- no hour's blocks together reach past its row
-  pub fits : (h : ℕ) → 1 ≤ h → h ≤ 24 → overBlocks (sells h) (day .blocks) + overBlocks (buys h) (day .blocks) ≤ 1600
+  pub fits : (h : ℕ) → 1 ≤ h → h ≤ dayHours → overBlocks (sells h) (day .blocks) + overBlocks (buys h) (day .blocks) ≤ lastPlace
   -- the price table: the least price that meets the demand, one unit of N below the place
-  pub unitPriceIs : (h i : ℕ) → 1 ≤ h → h ≤ 24 → i ≤ 1601 →
+  pub unitPriceIs : (h i : ℕ) → 1 ≤ h → h ≤ dayHours → i ≤ lastPlace + 1 →
       cell (t .unitPrices) h i ≡ unitPrice (net (stepsIn h (day .steps)) i (suc (overBlocks (buys h) (day .blocks))))
   -- the places at which an hour clears, of those that its blocks can reach
-  pub clears : (h i : ℕ) → 1 ≤ h → h ≤ 24 → i ≤ 1600 → ofHour (t .first) h ≤ i → i ≤ ofHour (t .last) h → Clearable (hourAt day h i)
-  pub clearsOnly : (h i : ℕ) → 1 ≤ h → h ≤ 24 → i ≤ overBlocks (sells h) (day .blocks) + overBlocks (buys h) (day .blocks) → Clearable (hourAt day h i) →
+  pub clears : (h i : ℕ) → 1 ≤ h → h ≤ dayHours → i ≤ lastPlace → ofHour (t .first) h ≤ i → i ≤ ofHour (t .last) h → Clearable (hourAt day h i)
+  pub clearsOnly : (h i : ℕ) → 1 ≤ h → h ≤ dayHours → i ≤ overBlocks (sells h) (day .blocks) + overBlocks (buys h) (day .blocks) → Clearable (hourAt day h i) →
       (ofHour (t .first) h ≤ i) × (i ≤ ofHour (t .last) h)
   -- the gap table
-  pub gapIs : (h i : ℕ) → 1 ≤ h → h ≤ 24 → ofHour (t .first) h ≤ i → i ≤ ofHour (t .last) h →
+  pub gapIs : (h i : ℕ) → 1 ≤ h → h ≤ dayHours → ofHour (t .first) h ≤ i → i ≤ ofHour (t .last) h →
       slack (p h) (hourAt day h i) ≡ cell (t .gaps) h i + rest h
   pub shown : (j : ℕ) → j < t .count → Shown day p (t .blocks) j
   -- the twins
@@ -85,16 +86,16 @@ pub record Known (day : Day) (p rest : ℕ → ℕ) (t : Tables) : Type 0 where
 
 -- Each hour's gaps fall to the place where they turn, and rise from it.
 pub record Turning (t : Tables) : Type 0 where
-  pub falls : (h i j : ℕ) → 1 ≤ h → h ≤ 24 → ofHour (t .first) h ≤ i → i ≤ j → j ≤ ofHour (t .last) h → j ≤ ofHour (t .turn) h →
+  pub falls : (h i j : ℕ) → 1 ≤ h → h ≤ dayHours → ofHour (t .first) h ≤ i → i ≤ j → j ≤ ofHour (t .last) h → j ≤ ofHour (t .turn) h →
       cell (t .gaps) h j ≤ cell (t .gaps) h i
-  pub rises : (h i j : ℕ) → 1 ≤ h → h ≤ 24 → ofHour (t .first) h ≤ i → i ≤ j → j ≤ ofHour (t .last) h → ofHour (t .turn) h ≤ i →
+  pub rises : (h i j : ℕ) → 1 ≤ h → h ≤ dayHours → ofHour (t .first) h ≤ i → i ≤ j → j ≤ ofHour (t .last) h → ofHour (t .turn) h ≤ i →
       cell (t .gaps) h i ≤ cell (t .gaps) h j
 
 -- THE BRANCH of the decided blocks d
 pub record Branch (day : Day) (p : ℕ → ℕ) (d : List Bool) (node : Node) : Type 0 where
   pub setIs : decisions (length d) (node .set) ≡ d
   pub lossIs : node .loss ≡ losses (day .hours) p (day .blocks) d
-  pub placesAre : (h : ℕ) → 1 ≤ h → h ≤ 24 → ofHour (node .places) h ≡ place (day .blocks) d h
+  pub placesAre : (h : ℕ) → 1 ≤ h → h ≤ dayHours → ofHour (node .places) h ≡ place (day .blocks) d h
 
 -- the loss of a set, less what the tables leave off
 unfoldable pub lossAbove : Day → (ℕ → ℕ) → (ℕ → ℕ) → List Bool → ℕ
@@ -106,8 +107,8 @@ bestAs count best = record { limit = best .limit; set = decisions count (best .s
 
 -- a set's prices and traded quantities
 pub record DayOf (day : Day) (set : List Bool) (found : code-day.Day) : Type 0 where
-  pub pricesAre : (h : ℕ) → 1 ≤ h → h ≤ 24 → ofHour (found .prices) h ≡ setPrices day (taken (day .blocks) set) h
-  pub tradedAre : (h : ℕ) → 1 ≤ h → h ≤ 24 → ofHour (found .quantities) h ≡ traded day (taken (day .blocks) set) h
+  pub pricesAre : (h : ℕ) → 1 ≤ h → h ≤ dayHours → ofHour (found .prices) h ≡ setPrices day (taken (day .blocks) set) h
+  pub tradedAre : (h : ℕ) → 1 ≤ h → h ≤ dayHours → ofHour (found .quantities) h ≡ traded day (taken (day .blocks) set) h
 
 -- WHAT A BRANCH GIVES BACK of the best so far
 pub record Outcome (day : Day) (p rest : ℕ → ℕ) (count left : ℕ) (d : List Bool) (best r : Best) : Type 0 where
@@ -117,7 +118,7 @@ pub record Outcome (day : Day) (p rest : ℕ → ℕ) (count left : ℕ) (d : Li
 
 -- the steps of each hour are the day's
 abbrev pub StepsAre : Day → (ℕ → List Step) → Type 0
-StepsAre day steps = (h : ℕ) → 1 ≤ h → h ≤ 24 → steps h ≡ stepsIn h (day .steps)
+StepsAre day steps = (h : ℕ) → 1 ≤ h → h ≤ dayHours → steps h ≡ stepsIn h (day .steps)
 
 abbrev pub Decided : (t : Tables) (steps : ℕ → List Step) (node : Node) (best r : Best) → Type 0
 Decided t steps node best r =
@@ -158,13 +159,13 @@ pub record JudgedFrom (t : Tables) (left out : ℕ) (node : Node) (limit : ℕ) 
 pub record TakenTo (blocks : List ℕ) (at : ℕ) (node r : Node) : Type 0 where
   pub setIs : r .set ≡ node .set + 2 ^ at
   pub lossIs : r .loss ≡ node .loss + againstAt blocks at
-  pub placesAre : (h : ℕ) → 1 ≤ h → h ≤ 24 →
+  pub placesAre : (h : ℕ) → 1 ≤ h → h ≤ dayHours →
       ofHour (r .places) h ≡ ofHour (node .places) h + when (not (eqb (sideAt blocks at) 0)) (rowAt blocks at h)
 
 pub record LeftTo (blocks : List ℕ) (at : ℕ) (node r : Node) : Type 0 where
   pub setIs : r .set ≡ node .set
   pub lossIs : r .loss ≡ node .loss + gainAt blocks at
-  pub placesAre : (h : ℕ) → 1 ≤ h → h ≤ 24 →
+  pub placesAre : (h : ℕ) → 1 ≤ h → h ≤ dayHours →
       ofHour (r .places) h ≡ ofHour (node .places) h + when (eqb (sideAt blocks at) 0) (rowAt blocks at h)
 
 -- THE PUBLISHED SET, with its day

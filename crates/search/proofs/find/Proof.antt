@@ -1,17 +1,18 @@
 -- `search::find` meets its contract: a pass that finds a set has found the published one, and the last pass finds. Assumes nothing.
-use Prim.Native.Nat.{ℕ, _-_, _^_, _≤_, _<_}
+use Prim.Native.Nat.{ℕ, _-_, _*_, _^_, _≤_, _<_}
 use lib.ListN.{getD}
 use native.Mathlib.Omega.{arith}
+use Rattle.search.specs.Layout.{lastLimit}
 use Rattle.search.proofs.PassLaws.{root-fits, pass-is, pass-found}
 use borrow.Author.Needs.{needs}
 use Rattle.search.proofs.find.Statement.{statement}
 use Rattle.search.proofs.find.Tie as tie
 
 abbrev Inv-loop : tie.InvT-loop
-Inv-loop low gap hours blocks sides prices quantities ends count day root limit₀ limit = (1 ≤ limit) × (limit ≤ 1099511627776)
+Inv-loop low gap hours blocks sides prices quantities ends count day root limit₀ limit = (1 ≤ limit) × (limit ≤ (2 * lastLimit))
 
 abbrev μ-loop : tie.MeasureT-loop
-μ-loop low gap hours blocks sides prices quantities ends count day root limit₀ limit = 1099511627776 - limit
+μ-loop low gap hours blocks sides prices quantities ends count day root limit₀ limit = (2 * lastLimit) - limit
 
 -- the start behind the loop
 abbrev start : tie.At-loop Inv-loop μ-loop → tie.Start Inv-loop μ-loop

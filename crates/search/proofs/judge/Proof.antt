@@ -3,6 +3,7 @@ use mathlib.Core.Path.{_≡_, sym, _∙_}
 use lib.ListN.{length, length-take, length-drop}
 use native.Mathlib.Omega.{arith}
 use borrow.Author.Tests.{not-true, not-false}
+use Rattle.search.specs.Layout.{dayHours}
 use Rattle.search.specs.Search.{gapsTurn}
 use Rattle.search.proofs.ReachLaws.{
   dropped-by-loss,
@@ -42,13 +43,13 @@ abbrev back : tie.After-prices-at2 → tie.Else3
 back c = balanced (bounded (c .before .before) .before)
 
 -- arrays of 24
-from-size : (f : tie.After-reach-at) → length (f .reach-at .result .from) ≡ 24
+from-size : (f : tie.After-reach-at) → length (f .reach-at .result .from) ≡ dayHours
 from-size f = search needs
 
-to-size : (f : tie.After-reach-at) → length (f .reach-at .result .to) ≡ 24
+to-size : (f : tie.After-reach-at) → length (f .reach-at .result .to) ≡ dayHours
 to-size f = search needs
 
-turn-size : (s : tie.Start) → length (gapsTurn (s .args .hours .now)) ≡ 24
+turn-size : (s : tie.Start) → length (gapsTurn (s .args .hours .now)) ≡ dayHours
 turn-size s = simp (length-take, length-drop) (omega (arith, s .pre .1))
 
 returns : tie.Need-returns

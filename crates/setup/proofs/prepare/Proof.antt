@@ -3,6 +3,8 @@ use Prim.Native.Nat.{ℕ}
 use mathlib.Core.List.{List}
 use mathlib.Core.Path.{_≡_, _∙_}
 use lib.ListN.{length}
+use Rattle.search.specs.Layout.{tableSize}
+use Rattle.rules.specs.Orders.{maxPrice}
 use Rattle.search.specs.Search.{Small}
 use Rattle.setup.proofs.SetupLaws.{prices-small, set-up, ready}
 use Rattle.setup.proofs.SetupTwinLaws.{completed, blocks-sized, rows-empty, twins-empty}
@@ -21,10 +23,10 @@ begun f = f .before .before .before .before .before .before .before .before .bef
 abbrev unitPricesOf : tie.After-fill-tables → List ℕ
 unitPricesOf f = f .fill-tables .last .1 .1 .1 .1 .1 .0
 
-prices-size : (f : tie.After-fill-tables) → length (unitPricesOf f) ≡ 38448
+prices-size : (f : tie.After-fill-tables) → length (unitPricesOf f) ≡ tableSize
 prices-size f = f .fill-tables .kept .1 .1 .1 .1 .1 .0 ∙ begun f .pre .1 .1 .0
 
-prices-fit : (f : tie.After-fill-tables) → Small 300000 (unitPricesOf f)
+prices-fit : (f : tie.After-fill-tables) → Small maxPrice (unitPricesOf f)
 prices-fit f =
     let a = begun f .args in
     prices-small (a .sides .now) (a .prices .now) (a .quantities .now) (a .ends) (f .before .before .before .traded-by-hour .result) (unitPricesOf f) (prices-size f) (f .fill-tables .ensures)

@@ -2,6 +2,7 @@
 use Prim.Native.Nat.{_-_}
 use mathlib.Core.Path.{sym, _∙_}
 use native.Mathlib.Omega.{arith}
+use Rattle.search.specs.Layout.{dayHours}
 use Rattle.setup.proofs.SetupTableLaws.{part-held, part-length, row-wide, RowsTo, rows-start, rows-next, rows-all}
 use borrow.Author.Needs.{needs}
 use Rattle.setup.proofs.rows.fill_tables.Statement.{statement}
@@ -14,7 +15,7 @@ abbrev Inv-loop : tie.InvT-loop
 Inv-loop sides prices quantities unitPrices₀ ends off h₀ unitPrices h = RowsTo sides prices quantities ends off unitPrices h
 
 abbrev μ-loop : tie.MeasureT-loop
-μ-loop sides prices quantities unitPrices₀ ends off h₀ unitPrices h = 24 - h
+μ-loop sides prices quantities unitPrices₀ ends off h₀ unitPrices h = dayHours - h
 
 loop-holds : tie.Need-loop-holds Inv-loop μ-loop
 loop-holds c = rows-start _ _ _ _ _ _ (c .before .before .before .before .pre .2)
