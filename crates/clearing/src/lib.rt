@@ -14,6 +14,7 @@ use orders::steps_of;
 use records::record_count;
 use result::Clearing;
 use search::find;
+use search::layout::TABLE;
 use setup::prepare;
 
 mod publish; // the published set as the result
@@ -30,21 +31,21 @@ fn clear_accepted(book: &[u8], result: &mut [u8])
     let quantities = steps.quantities;
     let ends = steps.ends;
     let blocks = blocks_of(book);
-    let mut low = [0; 38448];
-    let mut gap = [0; 38448];
+    let mut unit_prices = [0; TABLE];
+    let mut gap = [0; TABLE];
     let prepared = prepare(
         &sides,
         &prices,
         &quantities,
         ends,
         blocks,
-        &mut low,
+        &mut unit_prices,
         &mut gap,
     );
     let hours = prepared.hours;
     let columns = prepared.columns;
     let best = find(
-        &low,
+        &unit_prices,
         &gap,
         &hours,
         &columns,

@@ -41,7 +41,7 @@ fn limits_of(
 // The prices that the search goes by: the empty set's own, or those after 7, 14, .. 56 moves, where it loses least. Two sets' losses differ by the same at
 // all prices, so the published set loses least there too. Any prices are right.
 pub fn root_prices(
-    low: &[u32],
+    unit_prices: &[u32],
     off: [u32; HOURS],
     count: usize,
     sides: [u8; MOST_BLOCKS],
@@ -49,22 +49,40 @@ pub fn root_prices(
     prices: [u32; MOST_BLOCKS],
     quantities: [u32; MOST_BLOCKS],
 ) -> [u32; HOURS]
-    requires tables { ⌜ (length (now low) ≡ tableSize) × Small maxPrice (now low) × Small lastPlace off ⌝ }
+    requires tables { ⌜ (length (now «unit_prices») ≡ tableSize) × Small maxPrice (now «unit_prices») × Small lastPlace off ⌝ }
     requires blocks { ⌜ (count ≤ mostBlocks) × FirstSmall count maxPrice prices × FirstSmall count mostQuantity quantities ⌝ }
     ensures { λ r. ⌜ Small maxPrice r ⌝ }
 {
     let limits = limits_of(count, hours, prices);
-    let mut best = prices_at(low, off);
-    let mut least = empty_loss(low, off, count, sides, hours, limits, quantities, best);
+    let mut best = prices_at(unit_prices, off);
+    let mut least = empty_loss(
+        unit_prices,
+        off,
+        count,
+        sides,
+        hours,
+        limits,
+        quantities,
+        best,
+    );
     let mut trail = Trail {
         prices: best,
         sum: off,
     };
     let mut n: u32 = 1;
     while n < MOVES {
-        let next = moved_on(low, count, hours, limits, quantities, trail, n);
+        let next = moved_on(unit_prices, count, hours, limits, quantities, trail, n);
         let root = next.prices;
-        let loss = empty_loss(low, off, count, sides, hours, limits, quantities, root);
+        let loss = empty_loss(
+            unit_prices,
+            off,
+            count,
+            sides,
+            hours,
+            limits,
+            quantities,
+            root,
+        );
         if loss < least {
             best = root;
             least = loss;

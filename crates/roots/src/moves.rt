@@ -92,7 +92,7 @@ pub struct Trail {
 
 // A round more, where n places are added up: each move goes towards the prices at the average of the places so far at which the blocks that gain are taken.
 pub fn moved_on(
-    low: &[u32],
+    unit_prices: &[u32],
     count: usize,
     hours: [u32; MOST_BLOCKS],
     limits: [u32; MOST_BLOCKS],
@@ -100,7 +100,7 @@ pub fn moved_on(
     trail: Trail,
     n: u32,
 ) -> Trail
-    requires tables { ⌜ (length (now low) ≡ tableSize) × Small maxPrice (now low) ⌝ }
+    requires tables { ⌜ (length (now «unit_prices») ≡ tableSize) × Small maxPrice (now «unit_prices») ⌝ }
     requires blocks { ⌜ (count ≤ mostBlocks) × FirstSmall count mostQuantity quantities ⌝ }
     requires trail { ⌜ (1 ≤ n) × (n < allMoves) × Small maxPrice (trail .prices) × Small (n * lastPlace) (trail .sum) ⌝ }
     ensures { λ r. ⌜ Small maxPrice (r .prices) × Small ((n + roundMoves) * lastPlace) (r .sum) ⌝ }
@@ -111,7 +111,7 @@ pub fn moved_on(
     while k < n + ROUND {
         let more = added_places(sum, count, hours, limits, quantities, root);
         let mean = averaged(more, k + 1);
-        let there = prices_at(low, mean);
+        let there = prices_at(unit_prices, mean);
         let next = closer(root, there);
         sum = more;
         root = next;

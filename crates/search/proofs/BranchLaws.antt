@@ -11,6 +11,7 @@ use lib.Dec.{eqb, leb}
 use lib.ListN.{length, drop, getD, length-append}
 use lib.Pow.{pow-mono, shr-shr}
 use borrow.Author.Tests.{eqb-true, eqb-false, eq-eqb, ne-eqb, not-true}
+use Rattle.search.specs.Layout.{dayHours, lastPlace, mostAdded, mostBlocks}
 use Rattle.records.specs.Records.{holdsHour}
 use Rattle.orders.specs.Columns.{sideFor}
 use Rattle.rules.specs.Orders.{Side, buy, Step, Block}
@@ -87,6 +88,7 @@ use Rattle.search.specs.Search.{
   SetTrades,
   TradedIn,
 }
+use Rattle.search.specs.Tables.{Tables}
 use Rattle.search.specs.Meaning.{
   BlocksSized,
   Fits,
@@ -120,9 +122,9 @@ unfolding sumTo
 sumTo-add zero f g = omega arith
 sumTo-add (suc n) f g = omega (arith, sumTo-add n f g)
 
-pub daySum-plain : (hours : ℕ) (f : ℕ → ℕ) → daySum hours f ≡ sumTo 24 f
+pub daySum-plain : (hours : ℕ) (f : ℕ → ℕ) → daySum hours f ≡ sumTo dayHours f
 unfolding daySum weight
-daySum-plain hours f = sumTo-in 24 _ f (λ h a b. omega arith)
+daySum-plain hours f = sumTo-in dayHours _ f (λ h a b. omega arith)
 
 -- A SET'S BLOCKS
 taken-le : (f : Block → ℕ) (l : List Block) (s : List Bool) → overBlocks f (taken l s) ≤ overBlocks f l
@@ -178,8 +180,8 @@ same-test side side′ sum sum′ limit limit′ a b c = rw (a, b, c)
 
 -- THE DAY AT ITS TABLES
 -- the price at a place, by the price table
-pub price-at-table : {day : Day} {p rest : ℕ → ℕ} {low gap first last blocks : List ℕ} {count : ℕ} → Known day p rest low gap first last blocks count →
-    {places prices : List ℕ} → PricesOf low places prices → (h : ℕ) → 1 ≤ h → h ≤ 24 → ofHour places h ≤ 1600 →
+pub price-at-table : {day : Day} {p rest : ℕ → ℕ} {tables : Tables} → Known day p rest tables →
+    {places prices : List ℕ} → PricesOf (tables .unitPrices) places prices → (h : ℕ) → 1 ≤ h → h ≤ dayHours → ofHour places h ≤ lastPlace →
     ofHour prices h ≡ pricesAt day (ofHour places) h
 unfolding pricesAt tablePrice
 price-at-table {day} known {places} priced h a b fits =
@@ -188,37 +190,37 @@ price-at-table {day} known {places} priced h a b fits =
     omega (
       arith,
       priced .are h a b,
-      known .lowIs h i a b (omega arith),
-      known .lowIs h (i + 1) a b (omega arith),
+      known .unitPriceIs h i a b (omega arith),
+      known .unitPriceIs h (i + 1) a b (omega arith),
       unit-net (stepsIn h (day .steps)) (i + 1) (suc off) i off (omega arith),
     )
 
-module _ {day : Day} {p rest : ℕ → ℕ} {low gap first last blocks : List ℕ} {count : ℕ} (known : Known day p rest low gap first last blocks count)
-    {set loss : ℕ} {places : List ℕ} {d : List Bool} (branch : Branch day p d set loss places) (whole : length d ≡ count) where
+module _ {day : Day} {p rest : ℕ → ℕ} {tables : Tables} (known : Known day p rest tables)
+    {node : Node} {d : List Bool} (branch : Branch day p d node) (whole : length d ≡ tables .count) where
   size : length d ≡ length (day .blocks)
   size = whole ∙ sym (known .counted)
 
-  place-fits : (h : ℕ) → 1 ≤ h → h ≤ 24 → place (day .blocks) d h ≤ 1600
+  place-fits : (h : ℕ) → 1 ≤ h → h ≤ dayHours → place (day .blocks) d h ≤ lastPlace
   place-fits h a b = omega (arith, place-within (day .blocks) d h size, known .fits h a b)
 
   -- a lawful set's places are in range
-  lawful-in-range : lawful day d ≡ true → InRange first last places
+  lawful-in-range : lawful day d ≡ true → InRange (tables .first) (tables .last) (node .places)
   lawful-in-range law h a b =
       rw (branch .placesAre h a b)
       (known .clearsOnly h (place (day .blocks) d h) a b (place-within (day .blocks) d h size) (lawful-clears day d size (known .prices) (known .hours) law h (counts (day .hours) h a b)))
 
-  module _ (inside : InRange first last places) where
-    clear-at : (h : ℕ) → 1 ≤ h → h ≤ 24 → Clearable (hourAt day h (place (day .blocks) d h))
+  module _ (inside : InRange (tables .first) (tables .last) (node .places)) where
+    clear-at : (h : ℕ) → 1 ≤ h → h ≤ dayHours → Clearable (hourAt day h (place (day .blocks) d h))
     clear-at h a b =
         let r = inside h a b in
         let e = branch .placesAre h a b in
         known .clears h (place (day .blocks) d h) a b (place-fits h a b) (rw e at (r .0)) (rw e at (r .1))
 
     -- the loss by the gap table
-    pub loss-is : (sum : ℕ) → sum ≡ sumTo 24 (λ h. cell gap h (ofHour places h)) → lossOf day p d ≡ loss + sum + daySum (day .hours) rest
+    pub loss-is : (sum : ℕ) → sum ≡ sumTo dayHours (λ h. cell (tables .gaps) h (ofHour (node .places) h)) → lossOf day p d ≡ node .loss + sum + daySum (day .hours) rest
     unfolding lossOf gapsAt
     loss-is sum e =
-        let gap-at : (h : ℕ) → 1 ≤ h → h ≤ 24 → gapsAt day p (place (day .blocks) d) h ≡ cell gap h (ofHour places h) + rest h = λ h a b.
+        let gap-at : (h : ℕ) → 1 ≤ h → h ≤ dayHours → gapsAt day p (place (day .blocks) d) h ≡ cell (tables .gaps) h (ofHour (node .places) h) + rest h = λ h a b.
         let r = inside h a b in
         rw (branch .placesAre h a b) (known .gapIs h (place (day .blocks) d h) a b (rw (branch .placesAre h a b) at (r .0)) (rw (branch .placesAre h a b) at (r .1))) in
         omega (
@@ -226,52 +228,52 @@ module _ {day : Day} {p rest : ℕ → ℕ} {low gap first last blocks : List �
           branch .lossIs,
           gaps-by-place day d size p,
           daySum-plain (day .hours) (gapsAt day p (place (day .blocks) d)),
-          sumTo-in 24 (gapsAt day p (place (day .blocks) d)) (λ h. cell gap h (ofHour places h) + rest h) gap-at,
-          sumTo-add 24 (λ h. cell gap h (ofHour places h)) rest,
+          sumTo-in dayHours (gapsAt day p (place (day .blocks) d)) (λ h. cell (tables .gaps) h (ofHour (node .places) h) + rest h) gap-at,
+          sumTo-add dayHours (λ h. cell (tables .gaps) h (ofHour (node .places) h)) rest,
           daySum-plain (day .hours) rest,
         )
 
     -- the prices by the price table
-    module _ {prices : List ℕ} (priced : PricesOf low places prices) where
-      price-at : (h : ℕ) → 1 ≤ h → h ≤ 24 → ofHour prices h ≡ pricesAt day (place (day .blocks) d) h
+    module _ {prices : List ℕ} (priced : PricesOf (tables .unitPrices) (node .places) prices) where
+      price-at : (h : ℕ) → 1 ≤ h → h ≤ dayHours → ofHour prices h ≡ pricesAt day (place (day .blocks) d) h
       unfolding pricesAt
       price-at h a b =
           let e = branch .placesAre h a b in
-          let fits : ofHour places h ≤ 1600 = omega (arith, place-fits h a b) in
+          let fits : ofHour (node .places) h ≤ lastPlace = omega (arith, place-fits h a b) in
           rw e at (price-at-table known priced h a b fits)
 
-      pub prices-are : (h : ℕ) → 1 ≤ h → h ≤ 24 → ofHour prices h ≡ setPrices day (taken (day .blocks) d) h
+      pub prices-are : (h : ℕ) → 1 ≤ h → h ≤ dayHours → ofHour prices h ≡ setPrices day (taken (day .blocks) d) h
       prices-are h a b = price-at h a b ∙ sym (price-at-place day d size (known .prices) (known .hours) h (clear-at h a b))
 
       -- a block's limit by the columns
-      keeps-same : (j : ℕ) (s : Shown day p blocks j) →
-          keepsLimit (day .hours) (pricesAt day (place (day .blocks) d)) (s .block) ≡ keepsHere blocks set prices prices j
+      keeps-same : (j : ℕ) (s : Shown day p (tables .blocks) j) →
+          keepsLimit (day .hours) (pricesAt day (place (day .blocks) d)) (s .block) ≡ keepsHere (tables .blocks) (node .set) prices prices j
       unfolding keepsLimit keepsAt priceSum sumOfHours
       keeps-same j s =
           let sum : daySum (day .hours) (λ h. when (s .block .runs h) (pricesAt day (place (day .blocks) d) h))
-          ≡ sumTo 24 (λ h. when (holdsHour (hoursAt blocks j) h) (getD prices (h - 1) 0)) =
-          daySum-plain (day .hours) _ ∙ sumTo-in 24 _ _ (λ h a b. rw (s .runsIs h, ← (price-at h a b))) in
+          ≡ sumTo dayHours (λ h. when (holdsHour (hoursAt (tables .blocks) j) h) (getD prices (h - 1) 0)) =
+          daySum-plain (day .hours) _ ∙ sumTo-in dayHours _ _ (λ h a b. rw (s .runsIs h, ← (price-at h a b))) in
           same-test _ _ _ _ _ _ (s .sideIs) sum (s .limitIs)
 
-      bit-is : (j : ℕ) → j < count → getD d j false ≡ eqb (set / 2 ^ j % 2) 1
-      bit-is j k = rw (← (branch .setIs)) (bits-at (length d) set j (omega arith))
+      bit-is : (j : ℕ) → j < tables .count → getD d j false ≡ eqb (node .set / 2 ^ j % 2) 1
+      bit-is j k = rw (← (branch .setIs)) (bits-at (length d) (node .set) j (omega arith))
 
       other : Block
       other = record { number = 0; side = buy; price = 0; quantity = 0; runs = λ h. false }
 
-      pub limits-kept : allKeep blocks set prices prices count ≡ true → lawful day d ≡ true
+      pub limits-kept : allKeep (tables .blocks) (node .set) prices prices (tables .count) ≡ true → lawful day d ≡ true
       unfolding allowed
       limits-kept e =
           lawful-by-places day d size (known .prices) (known .hours) refl (λ h c. clear-at h (c .first) (c .last))
           (passes-taken _ other (day .blocks) d (λ j k t.
-          let kc : j < count = omega (arith, known .counted) in
+          let kc : j < tables .count = omega (arith, known .counted) in
           let s = known .shown j kc in
           rw (block-at (day .blocks) j (s .block) _ other (s .next))
-          (keeps-same j s ∙ all-keep-at blocks set prices prices count j e kc (borrow.Author.Tests.eqb-true _ _ (sym (bit-is j kc) ∙ t)))))
+          (keeps-same j s ∙ all-keep-at (tables .blocks) (node .set) prices prices (tables .count) j e kc (borrow.Author.Tests.eqb-true _ _ (sym (bit-is j kc) ∙ t)))))
 
-      pub limits-broken : allKeep blocks set prices prices count ≡ false → lawful day d ≡ true → ⊥
+      pub limits-broken : allKeep (tables .blocks) (node .set) prices prices (tables .count) ≡ false → lawful day d ≡ true → ⊥
       limits-broken e law =
-          clash (all-keep blocks set prices prices count (λ j k c.
+          clash (all-keep (tables .blocks) (node .set) prices prices (tables .count) (λ j k c.
           let s = known .shown j k in
           let t = taken-passes _ (day .blocks) d (lawful-limits day d size (known .prices) (known .hours) law) j other
           (omega (arith, known .counted)) (bit-is j k ∙ eq-eqb _ 1 c) in
@@ -309,57 +311,55 @@ leaf-as-it-was {day} {p} {rest} {count} {d} {best} f = record {
   found = λ k. absurd (omega arith);
 }
 
-module _ {gap first last places : List ℕ} {clears : Bool} {sum : ℕ} (gapped : GapsOf gap first last places clears sum) where
+module _ {tables : Tables} {node : Node} {clears : Bool} {sum : ℕ}
+    (gapped : GapsOf (tables .gaps) (tables .first) (tables .last) (node .places) clears sum) where
   -- some hour does not clear
-  pub decided-unclear : {low blocks : List ℕ} {steps : ℕ → List Step} {count set loss : ℕ} {best : Best} → clears ≡ false →
-      Decided low gap first last blocks steps count set loss places best best
+  pub decided-unclear : {steps : ℕ → List Step} {best : Best} → clears ≡ false → Decided tables steps node best best
   decided-unclear e day p rest d same known branch whole room =
       leaf-as-it-was (λ law. absurd (gapped .notInRange e (lawful-in-range known branch whole law)))
 
   module _ (e : clears ≡ true) where
-    loss-here : {day : Day} {p rest : ℕ → ℕ} {low blocks : List ℕ} {count set loss : ℕ} {d : List Bool} →
-        Known day p rest low gap first last blocks count → Branch day p d set loss places → length d ≡ count → lossAbove day p rest d ≡ loss + sum
+    loss-here : {day : Day} {p rest : ℕ → ℕ} {d : List Bool} → Known day p rest tables → Branch day p d node → length d ≡ tables .count →
+        lossAbove day p rest d ≡ node .loss + sum
     unfolding lossAbove
     loss-here known branch whole = omega (arith, loss-is known branch whole (gapped .inRange e) sum (gapped .sumIs e))
 
     -- it loses as much as the best or more
-    pub decided-worse : {low blocks : List ℕ} {steps : ℕ → List Step} {count set loss : ℕ} {best : Best} → best .limit ≤ loss + sum →
-        Decided low gap first last blocks steps count set loss places best best
+    pub decided-worse : {steps : ℕ → List Step} {best : Best} → best .limit ≤ node .loss + sum → Decided tables steps node best best
     decided-worse k day p rest d same known branch whole room = leaf-as-it-was (λ law. omega (arith, loss-here known branch whole))
 
-    module _ {low prices : List ℕ} (priced : PricesOf low places prices) {blocks : List ℕ} {steps : ℕ → List Step} {count set loss : ℕ} {best : Best} where
+    module _ {prices : List ℕ} (priced : PricesOf (tables .unitPrices) (node .places) prices) {steps : ℕ → List Step} {best : Best} where
       -- a block misses its limit
-      pub decided-broken : allKeep blocks set prices prices count ≡ false → Decided low gap first last blocks steps count set loss places best best
+      pub decided-broken : allKeep (tables .blocks) (node .set) prices prices (tables .count) ≡ false → Decided tables steps node best best
       decided-broken k day p rest d same known branch whole room =
           leaf-as-it-was (λ law. absurd (limits-broken known branch whole (gapped .inRange e) priced k law))
 
       -- it is lawful and loses less
-      pub decided-better : allKeep blocks set prices prices count ≡ true → loss + sum < best .limit → {sales purchases quantities : List ℕ} →
-          SetTrades blocks count set sales purchases → TradedIn steps sales purchases prices quantities →
-          Decided low gap first last blocks steps count set loss places best
-          record { limit = loss + sum; set = set; day = record { prices = prices; quantities = quantities } }
+      pub decided-better : allKeep (tables .blocks) (node .set) prices prices (tables .count) ≡ true → node .loss + sum < best .limit →
+          {sales purchases quantities : List ℕ} → SetTrades (tables .blocks) (tables .count) (node .set) sales purchases → TradedIn steps sales purchases prices quantities →
+          Decided tables steps node best
+          record { limit = node .loss + sum; set = node .set; day = record { prices = prices; quantities = quantities } }
       decided-better k less {sales} {purchases} {quantities} sets trades day p rest d same known branch whole room =
           let in-range = gapped .inRange e in
           let law = limits-kept known branch whole in-range priced k in
           let is = prices-are known branch whole in-range priced in
-          newly-found day p rest count d set best _ (rw whole at (branch .setIs)) room refl (sym (loss-here known branch whole)) less law
+          newly-found day p rest (tables .count) d (node .set) best _ (rw whole at (branch .setIs)) room refl (sym (loss-here known branch whole)) less law
           record { pricesAre = is; tradedAre = traded-are known same whole (branch .setIs) law prices quantities sets is trades }
 
 -- ONE MORE BLOCK, in the code's numbers
 -- the node with the block taken, and with it left out
 module _ (blocks : List ℕ) (at : ℕ) (node : Node) (moved : List ℕ) (sized : BlocksSized blocks)
-    (fits : Fits at (node .set) (node .loss) (node .places)) (size : length moved ≡ 24) where
+    (fits : Fits at node) (size : length moved ≡ dayHours) where
   abbrev MovedBy : Bool → Type 0
-  MovedBy t = (h : ℕ) → 1 ≤ h → h ≤ 24 → ofHour moved h ≡ ofHour (node .places) h + when t (rowAt blocks at h)
+  MovedBy t = (h : ℕ) → 1 ≤ h → h ≤ dayHours → ofHour moved h ≡ ofHour (node .places) h + when t (rowAt blocks at h)
 
-  moved-fits : (t : Bool) → MovedBy t → Small ((at + 1) * 50000) moved
+  moved-fits : (t : Bool) → MovedBy t → Small ((at + 1) * mostAdded) moved
   moved-fits t m =
       places-grow at (node .places) moved size (fits .placesFit) (λ h a b.
       omega (arith, m h a b, when-le t (rowAt blocks at h), sized .rowsFit at h))
 
   pub node-taken : (b : ℕ) → b ≡ 2 ^ at → againstAt blocks at < 2 ^ 32 → MovedBy (not (eqb (sideAt blocks at) 0)) →
-      Fits (at + 1) (node .set + b) (node .loss + againstAt blocks at) moved
-      × TakenTo blocks at node record { set = node .set + b; loss = node .loss + againstAt blocks at; places = moved }
+      let r : Node = record { set = node .set + b; loss = node .loss + againstAt blocks at; places = moved } in Fits (at + 1) r × TakenTo blocks at node r
   node-taken b eb small m = (
     record {
       setFits = rw (eb, add-one) (bits-room at (node .set) (fits .setFits) .0);
@@ -371,8 +371,7 @@ module _ (blocks : List ℕ) (at : ℕ) (node : Node) (moved : List ℕ) (sized 
   )
 
   pub node-left : gainAt blocks at < 2 ^ 32 → MovedBy (eqb (sideAt blocks at) 0) →
-      Fits (at + 1) (node .set) (node .loss + gainAt blocks at) moved
-      × LeftTo blocks at node record { set = node .set; loss = node .loss + gainAt blocks at; places = moved }
+      let r : Node = record { set = node .set; loss = node .loss + gainAt blocks at; places = moved } in Fits (at + 1) r × LeftTo blocks at node r
   node-left small m = (
     record {
       setFits = rw add-one (bits-room at (node .set) (fits .setFits) .1);
@@ -384,16 +383,16 @@ module _ (blocks : List ℕ) (at : ℕ) (node : Node) (moved : List ℕ) (sized 
   )
 
 -- the branch with the block taken, and with it left out
-module _ {day : Day} {p rest : ℕ → ℕ} {low gap first last blocks : List ℕ} {count : ℕ} (known : Known day p rest low gap first last blocks count)
-    {d : List Bool} (node r : Node) (branch : Branch day p d (node .set) (node .loss) (node .places)) (room : node .set < 2 ^ length d)
-    (k : length d < count) where
-  S : Shown day p blocks (length d)
+module _ {day : Day} {p rest : ℕ → ℕ} {tables : Tables} (known : Known day p rest tables)
+    {d : List Bool} (node r : Node) (branch : Branch day p d node) (room : node .set < 2 ^ length d)
+    (k : length d < tables .count) where
+  S : Shown day p (tables .blocks) (length d)
   S = known .shown (length d) k
 
   longer : (x : Bool) → length (d ++ (x ∷ [])) ≡ suc (length d)
   longer x = length-append d (x ∷ []) ∙ omega arith
 
-  pub branch-taken : TakenTo blocks (length d) node r → Branch day p (d ++ (true ∷ [])) (r .set) (r .loss) (r .places)
+  pub branch-taken : TakenTo (tables .blocks) (length d) node r → Branch day p (d ++ (true ∷ [])) r
   branch-taken t = record {
     setIs = rw (longer true, t .setIs, bits-taken (length d) (node .set) room, branch .setIs);
     lossIs = t .lossIs ∙ rw (branch .lossIs, ← (S .againstIs)) (sym (losses-taken (day .hours) p (day .blocks) d (S .block) _ (S .next)));
@@ -401,7 +400,7 @@ module _ {day : Day} {p rest : ℕ → ℕ} {low gap first last blocks : List �
         t .placesAre h a b ∙ rw (branch .placesAre h a b, ← (sells-at S h a b)) (sym (place-taken (day .blocks) d (S .block) _ (S .next) h));
   }
 
-  pub branch-left : LeftTo blocks (length d) node r → Branch day p (d ++ (false ∷ [])) (r .set) (r .loss) (r .places)
+  pub branch-left : LeftTo (tables .blocks) (length d) node r → Branch day p (d ++ (false ∷ [])) r
   branch-left t = record {
     setIs = rw (longer false, t .setIs, bits-left (length d) (node .set) room, branch .setIs);
     lossIs = t .lossIs ∙ rw (branch .lossIs, ← (S .gainIs)) (sym (losses-left (day .hours) p (day .blocks) d (S .block) _ (S .next)));
@@ -410,30 +409,30 @@ module _ {day : Day} {p rest : ℕ → ℕ} {low gap first last blocks : List �
   }
 
 -- a set of fewer than 32 blocks and one more fits 32 bits
-pub set-room : (at set b : ℕ) → at < 32 → set < 2 ^ at → b ≡ 2 ^ at → set + b < 2 ^ 32
+pub set-room : (at set b : ℕ) → at < mostBlocks → set < 2 ^ at → b ≡ 2 ^ at → set + b < 2 ^ 32
 set-room at set b k room e = rw e (omega (arith, bits-room at set room, pow-mono {i = suc at} {j = 32} k))
 
 -- LAWFUL SETS at the tables
-module _ {day : Day} {p rest : ℕ → ℕ} {low gap first last blocks : List ℕ} {count : ℕ} (known : Known day p rest low gap first last blocks count) where
+module _ {day : Day} {p rest : ℕ → ℕ} {tables : Tables} (known : Known day p rest tables) where
   -- a lawful set's places are in range
-  pub lawful-place : (s : List Bool) → length s ≡ count →
-      lawful day s ≡ true → (h : ℕ) → 1 ≤ h → h ≤ 24 → (ofHour first h ≤ place (day .blocks) s h) × (place (day .blocks) s h ≤ ofHour last h)
+  pub lawful-place : (s : List Bool) → length s ≡ tables .count →
+      lawful day s ≡ true → (h : ℕ) → 1 ≤ h → h ≤ dayHours → (ofHour (tables .first) h ≤ place (day .blocks) s h) × (place (day .blocks) s h ≤ ofHour (tables .last) h)
   lawful-place s size law h a b =
       let n : length s ≡ length (day .blocks) = size ∙ sym (known .counted) in
       let i = place (day .blocks) s h in
       known .clearsOnly h i a b (place-within (day .blocks) s h n) (lawful-clears day s n (known .prices) (known .hours) law h (counts (day .hours) h a b))
 
   -- and its gaps by the table
-  pub gap-of-lawful : (s : List Bool) → length s ≡ count →
+  pub gap-of-lawful : (s : List Bool) → length s ≡ tables .count →
       lawful day s ≡ true → (h : ℕ) → Counts (day .hours) h →
-      slack (p h) (hourOf day (taken (day .blocks) s) h) ≡ cell gap h (place (day .blocks) s h) + rest h
+      slack (p h) (hourOf day (taken (day .blocks) s) h) ≡ cell (tables .gaps) h (place (day .blocks) s h) + rest h
   gap-of-lawful s size law h c =
       let r = lawful-place s size law h (c .first) (c .last) in
       slack-at-place day s (size ∙ sym (known .counted)) h (p h)
       ∙ known .gapIs h (place (day .blocks) s h) (c .first) (c .last) (r .0) (r .1)
 
   -- what the tables leave off is no more
-  pub rest-below : (s : List Bool) → length s ≡ count →
+  pub rest-below : (s : List Bool) → length s ≡ tables .count →
       lawful day s ≡ true → (h : ℕ) → Counts (day .hours) h → rest h ≤ slack (p h) (hourOf day (taken (day .blocks) s) h)
   rest-below s size law h c = omega (arith, gap-of-lawful s size law h c)
 
@@ -454,35 +453,35 @@ out-not day p rest d left limit out pos f is t l law = elim (native.Mathlib.Deci
 ]
 
 -- TWINS
-decided-bit : {day : Day} {p : ℕ → ℕ} {d : List Bool} {set loss : ℕ} {places : List ℕ} → Branch day p d set loss places → (a : ℕ) → a < length d →
-    getD d a false ≡ eqb (set / 2 ^ a % 2) 1
-decided-bit {d = d} {set} branch a k = rw (← (branch .setIs)) (bits-at (length d) set a k)
+decided-bit : {day : Day} {p : ℕ → ℕ} {d : List Bool} {node : Node} → Branch day p d node → (a : ℕ) → a < length d →
+    getD d a false ≡ eqb (node .set / 2 ^ a % 2) 1
+decided-bit {d = d} {node} branch a k = rw (← (branch .setIs)) (bits-at (length d) (node .set) a k)
 
 -- a block is in no completion that counts: a twin that is taken before it is left out, or it is out
-barred-not : {day : Day} {p rest : ℕ → ℕ} {low gap first last blocks : List ℕ} {count : ℕ} → Known day p rest low gap first last blocks count →
-    {d : List Bool} {set loss : ℕ} {places : List ℕ} → Branch day p d set loss places → length d < count → isBarred blocks (length d) set ≡ true → (t : List Bool) → InTurn day p (d ++ (true ∷ t)) → ⊥
+barred-not : {day : Day} {p rest : ℕ → ℕ} {tables : Tables} → Known day p rest tables →
+    {d : List Bool} {node : Node} → Branch day p d node → length d < tables .count → isBarred (tables .blocks) (length d) (node .set) ≡ true → (t : List Bool) → InTurn day p (d ++ (true ∷ t)) → ⊥
 unfolding isBarred
-barred-not {day} {p} {blocks = blocks} known {d} {set} branch k barred t kept =
-    let tests = both (not (eqb (aheadAt blocks (length d)) 0)) (eqb (set / 2 ^ (aheadAt blocks (length d) - 1) % 2) 0) barred in
-    let some = eqb-false (aheadAt blocks (length d)) 0 (not-true _ (tests .0)) in
-    let is : aheadAt blocks (length d) ≡ suc (aheadAt blocks (length d) - 1) = omega arith in
-    let twin = known .ahead (length d) (aheadAt blocks (length d) - 1) k is in
-    let zero-bit = eqb-true (set / 2 ^ (aheadAt blocks (length d) - 1) % 2) 0 (tests .1) in
-    let without : getD d (aheadAt blocks (length d) - 1) false ≡ false =
-    decided-bit branch (aheadAt blocks (length d) - 1) (twin .0) ∙ ne-eqb (set / 2 ^ (aheadAt blocks (length d) - 1) % 2) 1 (λ e. omega arith) in
-    turn-left day p d (aheadAt blocks (length d) - 1) (twin .0) (twin .1) without t kept
+barred-not {day} {p} {tables = tables} known {d} {node} branch k barred t kept =
+    let tests = both (not (eqb (aheadAt (tables .blocks) (length d)) 0)) (eqb (node .set / 2 ^ (aheadAt (tables .blocks) (length d) - 1) % 2) 0) barred in
+    let some = eqb-false (aheadAt (tables .blocks) (length d)) 0 (not-true _ (tests .0)) in
+    let is : aheadAt (tables .blocks) (length d) ≡ suc (aheadAt (tables .blocks) (length d) - 1) = omega arith in
+    let twin = known .ahead (length d) (aheadAt (tables .blocks) (length d) - 1) k is in
+    let zero-bit = eqb-true (node .set / 2 ^ (aheadAt (tables .blocks) (length d) - 1) % 2) 0 (tests .1) in
+    let without : getD d (aheadAt (tables .blocks) (length d) - 1) false ≡ false =
+    decided-bit branch (aheadAt (tables .blocks) (length d) - 1) (twin .0) ∙ ne-eqb (node .set / 2 ^ (aheadAt (tables .blocks) (length d) - 1) % 2) 1 (λ e. omega arith) in
+    turn-left day p d (aheadAt (tables .blocks) (length d) - 1) (twin .0) (twin .1) without t kept
 
 -- A BRANCH, one law for each way out
-module _ {low gap first last turn blocks : List ℕ} {count : ℕ} where
+module _ {tables : Tables} where
   -- the branch is dropped
-  pub explored-dropped : {steps : ℕ → List Step} {left out : ℕ} {node : Node} {best : Best} → DroppedFrom low gap first last turn blocks count left out node (best .limit) →
-      ExploredFrom low gap first last turn blocks steps count left out node best best
+  pub explored-dropped : {steps : ℕ → List Step} {left out : ℕ} {node : Node} {best : Best} → DroppedFrom tables left out node (best .limit) →
+      ExploredFrom tables steps left out node best best
   explored-dropped dropped day p rest d same at = as-it-was (λ t l law. dropped day p rest d t at l law)
 
   -- the branch is judged: what is out of it then
   pub explored-judged : {steps : ℕ → List Step} {left out r-out : ℕ} {node : Node} {best r : Best} {isDropped : Bool} → isDropped ≡ false →
-      JudgedFrom low gap first last turn blocks count left out node (best .limit) isDropped r-out →
-      ExploredFrom low gap first last turn blocks steps count left r-out node best r → ExploredFrom low gap first last turn blocks steps count left out node best r
+      JudgedFrom tables left out node (best .limit) isDropped r-out →
+      ExploredFrom tables steps left r-out node best r → ExploredFrom tables steps left out node best r
   explored-judged e judged f day p rest d same at =
       f day p rest d same record {
         known = at .known;
@@ -493,25 +492,25 @@ module _ {low gap first last turn blocks : List ℕ} {count : ℕ} where
       }
 
   -- no block is left
-  pub explored-decided : {steps : ℕ → List Step} {left out : ℕ} {node : Node} {best r : Best} → left ≡ 0 → node .set < 2 ^ count →
-      Decided low gap first last blocks steps count (node .set) (node .loss) (node .places) best r →
-      ExploredFrom low gap first last turn blocks steps count left out node best r
+  pub explored-decided : {steps : ℕ → List Step} {left out : ℕ} {node : Node} {best r : Best} → left ≡ 0 → node .set < 2 ^ tables .count →
+      Decided tables steps node best r →
+      ExploredFrom tables steps left out node best r
   explored-decided e room f day p rest d same at =
       rw e (f day p rest d same (at .known) (at .branch) (omega (arith, at .size)) room)
 
-  module _ {left out : ℕ} {node : Node} {limit : ℕ} (pos : 0 < left) (le : left ≤ count) (room : node .set < 2 ^ (count - left))
-      {day : Day} {p rest : ℕ → ℕ} {d : List Bool} (here : At low gap first last turn blocks count left node limit out day p rest d) where
-    at-is : count - left ≡ length d
+  module _ {left out : ℕ} {node : Node} {limit : ℕ} (pos : 0 < left) (le : left ≤ tables .count) (room : node .set < 2 ^ (tables .count - left))
+      {day : Day} {p rest : ℕ → ℕ} {d : List Bool} (here : At tables left node limit out day p rest d) where
+    at-is : tables .count - left ≡ length d
     at-is = omega (arith, here .size)
 
-    one-more : length d < count
+    one-more : length d < tables .count
     one-more = omega (arith, here .size)
 
     room-here : node .set < 2 ^ length d
     room-here = rw (← at-is) room
 
-    pub at-taken : {r : Node} (less : ℕ) → TakenTo blocks (count - left) node r → less ≤ limit →
-        At low gap first last turn blocks count (left - 1) r less (out / 2) day p rest (d ++ (true ∷ []))
+    pub at-taken : {r : Node} (less : ℕ) → TakenTo (tables .blocks) (tables .count - left) node r → less ≤ limit →
+        At tables (left - 1) r less (out / 2) day p rest (d ++ (true ∷ []))
     at-taken {r} less t small = record {
       known = here .known;
       turning = here .turning;
@@ -520,8 +519,8 @@ module _ {low gap first last turn blocks : List ℕ} {count : ℕ} where
       outOf = out-next day p rest d true left limit less out pos small (here .outOf);
     }
 
-    pub at-left : {r : Node} (less : ℕ) → LeftTo blocks (count - left) node r → less ≤ limit →
-        At low gap first last turn blocks count (left - 1) r less (out / 2) day p rest (d ++ (false ∷ []))
+    pub at-left : {r : Node} (less : ℕ) → LeftTo (tables .blocks) (tables .count - left) node r → less ≤ limit →
+        At tables (left - 1) r less (out / 2) day p rest (d ++ (false ∷ []))
     at-left {r} less t small = record {
       known = here .known;
       turning = here .turning;
@@ -531,11 +530,11 @@ module _ {low gap first last turn blocks : List ℕ} {count : ℕ} where
     }
 
   -- a block is taken and then left out
-  pub explored-both : {steps : ℕ → List Step} {left out : ℕ} {node taken-node left-node : Node} {best m r : Best} → 0 < left → left ≤ count →
-      node .set < 2 ^ (count - left) → TakenTo blocks (count - left) node taken-node → LeftTo blocks (count - left) node left-node →
-      ExploredFrom low gap first last turn blocks steps count (left - 1) (out / 2) taken-node best m →
-      ExploredFrom low gap first last turn blocks steps count (left - 1) (out / 2) left-node m r →
-      ExploredFrom low gap first last turn blocks steps count left out node best r
+  pub explored-both : {steps : ℕ → List Step} {left out : ℕ} {node taken-node left-node : Node} {best m r : Best} → 0 < left → left ≤ tables .count →
+      node .set < 2 ^ (tables .count - left) → TakenTo (tables .blocks) (tables .count - left) node taken-node → LeftTo (tables .blocks) (tables .count - left) node left-node →
+      ExploredFrom tables steps (left - 1) (out / 2) taken-node best m →
+      ExploredFrom tables steps (left - 1) (out / 2) left-node m r →
+      ExploredFrom tables steps left out node best r
   explored-both {left = left} {best = best} {m} {r} pos le room t l f g day p rest d same at =
       let a = f day p rest (d ++ (true ∷ [])) same (at-taken pos le room at (best .limit) t (omega arith)) in
       let lower₁ : m .limit ≤ best .limit = a .explored .noMore in
@@ -549,22 +548,22 @@ module _ {low gap first last turn blocks : List ℕ} {count : ℕ} where
       }
     where
       by-which : {day : Day} {p rest : ℕ → ℕ} {dt dl : List Bool} → r .limit < best .limit →
-          Outcome day p rest count (left - 1) dt best m → Outcome day p rest count (left - 1) dl m r → r .limit ≤ m .limit →
-          (r .limit ≡ m .limit) ⊎ (r .limit < m .limit) → (r .set < 2 ^ count) × DayOf day (decisions count (r .set)) (r .day)
+          Outcome day p rest (tables .count) (left - 1) dt best m → Outcome day p rest (tables .count) (left - 1) dl m r → r .limit ≤ m .limit →
+          (r .limit ≡ m .limit) ⊎ (r .limit < m .limit) → (r .set < 2 ^ tables .count) × DayOf day (decisions (tables .count) (r .set)) (r .day)
       by-which less a b le (inl e) = rw (b .same e) (a .found (omega arith))
       by-which less a b le (inr e) = b .found e
 
-  pub explored-left : {steps : ℕ → List Step} {left out : ℕ} {node left-node : Node} {best r : Best} → 0 < left → left ≤ count → node .set < 2 ^ (count - left) →
-      (isOut out 0 || isBarred blocks (count - left) (node .set)) ≡ true → LeftTo blocks (count - left) node left-node →
-      ExploredFrom low gap first last turn blocks steps count (left - 1) (out / 2) left-node best r →
-      ExploredFrom low gap first last turn blocks steps count left out node best r
+  pub explored-left : {steps : ℕ → List Step} {left out : ℕ} {node left-node : Node} {best r : Best} → 0 < left → left ≤ tables .count → node .set < 2 ^ (tables .count - left) →
+      (isOut out 0 || isBarred (tables .blocks) (tables .count - left) (node .set)) ≡ true → LeftTo (tables .blocks) (tables .count - left) node left-node →
+      ExploredFrom tables steps (left - 1) (out / 2) left-node best r →
+      ExploredFrom tables steps left out node best r
   explored-left {left = left} {out} {node} {best = best} pos le room barred l g day p rest d same at =
-      let here : count - left ≡ length d = omega (arith, at .size) in
+      let here : tables .count - left ≡ length d = omega (arith, at .size) in
       let b = g day p rest (d ++ (false ∷ [])) same (at-left pos le room at (best .limit) l (omega arith)) in
       let one : suc (left - 1) ≡ left = omega arith in
       record {
         explored = rw one at (by-loss.only-left day (InTurn day p) (lossAbove day p rest) (left - 1) d _ _
-            (λ t lt law kept. by-test (λ u. (u || isBarred blocks (length d) (node .set)) ≡ true → isOut out 0 ≡ u → best .limit ≤ lossAbove day p rest (d ++ (true ∷ t))) (isOut out 0)
+            (λ t lt law kept. by-test (λ u. (u || isBarred (tables .blocks) (length d) (node .set)) ≡ true → isOut out 0 ≡ u → best .limit ≤ lossAbove day p rest (d ++ (true ∷ t))) (isOut out 0)
             (λ is _ _. out-not day p rest d left (best .limit) out pos (at .outOf) is t lt law)
             (λ _ is _. absurd (barred-not (at .known) (at .branch) (omega (arith, at .size)) is t kept))
             (rw here at barred) refl)
@@ -573,27 +572,27 @@ module _ {low gap first last turn blocks : List ℕ} {count : ℕ} where
         found = b .found;
       }
 
-  pub explored-taken : {steps : ℕ → List Step} {left out : ℕ} {node taken-node : Node} {best r : Best} → 0 < left → left ≤ count → node .set < 2 ^ (count - left) →
-      isDue blocks (count - left) (node .set) ≡ true → TakenTo blocks (count - left) node taken-node →
-      ExploredFrom low gap first last turn blocks steps count (left - 1) (out / 2) taken-node best r →
-      ExploredFrom low gap first last turn blocks steps count left out node best r
+  pub explored-taken : {steps : ℕ → List Step} {left out : ℕ} {node taken-node : Node} {best r : Best} → 0 < left → left ≤ tables .count → node .set < 2 ^ (tables .count - left) →
+      isDue (tables .blocks) (tables .count - left) (node .set) ≡ true → TakenTo (tables .blocks) (tables .count - left) node taken-node →
+      ExploredFrom tables steps (left - 1) (out / 2) taken-node best r →
+      ExploredFrom tables steps left out node best r
   unfolding isDue
   explored-taken {left = left} {node = node} {best = best} pos le room due t f day p rest d same at =
-      let here : count - left ≡ length d = omega (arith, at .size) in
-      let k : length d < count = omega (arith, at .size) in
+      let here : tables .count - left ≡ length d = omega (arith, at .size) in
+      let k : length d < tables .count = omega (arith, at .size) in
       let known = at .known in
       let branch = at .branch in
       let b = f day p rest (d ++ (true ∷ [])) same (at-taken pos le room at (best .limit) t (omega arith)) in
       let one : suc (left - 1) ≡ left = omega arith in
-      let tests = both (not (eqb (behindAt blocks (length d)) 0)) (eqb (node .set / 2 ^ (behindAt blocks (length d) - 1) % 2) 1) (rw here at due) in
-      let some = eqb-false (behindAt blocks (length d)) 0 (not-true _ (tests .0)) in
-      let is : behindAt blocks (length d) ≡ suc (behindAt blocks (length d) - 1) = omega arith in
-      let twin = known .behind (length d) (behindAt blocks (length d) - 1) k is in
-      let inside : getD d (behindAt blocks (length d) - 1) false ≡ true =
-      decided-bit branch (behindAt blocks (length d) - 1) (twin .0) ∙ tests .1 in
+      let tests = both (not (eqb (behindAt (tables .blocks) (length d)) 0)) (eqb (node .set / 2 ^ (behindAt (tables .blocks) (length d) - 1) % 2) 1) (rw here at due) in
+      let some = eqb-false (behindAt (tables .blocks) (length d)) 0 (not-true _ (tests .0)) in
+      let is : behindAt (tables .blocks) (length d) ≡ suc (behindAt (tables .blocks) (length d) - 1) = omega arith in
+      let twin = known .behind (length d) (behindAt (tables .blocks) (length d) - 1) k is in
+      let inside : getD d (behindAt (tables .blocks) (length d) - 1) false ≡ true =
+      decided-bit branch (behindAt (tables .blocks) (length d) - 1) (twin .0) ∙ tests .1 in
       record {
         explored = rw one at (by-loss.only-taken day (InTurn day p) (lossAbove day p rest) (left - 1) d _ _
-            (λ s _ _ kept. turn-taken day p d (behindAt blocks (length d) - 1) (twin .0) (twin .1) inside s kept) (b .explored));
+            (λ s _ _ kept. turn-taken day p d (behindAt (tables .blocks) (length d) - 1) (twin .0) (twin .1) inside s kept) (b .explored));
         same = b .same;
         found = b .found;
       }

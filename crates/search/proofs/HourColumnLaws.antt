@@ -10,6 +10,8 @@ use lib.Dec.{eqb}
 use lib.ListN.{length, getD, set, length-set}
 use lib.Seq.{getD-set-same, getD-set-other}
 use lib.Pow.{shr-shr}
+use Rattle.search.specs.Layout.{dayHours, mostLimit}
+use Rattle.rules.specs.Orders.{maxPrice}
 use Rattle.rules.specs.Hour.{when}
 use Rattle.rules.specs.Day.{sumTo}
 use Rattle.rules.proofs.Tests.{by-eq}
@@ -37,16 +39,16 @@ hour-bit hours h = rw sub-one
 -- A QUANTITY ADDED in each hour of a block
 pub record MovedTo (places : List ℕ) (hours quantity h rest : ℕ) (r : List ℕ) : Type 0 where
   pub bits : rest ≡ hours / 2 ^ h
-  pub size : length r ≡ 24
-  pub inside : h ≤ 24
+  pub size : length r ≡ dayHours
+  pub inside : h ≤ dayHours
   pub done : (k : ℕ) → k < h → getD r k 0 ≡ getD places k 0 + when (holdsHour hours (suc k)) quantity
   pub ahead : (k : ℕ) → h ≤ k → getD r k 0 ≡ getD places k 0
 
-pub moved-start : (places : List ℕ) (hours quantity : ℕ) → length places ≡ 24 → MovedTo places hours quantity 0 hours places
+pub moved-start : (places : List ℕ) (hours quantity : ℕ) → length places ≡ dayHours → MovedTo places hours quantity 0 hours places
 moved-start places hours quantity e =
     record { bits = sym (div-one hours); size = e; inside = omega arith; done = λ k a. absurd (omega arith); ahead = λ k a. refl }
 
-pub moved-next : (places : List ℕ) (hours quantity h rest : ℕ) (r : List ℕ) → MovedTo places hours quantity h rest r → h < 24 →
+pub moved-next : (places : List ℕ) (hours quantity h rest : ℕ) (r : List ℕ) → MovedTo places hours quantity h rest r → h < dayHours →
     MovedTo places hours quantity (h + 1) (rest / 2) (set r h (getD r h 0 + rest % 2 * quantity))
 moved-next places hours quantity h rest r m k =
     let inside : h < length r = omega (arith, m .size) in
@@ -65,8 +67,8 @@ moved-next places hours quantity h rest r m k =
         let e : j ≡ h = omega arith in
         rw (e, getD-set-same r h _ 0 i, m .ahead h (omega arith), bit-times rest quantity, m .bits, hour-bit hours h)
 
-pub moved-all : (places : List ℕ) (hours quantity h rest : ℕ) (r : List ℕ) → MovedTo places hours quantity h rest r → 24 ≤ h →
-    (k : ℕ) → 1 ≤ k → k ≤ 24 → getD r (k - 1) 0 ≡ getD places (k - 1) 0 + when (holdsHour hours k) quantity
+pub moved-all : (places : List ℕ) (hours quantity h rest : ℕ) (r : List ℕ) → MovedTo places hours quantity h rest r → dayHours ≤ h →
+    (k : ℕ) → 1 ≤ k → k ≤ dayHours → getD r (k - 1) 0 ≡ getD places (k - 1) 0 + when (holdsHour hours k) quantity
 moved-all places hours quantity h rest r m e k a b =
     let t = m .done (k - 1) (omega (arith, m .inside)) in
     let one : suc (k - 1) ≡ k = omega arith in
@@ -75,15 +77,15 @@ moved-all places hours quantity h rest r m e k a b =
 -- A SUM OVER THE HOURS of a block
 pub record SummedTo (column : List ℕ) (hours h rest sum : ℕ) : Type 0 where
   pub bits : rest ≡ hours / 2 ^ h
-  pub inside : h ≤ 24
+  pub inside : h ≤ dayHours
   pub is : sum ≡ sumTo h (λ k. when (holdsHour hours k) (getD column (k - 1) 0))
-  pub fits : sum ≤ h * 300000
+  pub fits : sum ≤ h * maxPrice
 
 pub sum-start : (column : List ℕ) (hours : ℕ) → SummedTo column hours 0 hours 0
 unfolding sumTo
 sum-start column hours = record { bits = sym (div-one hours); inside = omega arith; is = refl; fits = omega arith }
 
-pub sum-next : (column : List ℕ) (hours h rest sum : ℕ) → Small 300000 column → SummedTo column hours h rest sum → h < 24 →
+pub sum-next : (column : List ℕ) (hours h rest sum : ℕ) → Small maxPrice column → SummedTo column hours h rest sum → h < dayHours →
     SummedTo column hours (h + 1) (rest / 2) (sum + rest % 2 * getD column h 0)
 unfolding sumTo
 sum-next column hours h rest sum small m k =
@@ -96,8 +98,8 @@ sum-next column hours h rest sum small m k =
       fits = omega (arith, m .fits, small h, when-le (holdsHour hours (suc h)) (getD column h 0));
     }
 
-pub sum-all : (column : List ℕ) (hours h rest sum : ℕ) → SummedTo column hours h rest sum → 24 ≤ h → (sum ≡ sumOfHours column hours) × (sum ≤ 7200000)
+pub sum-all : (column : List ℕ) (hours h rest sum : ℕ) → SummedTo column hours h rest sum → dayHours ≤ h → (sum ≡ sumOfHours column hours) × (sum ≤ mostLimit)
 unfolding sumOfHours
 sum-all column hours h rest sum m k =
-    let e : h ≡ 24 = omega (arith, m .inside) in
+    let e : h ≡ dayHours = omega (arith, m .inside) in
     (rw (m .is, e), omega (arith, m .fits))

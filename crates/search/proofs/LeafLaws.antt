@@ -11,7 +11,8 @@ use lib.Dec.{eqb, leb, ltb}
 use lib.ListN.{length, getD, set, length-set, replicate}
 use lib.Seq.{getD-set-same, getD-set-other}
 use borrow.Author.Tests.{ltb-false, le-ltb, eq-eqb, ne-eqb}
-use Rattle.rules.specs.Orders.{sell}
+use Rattle.search.specs.Layout.{blockRows, dayHours, lastPlace, mostAdded, rowSize}
+use Rattle.rules.specs.Orders.{sell, maxPrice}
 use Rattle.rules.specs.Hour.{when}
 use Rattle.rules.specs.Day.{sumTo}
 use Rattle.orders.specs.Columns.{sideFor}
@@ -38,7 +39,7 @@ module _ (gap first last places : List ℕ) where
   At k = (getD first k 0 ≤ getD places k 0) × (getD places k 0 ≤ getD last k 0)
 
   pub record GapsTo (h sum : ℕ) : Type 0 where
-    pub inside : h ≤ 24
+    pub inside : h ≤ dayHours
     pub ranges : (k : ℕ) → k < h → At k
     pub is : sum ≡ sumTo h (λ k. cell gap k (ofHour places k))
     pub fits : sum ≤ h * 2 ^ 32
@@ -47,8 +48,8 @@ module _ (gap first last places : List ℕ) where
   unfolding sumTo
   gaps-start = record { inside = omega arith; ranges = λ k a. absurd (omega arith); is = refl; fits = omega arith }
 
-  pub gaps-next : (h sum : ℕ) → GapsTo h sum → h < 24 → (ltb (getD places h 0) (getD first h 0) || ltb (getD last h 0) (getD places h 0)) ≡ false →
-      getD gap (h * 1602 + getD places h 0) 0 < 2 ^ 32 → GapsTo (h + 1) (sum + getD gap (h * 1602 + getD places h 0) 0)
+  pub gaps-next : (h sum : ℕ) → GapsTo h sum → h < dayHours → (ltb (getD places h 0) (getD first h 0) || ltb (getD last h 0) (getD places h 0)) ≡ false →
+      getD gap (h * rowSize + getD places h 0) 0 < 2 ^ 32 → GapsTo (h + 1) (sum + getD gap (h * rowSize + getD places h 0) 0)
   unfolding sumTo
   gaps-next h sum g k t small =
       let here : At h = (
@@ -62,11 +63,11 @@ module _ (gap first last places : List ℕ) where
         fits = omega (arith, g .fits);
       }
 
-  pub place-fits : (h : ℕ) → Small 1600 last → (ltb (getD places h 0) (getD first h 0) || ltb (getD last h 0) (getD places h 0)) ≡ false →
-      getD places h 0 ≤ 1600
+  pub place-fits : (h : ℕ) → Small lastPlace last → (ltb (getD places h 0) (getD first h 0) || ltb (getD last h 0) (getD places h 0)) ≡ false →
+      getD places h 0 ≤ lastPlace
   place-fits h small t = omega (arith, ltb-false (getD last h 0) (getD places h 0) (or-right (ltb (getD places h 0) (getD first h 0)) _ t), small h)
 
-  pub gaps-out : (h : ℕ) → h < 24 → (ltb (getD places h 0) (getD first h 0) || ltb (getD last h 0) (getD places h 0)) ≡ true →
+  pub gaps-out : (h : ℕ) → h < dayHours → (ltb (getD places h 0) (getD first h 0) || ltb (getD last h 0) (getD places h 0)) ≡ true →
       GapsOf gap first last places false 0
   gaps-out h k t = record {
     inRange = λ e. let z : _≡_ {A = ℕ} 0 1 = cc in absurd (omega arith);
@@ -77,9 +78,9 @@ module _ (gap first last places : List ℕ) where
     fits = omega arith;
   }
 
-  pub gaps-all : (h sum : ℕ) → GapsTo h sum → 24 ≤ h → GapsOf gap first last places true sum
+  pub gaps-all : (h sum : ℕ) → GapsTo h sum → dayHours ≤ h → GapsOf gap first last places true sum
   gaps-all h sum g k =
-      let e : h ≡ 24 = omega (arith, g .inside) in
+      let e : h ≡ dayHours = omega (arith, g .inside) in
       record {
         inRange = λ _ j a b. g .ranges (j - 1) (omega arith);
         notInRange = λ z. let w : _≡_ {A = ℕ} 0 1 = cc in absurd (omega arith);
@@ -93,20 +94,20 @@ zeros zero k = refl
 zeros (suc n) zero = refl
 zeros (suc n) (suc k) = zeros n k
 
-module _ (low places : List ℕ) where
+module _ (unitPrices places : List ℕ) where
   abbrev priceHere : ℕ → ℕ
-  priceHere k = (getD low (k * 1602 + getD places k 0) 0 + getD low (k * 1602 + getD places k 0 + 1) 0) / 2
+  priceHere k = (getD unitPrices (k * rowSize + getD places k 0) 0 + getD unitPrices (k * rowSize + getD places k 0 + 1) 0) / 2
 
   pub record PricesTo (h : ℕ) (prices : List ℕ) : Type 0 where
-    pub inside : h ≤ 24
-    pub size : length prices ≡ 24
+    pub inside : h ≤ dayHours
+    pub size : length prices ≡ dayHours
     pub done : (k : ℕ) → k < h → getD prices k 0 ≡ priceHere k
     pub ahead : (k : ℕ) → h ≤ k → getD prices k 0 ≡ 0
 
-  pub prices-start : PricesTo 0 (replicate 24 0)
-  prices-start = record { inside = omega arith; size = refl; done = λ k a. absurd (omega arith); ahead = λ k a. zeros 24 k }
+  pub prices-start : PricesTo 0 (replicate dayHours 0)
+  prices-start = record { inside = omega arith; size = refl; done = λ k a. absurd (omega arith); ahead = λ k a. zeros dayHours k }
 
-  pub prices-next : (h : ℕ) (prices : List ℕ) → PricesTo h prices → h < 24 → PricesTo (h + 1) (set prices h (priceHere h))
+  pub prices-next : (h : ℕ) (prices : List ℕ) → PricesTo h prices → h < dayHours → PricesTo (h + 1) (set prices h (priceHere h))
   prices-next h prices g k =
       let inside : h < length prices = omega (arith, g .size) in
       record {
@@ -117,24 +118,24 @@ module _ (low places : List ℕ) where
         ahead = λ j a. getD-set-other prices h j _ 0 (omega arith) ∙ g .ahead j (omega arith);
       }
 
-  pub prices-all : (h : ℕ) (prices : List ℕ) → PricesTo h prices → 24 ≤ h → Small 300000 low → PricesOf low places prices
+  pub prices-all : (h : ℕ) (prices : List ℕ) → PricesTo h prices → dayHours ≤ h → Small maxPrice unitPrices → PricesOf unitPrices places prices
   prices-all h prices g k small =
-      let e : h ≡ 24 = omega (arith, g .inside) in
+      let e : h ≡ dayHours = omega (arith, g .inside) in
       record {
         are = λ j a b.
-            let at : (j - 1) * 1602 + (ofHour places j + 1) ≡ (j - 1) * 1602 + ofHour places j + 1 = omega arith in
+            let at : (j - 1) * rowSize + (ofHour places j + 1) ≡ (j - 1) * rowSize + ofHour places j + 1 = omega arith in
             rw at (g .done (j - 1) (omega arith));
-        small = λ i. fits i (native.Mathlib.Decide.decLe 24 i);
+        small = λ i. fits i (native.Mathlib.Decide.decLe dayHours i);
       }
     where
-      fits : (i : ℕ) → Dec (24 ≤ i) → getD prices i 0 ≤ 300000
+      fits : (i : ℕ) → Dec (dayHours ≤ i) → getD prices i 0 ≤ maxPrice
       fits i (yes a) = omega (arith, g .ahead i (omega (arith, g .inside)))
       fits i (no a) =
           omega (
             arith,
             g .done i (omega (arith, native.Mathlib.Nat.lt-of-not-le a)),
-            small (i * 1602 + getD places i 0),
-            small (i * 1602 + getD places i 0 + 1),
+            small (i * rowSize + getD places i 0),
+            small (i * rowSize + getD places i 0 + 1),
           )
 
 -- LIMITS
@@ -164,21 +165,21 @@ module _ (blocks : List ℕ) (chosen : ℕ) (high low : List ℕ) where
     keep-skips c = rw (keep-more i k, ne-eqb _ 1 c)
 
 -- places in range are small
-pub places-small : (first last places : List ℕ) → InRange first last places → Small 1600 last → length places ≡ 24 → Small 1600 places
-places-small first last places r small e i = at (native.Mathlib.Decide.decLe 24 i)
+pub places-small : (first last places : List ℕ) → InRange first last places → Small lastPlace last → length places ≡ dayHours → Small lastPlace places
+places-small first last places r small e i = at (native.Mathlib.Decide.decLe dayHours i)
   where
-    at : Dec (24 ≤ i) → getD places i 0 ≤ 1600
+    at : Dec (dayHours ≤ i) → getD places i 0 ≤ lastPlace
     at (yes k) = let z : length places ≤ i = omega arith in rw (lib.ListN.List·getD-eq-default places 0 z) (omega arith)
     at (no k) =
         let a = rw sub-one at (r (suc i) (omega arith) (omega (arith, native.Mathlib.Nat.lt-of-not-le k))) in
         omega (arith, a .1, small i)
 
 -- places that grow by at most a block's quantity
-pub places-grow : (n : ℕ) (places r : List ℕ) → length r ≡ 24 → Small (n * 50000) places →
-    ((h : ℕ) → 1 ≤ h → h ≤ 24 → ofHour r h ≤ ofHour places h + 50000) → Small ((n + 1) * 50000) r
-places-grow n places r e small f i = at (native.Mathlib.Decide.decLe 24 i)
+pub places-grow : (n : ℕ) (places r : List ℕ) → length r ≡ dayHours → Small (n * mostAdded) places →
+    ((h : ℕ) → 1 ≤ h → h ≤ dayHours → ofHour r h ≤ ofHour places h + mostAdded) → Small ((n + 1) * mostAdded) r
+places-grow n places r e small f i = at (native.Mathlib.Decide.decLe dayHours i)
   where
-    at : Dec (24 ≤ i) → getD r i 0 ≤ (n + 1) * 50000
+    at : Dec (dayHours ≤ i) → getD r i 0 ≤ (n + 1) * mostAdded
     at (yes k) = let z : length r ≤ i = omega arith in rw (lib.ListN.List·getD-eq-default r 0 z) (omega arith)
     at (no k) =
         let a = rw sub-one at (f (suc i) (omega arith) (omega (arith, native.Mathlib.Nat.lt-of-not-le k))) in
@@ -195,28 +196,28 @@ times-le false n x e = rw e (omega arith)
 
 module _ (places blocks : List ℕ) (i times : ℕ) where
   pub record RowTo (h : ℕ) (r : List ℕ) : Type 0 where
-    pub inside : h ≤ 24
-    pub size : length r ≡ 24
-    pub done : (k : ℕ) → k < h → getD r k 0 ≡ getD places k 0 + times * getD blocks (256 + 24 * i + k) 0
+    pub inside : h ≤ dayHours
+    pub size : length r ≡ dayHours
+    pub done : (k : ℕ) → k < h → getD r k 0 ≡ getD places k 0 + times * getD blocks (blockRows + dayHours * i + k) 0
     pub ahead : (k : ℕ) → h ≤ k → getD r k 0 ≡ getD places k 0
 
-  pub row-start : length places ≡ 24 → RowTo 0 places
+  pub row-start : length places ≡ dayHours → RowTo 0 places
   row-start e = record { inside = omega arith; size = e; done = λ k a. absurd (omega arith); ahead = λ k a. refl }
 
-  pub row-next : (h : ℕ) (r : List ℕ) → RowTo h r → h < 24 → RowTo (h + 1) (set r h (getD r h 0 + times * getD blocks (256 + 24 * i + h) 0))
+  pub row-next : (h : ℕ) (r : List ℕ) → RowTo h r → h < dayHours → RowTo (h + 1) (set r h (getD r h 0 + times * getD blocks (blockRows + dayHours * i + h) 0))
   row-next h r g k =
       let inside : h < length r = omega (arith, g .size) in
-      let v = getD r h 0 + times * getD blocks (256 + 24 * i + h) 0 in
+      let v = getD r h 0 + times * getD blocks (blockRows + dayHours * i + h) 0 in
       record {
         inside = omega arith;
         size = rw length-set (g .size);
-        done = λ j a. below-next (λ n. getD (set r h v) n 0 ≡ getD places n 0 + times * getD blocks (256 + 24 * i + n) 0) h j
+        done = λ j a. below-next (λ n. getD (set r h v) n 0 ≡ getD places n 0 + times * getD blocks (blockRows + dayHours * i + n) 0) h j
             (λ b. getD-set-other r h j v 0 (omega arith) ∙ g .done j b)
             (getD-set-same r h v 0 inside ∙ rw (g .ahead h (omega arith))) (rw add-one at a);
         ahead = λ j a. getD-set-other r h j v 0 (omega arith) ∙ g .ahead j (omega arith);
       }
 
-  pub row-all : (test : Bool) → times ≡ cond test 1 0 → (h : ℕ) (r : List ℕ) → RowTo h r → 24 ≤ h → (k : ℕ) → 1 ≤ k → k ≤ 24 →
+  pub row-all : (test : Bool) → times ≡ cond test 1 0 → (h : ℕ) (r : List ℕ) → RowTo h r → dayHours ≤ h → (k : ℕ) → 1 ≤ k → k ≤ dayHours →
       getD r (k - 1) 0 ≡ getD places (k - 1) 0 + when test (rowAt blocks i k)
   row-all test t h r g e k a b = g .done (k - 1) (omega (arith, g .inside)) ∙ rw (t, times-when test (rowAt blocks i k))
 

@@ -6,6 +6,7 @@ use mathlib.Core.Bool.{false}
 use native.Mathlib.Omega.{arith}
 use lib.ListN.{length, drop, getD, replicate, length-replicate}
 use lib.Pow.{shr-le, pow-pos}
+use Rattle.search.specs.Layout.{dayHours, gainColumn, lastLimit, mostBlocks, rowSize}
 use Rattle.rules.specs.Orders.{Step, Block}
 use Rattle.rules.specs.Day.{Day, daySum, sumTo, taken, decisions, overBlocks, hourOf}
 use Rattle.rules.specs.Outcome.{outcome}
@@ -18,6 +19,7 @@ use Rattle.rules.proofs.LossSearchLaws as by-loss
 use Rattle.rules.proofs.TwinLaws.{InTurn, outcome-in-turn}
 use Rattle.rules.proofs.PlaceLaws.{place, place-none}
 use Rattle.search.specs.Search.{cell, isOut}
+use Rattle.search.specs.Tables.{Tables}
 use Rattle.search.specs.Meaning.{Fits, Known, Turning, Branch, lossAbove, bestAs, DayOf, StepsAre, Outcome, ExploredFrom}
 use Rattle.search.specs.declared.Best.{Best}
 use Rattle.search.specs.declared.Node.{Node}
@@ -27,17 +29,17 @@ use Rattle.search.proofs.BranchLaws.{sumTo-in, sumTo-add, daySum-plain,
 
 -- THE ROOT: nothing is decided
 abbrev pub root : Node
-root = record { set = 0; loss = 0; places = replicate 24 0 }
+root = record { set = 0; loss = 0; places = replicate dayHours 0 }
 
-pub root-fits : (n : ℕ) → Fits n 0 0 (replicate 24 0)
-root-fits n = record { setFits = pow-pos n; lossFits = omega arith; placesSize = refl; placesFit = λ i. omega (arith, zeros 24 i) }
+pub root-fits : (n : ℕ) → Fits n root
+root-fits n = record { setFits = pow-pos n; lossFits = omega arith; placesSize = refl; placesFit = λ i. omega (arith, zeros dayHours i) }
 
-root-branch : (day : Day) (p : ℕ → ℕ) → Branch day p [] 0 0 (replicate 24 0)
+root-branch : (day : Day) (p : ℕ → ℕ) → Branch day p [] root
 unfolding decisions
 root-branch day p = record {
   setIs = refl;
   lossIs = sym (losses-none (day .hours) p (day .blocks));
-  placesAre = λ h a b. zeros 24 (h - 1) ∙ sym (place-none (day .blocks) h);
+  placesAre = λ h a b. zeros dayHours (h - 1) ∙ sym (place-none (day .blocks) h);
 }
 
 -- and none is out
@@ -50,37 +52,37 @@ unfolding sumTo
 sum-fits zero m f k = omega arith
 sum-fits (suc n) m f k = omega (arith, sum-fits n m f k, k (suc n))
 
-module _ {low gap first last blocks : List ℕ} {count : ℕ} (few : count ≤ 32) (small : (i : ℕ) → getD blocks i 0 < 2 ^ 32) (smallGap : (i : ℕ) → getD gap i 0 < 2 ^ 32)
-    {day : Day} {p rest : ℕ → ℕ} (known : Known day p rest low gap first last blocks count) where
+module _ {tables : Tables} (few : tables .count ≤ mostBlocks) (small : (i : ℕ) → getD (tables .blocks) i 0 < 2 ^ 32)
+    (smallGap : (i : ℕ) → getD (tables .gaps) i 0 < 2 ^ 32) {day : Day} {p rest : ℕ → ℕ} (known : Known day p rest tables) where
   -- all gains together
-  gains-fit : (n j : ℕ) → j + n ≡ count → overBlocks (gain (day .hours) p) (drop j (day .blocks)) ≤ n * 2 ^ 32
+  gains-fit : (n j : ℕ) → j + n ≡ tables .count → overBlocks (gain (day .hours) p) (drop j (day .blocks)) ≤ n * 2 ^ 32
   gains-fit zero j e = none (day .blocks) j (omega (arith, known .counted))
     where
       none : (l : List Block) (k : ℕ) → length l ≤ k → overBlocks (gain (day .hours) p) (drop k l) ≤ 0
       none l k z = rw (lib.ListN.drop-of-length-le l z) (omega arith)
   gains-fit (suc n) j e =
       let s = known .shown j (omega arith) in
-      rw (s .next) (omega (arith, s .gainIs, small (160 + j), gains-fit n (suc j) (omega arith)))
+      rw (s .next) (omega (arith, s .gainIs, small (gainColumn + j), gains-fit n (suc j) (omega arith)))
 
   -- the empty set's loss
-  empty-loss : lossAbove day p rest (replicate (length (day .blocks)) false) < 549755813888
+  empty-loss : lossAbove day p rest (replicate (length (day .blocks)) false) < lastLimit
   unfolding lossAbove lossOf gaps
   empty-loss =
       let none = replicate (length (day .blocks)) false in
       let size = length-replicate (length (day .blocks)) false ∙ known .counted in
       let law = empty-lawful day (known .prices) (known .hours) in
-      let at : ℕ → ℕ = λ h. cell gap h (place (day .blocks) none h) in
+      let at : ℕ → ℕ = λ h. cell (tables .gaps) h (place (day .blocks) none h) in
       let g : ℕ → ℕ = λ h. slack (p h) (hourOf day (taken (day .blocks) none) h) in
       omega (
         arith,
         losses-empty (day .hours) p (day .blocks),
-        gains-fit count 0 (omega arith),
+        gains-fit (tables .count) 0 (omega arith),
         daySum-plain (day .hours) g,
-        sumTo-in 24 g (λ h. at h + rest h)
+        sumTo-in dayHours g (λ h. at h + rest h)
             (λ h a b. gap-of-lawful known none size law h (counts (day .hours) h a b)),
-        sumTo-add 24 at rest,
+        sumTo-add dayHours at rest,
         daySum-plain (day .hours) rest,
-        sum-fits 24 (2 ^ 32) at (λ h. omega (arith, smallGap ((h - 1) * 1602 + place (day .blocks) none h))),
+        sum-fits dayHours (2 ^ 32) at (λ h. omega (arith, smallGap ((h - 1) * rowSize + place (day .blocks) none h))),
       )
 
   adds : by-loss.Adds day (lossAbove day p rest) (wholeOf day p - daySum (day .hours) rest)
@@ -89,9 +91,9 @@ module _ {low gap first last blocks : List ℕ} {count : ℕ} (few : count ≤ 3
       by-loss.adds-less day (lossOf day p) (lossAbove day p rest) _ (daySum (day .hours) rest) (by-loss.loss-adds day (known .prices) (known .hours) p)
       (λ set size law. omega (arith, bound-with day p [] set 0 rest (omega arith) (rest-below known set (size ∙ known .counted) law)))
 
-  module _ {turn : List ℕ} {steps : ℕ → List Step} (turning : Turning gap first last turn) (same : StepsAre day steps) {best r : Best}
-      (pass : ExploredFrom low gap first last turn blocks steps count count 0 root best r) where
-    outcome-of : Outcome day p rest count count [] best r
+  module _ {steps : ℕ → List Step} (turning : Turning tables) (same : StepsAre day steps) {best r : Best}
+      (pass : ExploredFrom tables steps (tables .count) 0 root best r) where
+    outcome-of : Outcome day p rest (tables .count) (tables .count) [] best r
     outcome-of = pass day p rest [] same record {
       known = known;
       turning = turning;
@@ -100,21 +102,21 @@ module _ {low gap first last blocks : List ℕ} {count : ℕ} (few : count ≤ 3
       outOf = λ t k l law less inside is. clash is (none-out k);
     }
 
-    whole-pass : by-loss.Pass day (InTurn day p) (lossAbove day p rest) (bestAs count best) (bestAs count r)
+    whole-pass : by-loss.Pass day (InTurn day p) (lossAbove day p rest) (bestAs (tables .count) best) (bestAs (tables .count) r)
     whole-pass =
-        subst (λ n. by-loss.Explored day (InTurn day p) (lossAbove day p rest) n [] (bestAs count best) (bestAs count r)) (sym (known .counted)) (outcome-of .explored)
+        subst (λ n. by-loss.Explored day (InTurn day p) (lossAbove day p rest) n [] (bestAs (tables .count) best) (bestAs (tables .count) r)) (sym (known .counted)) (outcome-of .explored)
 
     in-turn : InTurn day p (outcome day)
     in-turn = outcome-in-turn day (known .prices) (known .hours) p
 
-    pub pass-is : r .limit < best .limit → (decisions count (r .set) ≡ outcome day) × (r .set < 2 ^ count) × DayOf day (outcome day) (r .day)
+    pub pass-is : r .limit < best .limit → (decisions (tables .count) (r .set) ≡ outcome day) × (r .set < 2 ^ tables .count) × DayOf day (outcome day) (r .day)
     pass-is less =
         let o = outcome-of in
-        let e : decisions count (r .set) ≡ outcome day =
+        let e : decisions (tables .count) (r .set) ≡ outcome day =
         by-loss.pass-outcome day (InTurn day p) (known .prices) (known .hours) (lossAbove day p rest) _ adds _ _ whole-pass in-turn less in
         (e, o .found less .0, rw e at (o .found less .1))
 
-    pub pass-found : 549755813888 ≤ best .limit → r .limit < best .limit
+    pub pass-found : lastLimit ≤ best .limit → r .limit < best .limit
     pass-found k =
         by-loss.pass-finds-any day (InTurn day p) (known .prices) (known .hours) (lossAbove day p rest) _ adds _ _ whole-pass in-turn
         (replicate (length (day .blocks)) false) (length-replicate _ _) (empty-lawful day (known .prices) (known .hours)) (omega (arith, empty-loss))

@@ -13,6 +13,7 @@ use lib.Dec.{eqb, leb}
 use lib.ListN.{length, drop, getD, set, replicate, length-append, length-set, List·getD-append, List·getD-eq-default}
 use lib.Seq.{getD-set-same, getD-set-other}
 use borrow.Author.Tests.{leb-true, le-leb, lt-leb, eq-eqb, ne-eqb}
+use Rattle.search.specs.Layout.{dayHours, lastPlace, mostAdded, mostBlocks, mostGaps, rowSize}
 use Rattle.rules.specs.Orders.{Side, buy, Block}
 use Rattle.rules.specs.Hour.{when}
 use Rattle.rules.specs.Execution.{testSide}
@@ -57,6 +58,7 @@ use Rattle.search.specs.Search.{
   leastGaps,
   allKeep,
 }
+use Rattle.search.specs.Tables.{Tables}
 use Rattle.search.specs.Meaning.{Shown, Known, Branch, lossAbove, At, DroppedFrom, JudgedFrom}
 use Rattle.search.specs.declared.Node.{Node}
 use Rattle.search.proofs.LeafLaws.{zeros, below-next, places-grow}
@@ -154,13 +156,13 @@ module _ (blocks : List ℕ) (out : Bool) (loss limit i row : ℕ) where
       go false false = (omega arith, omega arith)
 
 -- THE PLACE OF THE REST at a loss below the limit, where it takes no block that is out
-module _ {day : Day} {p rest : ℕ → ℕ} {low gap first last blocks : List ℕ} {count : ℕ} (known : Known day p rest low gap first last blocks count)
-    (at out loss limit h : ℕ) (hour-first : 1 ≤ h) (hour-last : h ≤ 24) where
+module _ {day : Day} {p rest : ℕ → ℕ} {tables : Tables} (known : Known day p rest tables)
+    (at out loss limit h : ℕ) (hour-first : 1 ≤ h) (hour-last : h ≤ dayHours) where
   abbrev must : ℕ → ℕ → ℕ
-  must = addedIn blocks (mustFrom blocks at out loss limit) h
+  must = addedIn (tables .blocks) (mustFrom (tables .blocks) at out loss limit) h
 
   abbrev may : ℕ → ℕ → ℕ
-  may = addedIn blocks (mayFrom blocks at out loss limit) h
+  may = addedIn (tables .blocks) (mayFrom (tables .blocks) at out loss limit) h
 
   -- none of the blocks from number i on that is out is taken
   abbrev Avoids : ℕ → ℕ → List Bool → Type 0
@@ -176,7 +178,7 @@ module _ {day : Day} {p rest : ℕ → ℕ} {low gap first last blocks : List �
       let e : i - at + 0 ≡ i - at = omega arith in
       by-test (λ u. isOut out (i - at) ≡ u → u ≡ false) (isOut out (i - at)) (λ is _. clash refl (f 0 (omega arith) (rw e is))) (λ _ _. refl) refl
 
-  pub rest-within : (n i : ℕ) (t : List Bool) → at ≤ i → i + n ≡ count → length t ≡ n → Avoids n i t →
+  pub rest-within : (n i : ℕ) (t : List Bool) → at ≤ i → i + n ≡ tables .count → length t ≡ n → Avoids n i t →
       loss + losses (day .hours) p (drop i (day .blocks)) t < limit →
       (must n i ≤ place (drop i (day .blocks)) t h) × (place (drop i (day .blocks)) t h ≤ must n i + may n i)
   unfolding addedIn place losses
@@ -186,14 +188,14 @@ module _ {day : Day} {p rest : ℕ → ℕ} {low gap first last blocks : List �
   rest-within (suc n) i (true ∷ t) le e l f k =
       let s = known .shown i (omega arith) in
       let k′ : loss + (against (day .hours) p (s .block) + losses (day .hours) p (drop (suc i) (day .blocks)) t) < limit = rw (s .next) at k in
-      let one = taken-adds blocks (isOut out (i - at)) loss limit i (rowAt blocks i h) (first-not-out n i t f) (omega (arith, s .againstIs)) in
+      let one = taken-adds (tables .blocks) (isOut out (i - at)) loss limit i (rowAt (tables .blocks) i h) (first-not-out n i t f) (omega (arith, s .againstIs)) in
       let more = rest-within n (suc i) t (omega arith) (omega arith) (suc-inj l) (avoids-next n i true t le f) (omega arith) in
       let adds = sells-at s h hour-first hour-last in
       rw (s .next) (omega arith, omega arith)
   rest-within (suc n) i (false ∷ t) le e l f k =
       let s = known .shown i (omega arith) in
       let k′ : loss + (gain (day .hours) p (s .block) + losses (day .hours) p (drop (suc i) (day .blocks)) t) < limit = rw (s .next) at k in
-      let one = left-adds blocks (isOut out (i - at)) loss limit i (rowAt blocks i h) (omega (arith, s .gainIs)) in
+      let one = left-adds (tables .blocks) (isOut out (i - at)) loss limit i (rowAt (tables .blocks) i h) (omega (arith, s .gainIs)) in
       let more = rest-within n (suc i) t (omega arith) (omega arith) (suc-inj l) (avoids-next n i false t le f) (omega arith) in
       let adds = buys-at s h hour-first hour-last in
       rw (s .next) (omega arith, omega arith)
@@ -203,19 +205,19 @@ same-could : (side side′ : Side) (floor floor′ cap cap′ limit limit′ : �
     testSide side (leb floor limit) (leb limit cap) ≡ testSide side′ (leb floor′ limit′) (leb limit′ cap′)
 same-could side side′ floor floor′ cap cap′ limit limit′ a b c d = rw (a, b, c, d)
 
-module _ {day : Day} {p rest : ℕ → ℕ} {low gap first last blocks : List ℕ} {count : ℕ} (known : Known day p rest low gap first last blocks count)
-    {from to high lowest : List ℕ} (priced-high : PricesOf low from high) (priced-low : PricesOf low to lowest)
-    (from-fits : (h : ℕ) → 1 ≤ h → h ≤ 24 → ofHour from h ≤ 1600) (to-fits : (h : ℕ) → 1 ≤ h → h ≤ 24 → ofHour to h ≤ 1600)
-    {j : ℕ} (s : Shown day p blocks j) where
+module _ {day : Day} {p rest : ℕ → ℕ} {tables : Tables} (known : Known day p rest tables)
+    {from to high lowest : List ℕ} (priced-high : PricesOf (tables .unitPrices) from high) (priced-low : PricesOf (tables .unitPrices) to lowest)
+    (from-fits : (h : ℕ) → 1 ≤ h → h ≤ dayHours → ofHour from h ≤ lastPlace) (to-fits : (h : ℕ) → 1 ≤ h → h ≤ dayHours → ofHour to h ≤ lastPlace)
+    {j : ℕ} (s : Shown day p (tables .blocks) j) where
   -- the sum of prices at places, by the table
-  sum-same : (at prices : List ℕ) → PricesOf low at prices → ((h : ℕ) → 1 ≤ h → h ≤ 24 → ofHour at h ≤ 1600) →
-      priceSum (day .hours) (pricesAt day (ofHour at)) (s .block) ≡ sumOfHours prices (hoursAt blocks j)
+  sum-same : (at prices : List ℕ) → PricesOf (tables .unitPrices) at prices → ((h : ℕ) → 1 ≤ h → h ≤ dayHours → ofHour at h ≤ lastPlace) →
+      priceSum (day .hours) (pricesAt day (ofHour at)) (s .block) ≡ sumOfHours prices (hoursAt (tables .blocks) j)
   unfolding priceSum sumOfHours
   sum-same at prices priced fits =
       daySum-plain (day .hours) _
-      ∙ sumTo-in 24 _ _ (λ h a b. rw (s .runsIs h, ← (price-at-table known priced h a b (fits h a b))))
+      ∙ sumTo-in dayHours _ _ (λ h a b. rw (s .runsIs h, ← (price-at-table known priced h a b (fits h a b))))
 
-  could-same : keepsAt (sideAt blocks j) (hoursAt blocks j) (limitAt blocks j) high lowest
+  could-same : keepsAt (sideAt (tables .blocks) j) (hoursAt (tables .blocks) j) (limitAt (tables .blocks) j) high lowest
       ≡ couldKeep (day .hours) (pricesAt day (ofHour from)) (pricesAt day (ofHour to)) (s .block)
   unfolding keepsAt couldKeep
   could-same =
@@ -241,9 +243,9 @@ either-out true keeps k e = refl
 either-out false keeps k e = clash e (rw k)
 
 -- ONE LAW FOR EACH REASON to drop a branch
-module _ {low gap first last turn blocks : List ℕ} {count left out : ℕ} {node : Node} {limit : ℕ} where
+module _ {tables : Tables} {left out : ℕ} {node : Node} {limit : ℕ} where
   -- the decided blocks lose as much already
-  pub dropped-by-loss : limit ≤ node .loss → DroppedFrom low gap first last turn blocks count left out node limit
+  pub dropped-by-loss : limit ≤ node .loss → DroppedFrom tables left out node limit
   unfolding lossAbove
   dropped-by-loss k day p rest d t at l law =
       omega (
@@ -253,28 +255,28 @@ module _ {low gap first last turn blocks : List ℕ} {count left out : ℕ} {nod
       )
 
   -- a branch that is dropped, and one that is not looked into
-  pub judged-dropped : {r : ℕ} → DroppedFrom low gap first last turn blocks count left out node limit →
-      JudgedFrom low gap first last turn blocks count left out node limit true r
+  pub judged-dropped : {r : ℕ} → DroppedFrom tables left out node limit →
+      JudgedFrom tables left out node limit true r
   judged-dropped drop = record { dropped = λ _. drop; outOf = λ z. clash refl z }
 
-  pub judged-as-it-was : JudgedFrom low gap first last turn blocks count left out node limit false out
+  pub judged-as-it-was : JudgedFrom tables left out node limit false out
   judged-as-it-was = record { dropped = λ z. clash z refl; outOf = λ _ day p rest d at. at .outOf }
 
-  module _ {least free : List ℕ} (added : RestOf blocks count (count - left) out (node .loss) limit (node .places) least free)
-      {balances : Bool} {from to : List ℕ} (reach : ReachOf first last least free balances from to) where
+  module _ {least free : List ℕ} (added : RestOf (tables .blocks) (tables .count) (tables .count - left) out (node .loss) limit (node .places) least free)
+      {balances : Bool} {from to : List ℕ} (reach : ReachOf (tables .first) (tables .last) least free balances from to) where
     -- a lawful completion that loses less has its places from `from` to `to`
-    module _ {day : Day} {p rest : ℕ → ℕ} {d : List Bool} (t : List Bool) (at : At low gap first last turn blocks count left node limit out day p rest d)
+    module _ {day : Day} {p rest : ℕ → ℕ} {d : List Bool} (t : List Bool) (at : At tables left node limit out day p rest d)
         (l : length t ≡ left) (law : lawful day (d ++ t) ≡ true) where
-      known : Known day p rest low gap first last blocks count
+      known : Known day p rest tables
       known = at .known
 
-      branch : Branch day p d (node .set) (node .loss) (node .places)
+      branch : Branch day p d node
       branch = at .branch
 
-      size : length d + left ≡ count
+      size : length d + left ≡ tables .count
       size = at .size
 
-      whole : length (d ++ t) ≡ count
+      whole : length (d ++ t) ≡ tables .count
       whole = length-append d t ∙ rw l size
 
       rest-loses : lossAbove day p rest (d ++ t) < limit → node .loss + losses (day .hours) p (drop (length d) (day .blocks)) t < limit
@@ -287,11 +289,11 @@ module _ {low gap first last turn blocks : List ℕ} {count left out : ℕ} {nod
                 (rest-below known (d ++ t) whole law),
           )
 
-      in-reach : lossAbove day p rest (d ++ t) < limit → (h : ℕ) → 1 ≤ h → h ≤ 24 →
+      in-reach : lossAbove day p rest (d ++ t) < limit → (h : ℕ) → 1 ≤ h → h ≤ dayHours →
           (ofHour from h ≤ place (day .blocks) (d ++ t) h) × (place (day .blocks) (d ++ t) h ≤ ofHour to h)
       in-reach k h a b =
-          let here : count - left ≡ length d = omega arith in
-          let after : count - length d ≡ left = omega arith in
+          let here : tables .count - left ≡ length d = omega arith in
+          let after : tables .count - length d ≡ left = omega arith in
           let range = lawful-place known (d ++ t) whole law h a b in
           let avoids : (j : ℕ) → j < left → isOut out (length d - length d + j) ≡ true → getD t j false ≡ false = λ j inside is.
           let e : length d - length d + j ≡ j = omega arith in
@@ -301,46 +303,46 @@ module _ {low gap first last turn blocks : List ℕ} {count left out : ℕ} {nod
           let may = rw (here, after) at (added .freeIs h a b) in
           let split = place-split (day .blocks) d t h in
           let is = branch .placesAre h a b in (
-            rw (reach .fromIs h a b) (larger-least (ofHour least h) (ofHour first h) _ (omega arith) (range .0)),
-            rw (reach .toIs h a b) (smaller-most (ofHour least h + ofHour free h) (ofHour last h) _ (omega arith) (range .1)),
+            rw (reach .fromIs h a b) (larger-least (ofHour least h) (ofHour (tables .first) h) _ (omega arith) (range .0)),
+            rw (reach .toIs h a b) (smaller-most (ofHour least h + ofHour free h) (ofHour (tables .last) h) _ (omega arith) (range .1)),
           )
 
       -- its gaps are at least the least gaps there
-      gaps-least : lossAbove day p rest (d ++ t) < limit → node .loss + leastGaps gap turn from to ≤ lossAbove day p rest (d ++ t)
+      gaps-least : lossAbove day p rest (d ++ t) < limit → node .loss + leastGaps (tables .gaps) (tables .turn) from to ≤ lossAbove day p rest (d ++ t)
       unfolding lossAbove leastGaps
       gaps-least k =
-          let g : ℕ → ℕ = λ h. cell gap h (nearest (ofHour turn h) (ofHour from h) (ofHour to h)) in
+          let g : ℕ → ℕ = λ h. cell (tables .gaps) h (nearest (ofHour (tables .turn) h) (ofHour from h) (ofHour to h)) in
           omega (
             arith,
             branch .lossIs,
             bound-with day p d t 0 (λ h. g h + rest h) (omega arith) gap-least,
             daySum-plain (day .hours) (λ h. g h + rest h),
-            sumTo-add 24 g rest,
+            sumTo-add dayHours g rest,
             daySum-plain (day .hours) rest,
           )
         where
           gap-least : (h : ℕ) → Counts (day .hours) h →
-              cell gap h (nearest (ofHour turn h) (ofHour from h) (ofHour to h)) + rest h ≤ slack (p h) (hourOf day (taken (day .blocks) (d ++ t)) h)
+              cell (tables .gaps) h (nearest (ofHour (tables .turn) h) (ofHour from h) (ofHour to h)) + rest h ≤ slack (p h) (hourOf day (taken (day .blocks) (d ++ t)) h)
           gap-least h c =
               let a = c .first in
               let b = c .last in
               let r = in-reach k h a b in
-              let above = larger-above (ofHour least h) (ofHour first h) .1 in
-              let below = smaller-below (ofHour least h + ofHour free h) (ofHour last h) .1 in
+              let above = larger-above (ofHour least h) (ofHour (tables .first) h) .1 in
+              let below = smaller-below (ofHour least h + ofHour free h) (ofHour (tables .last) h) .1 in
               let from-is = reach .fromIs h a b in
               let to-is = reach .toIs h a b in
               omega (
                 arith,
                 gap-of-lawful known (d ++ t) whole law h c,
-                nearest-least (λ i. cell gap h i) (ofHour turn h) (ofHour from h) (ofHour to h) (place (day .blocks) (d ++ t) h) (r .0) (r .1)
+                nearest-least (λ i. cell (tables .gaps) h i) (ofHour (tables .turn) h) (ofHour from h) (ofHour to h) (place (day .blocks) (d ++ t) h) (r .0) (r .1)
                     (λ x y i j z w. at .turning .falls h x y a b (omega arith) j (omega arith) w)
                     (λ x y i j z w. at .turning .rises h x y a b (omega arith) j (omega arith) w),
               )
 
       -- each of its blocks keeps its limit at the best prices there
-      block-could : {high lowest : List ℕ} → PricesOf low from high → PricesOf low to lowest → balances ≡ true → Small 1600 last →
-          lossAbove day p rest (d ++ t) < limit → (j : ℕ) → j < count → getD (d ++ t) j false ≡ true →
-          keepsAt (sideAt blocks j) (hoursAt blocks j) (limitAt blocks j) high lowest ≡ true
+      block-could : {high lowest : List ℕ} → PricesOf (tables .unitPrices) from high → PricesOf (tables .unitPrices) to lowest → balances ≡ true → Small lastPlace (tables .last) →
+          lossAbove day p rest (d ++ t) < limit → (j : ℕ) → j < tables .count → getD (d ++ t) j false ≡ true →
+          keepsAt (sideAt (tables .blocks) j) (hoursAt (tables .blocks) j) (limitAt (tables .blocks) j) high lowest ≡ true
       block-could ph pl e small k j inside set-bit =
           let s = known .shown j inside in
           let could = taken-could day (known .prices) (known .hours) (d ++ t) (whole ∙ sym (known .counted)) law (ofHour from) (ofHour to)
@@ -349,52 +351,52 @@ module _ {low gap first last turn blocks : List ℕ} {count left out : ℕ} {nod
           could-same known ph pl (fits-in .0) (fits-in .1) s
           ∙ rw (block-at (day .blocks) j (s .block) _ other (s .next)) at could
         where
-          fits-in : ((h : ℕ) → 1 ≤ h → h ≤ 24 → ofHour from h ≤ 1600) × ((h : ℕ) → 1 ≤ h → h ≤ 24 → ofHour to h ≤ 1600)
+          fits-in : ((h : ℕ) → 1 ≤ h → h ≤ dayHours → ofHour from h ≤ lastPlace) × ((h : ℕ) → 1 ≤ h → h ≤ dayHours → ofHour to h ≤ lastPlace)
           fits-in = (
             λ h a b.
-                let below = smaller-below (ofHour least h + ofHour free h) (ofHour last h) .1 in
+                let below = smaller-below (ofHour least h + ofHour free h) (ofHour (tables .last) h) .1 in
                 omega (arith, reach .balanced e h a b, reach .toIs h a b, small (h - 1)),
             λ h a b.
-                let below = smaller-below (ofHour least h + ofHour free h) (ofHour last h) .1 in
+                let below = smaller-below (ofHour least h + ofHour free h) (ofHour (tables .last) h) .1 in
                 omega (arith, reach .toIs h a b, small (h - 1)),
           )
 
       -- the decided ones, and one of the rest
-      decided-could : {high lowest : List ℕ} → PricesOf low from high → PricesOf low to lowest → balances ≡ true → Small 1600 last →
-          lossAbove day p rest (d ++ t) < limit → allKeep blocks (node .set) high lowest (count - left) ≡ true
+      decided-could : {high lowest : List ℕ} → PricesOf (tables .unitPrices) from high → PricesOf (tables .unitPrices) to lowest → balances ≡ true → Small lastPlace (tables .last) →
+          lossAbove day p rest (d ++ t) < limit → allKeep (tables .blocks) (node .set) high lowest (tables .count - left) ≡ true
       decided-could {high} {lowest} ph pl e small k =
-          all-keep blocks (node .set) high lowest (count - left) (λ j m bit.
+          all-keep (tables .blocks) (node .set) high lowest (tables .count - left) (λ j m bit.
           let here : j < length d = omega (arith, size) in
           block-could ph pl e small k j (omega arith)
           (List·getD-append d t false j here ∙ rw (← (branch .setIs)) (bits-at (length d) (node .set) j here ∙ eq-eqb _ 1 bit)))
 
-      rest-could : {high lowest : List ℕ} → PricesOf low from high → PricesOf low to lowest → balances ≡ true → Small 1600 last →
+      rest-could : {high lowest : List ℕ} → PricesOf (tables .unitPrices) from high → PricesOf (tables .unitPrices) to lowest → balances ≡ true → Small lastPlace (tables .last) →
           lossAbove day p rest (d ++ t) < limit → (j : ℕ) → j < left → getD t j false ≡ true →
-          keepsAt (sideAt blocks (count - left + j)) (hoursAt blocks (count - left + j)) (limitAt blocks (count - left + j)) high lowest ≡ true
+          keepsAt (sideAt (tables .blocks) (tables .count - left + j)) (hoursAt (tables .blocks) (tables .count - left + j)) (limitAt (tables .blocks) (tables .count - left + j)) high lowest ≡ true
       rest-could ph pl e small k j inside bit =
-          let here : count - left ≡ length d = omega (arith, size) in
-          block-could ph pl e small k (count - left + j) (omega (arith, size)) (rw here (getD-behind d t j ∙ bit))
+          let here : tables .count - left ≡ length d = omega (arith, size) in
+          block-could ph pl e small k (tables .count - left + j) (omega (arith, size)) (rw here (getD-behind d t j ∙ bit))
 
     -- some hour can no longer balance
-    pub dropped-unbalanced : balances ≡ false → DroppedFrom low gap first last turn blocks count left out node limit
+    pub dropped-unbalanced : balances ≡ false → DroppedFrom tables left out node limit
     dropped-unbalanced e day p rest d t at l law =
         unless _ _ (λ k. absurd (reach .unbalanced e (λ h a b.
         let r = in-reach t at l law k h a b in omega arith)))
 
     -- the least gaps within reach come to as much
-    pub dropped-by-gaps : limit ≤ node .loss + leastGaps gap turn from to → DroppedFrom low gap first last turn blocks count left out node limit
+    pub dropped-by-gaps : limit ≤ node .loss + leastGaps (tables .gaps) (tables .turn) from to → DroppedFrom tables left out node limit
     dropped-by-gaps z day p rest d t at l law = unless _ _ (λ k. absurd (omega (arith, gaps-least t at l law k)))
 
     -- a taken block misses its limit at the best prices within reach
-    pub dropped-by-limit : {high lowest : List ℕ} → PricesOf low from high → PricesOf low to lowest → balances ≡ true → Small 1600 last →
-        allKeep blocks (node .set) high lowest (count - left) ≡ false → DroppedFrom low gap first last turn blocks count left out node limit
+    pub dropped-by-limit : {high lowest : List ℕ} → PricesOf (tables .unitPrices) from high → PricesOf (tables .unitPrices) to lowest → balances ≡ true → Small lastPlace (tables .last) →
+        allKeep (tables .blocks) (node .set) high lowest (tables .count - left) ≡ false → DroppedFrom tables left out node limit
     dropped-by-limit ph pl e small misses day p rest d t at l law =
         unless _ _ (λ k. clash (decided-could t at l law ph pl e small k) misses)
 
     -- WHAT IS OUT: what was before, and an undecided block that misses its limit at the best prices within reach
-    pub judged-open : {high lowest : List ℕ} → PricesOf low from high → PricesOf low to lowest → balances ≡ true → Small 1600 last → left ≤ count → {r : ℕ} →
-        ((k : ℕ) → k < count - (count - left) → isOut r k ≡ isRuledOut blocks (count - left + k) (isOut out k) high lowest) →
-        JudgedFrom low gap first last turn blocks count left out node limit false r
+    pub judged-open : {high lowest : List ℕ} → PricesOf (tables .unitPrices) from high → PricesOf (tables .unitPrices) to lowest → balances ≡ true → Small lastPlace (tables .last) → left ≤ tables .count → {r : ℕ} →
+        ((k : ℕ) → k < tables .count - (tables .count - left) → isOut r k ≡ isRuledOut (tables .blocks) (tables .count - left + k) (isOut out k) high lowest) →
+        JudgedFrom tables left out node limit false r
     unfolding isRuledOut
     judged-open ph pl e small le is = record {
       dropped = λ z. clash z refl;
@@ -407,25 +409,25 @@ module _ {low gap first last turn blocks : List ℕ} {count left out : ℕ} {nod
     }
 
 -- THE PLACES WITHIN REACH lie in the tables' rows
-column-small : (m : ℕ) (l : List ℕ) → length l ≡ 24 → ((h : ℕ) → h < 24 → getD l h 0 ≤ m) → Small m l
-column-small m l size f i = elim (decLe 24 i) [
+column-small : (m : ℕ) (l : List ℕ) → length l ≡ dayHours → ((h : ℕ) → h < dayHours → getD l h 0 ≤ m) → Small m l
+column-small m l size f i = elim (decLe dayHours i) [
   | yes k ↦ let z : length l ≤ i = omega arith in rw (List·getD-eq-default l 0 z) (omega arith)
   | no k ↦ f i (lt-of-not-le k)
 ]
 
 module _ {first last least free : List ℕ} {balances : Bool} {from to : List ℕ} (reach : ReachOf first last least free balances from to)
-    (small : Small 1600 last) where
-  pub to-fits : (h : ℕ) → h < 24 → getD to h 0 ≤ 1600
+    (small : Small lastPlace last) where
+  pub to-fits : (h : ℕ) → h < dayHours → getD to h 0 ≤ lastPlace
   to-fits h k =
       let is = rw sub-one at (reach .toIs (suc h) (omega arith) (omega arith)) in
       omega (arith, small h, smaller-below (getD least h 0 + getD free h 0) (getD last h 0) .1)
 
-  pub to-small : length to ≡ 24 → Small 1600 to
-  to-small size = column-small 1600 to size to-fits
+  pub to-small : length to ≡ dayHours → Small lastPlace to
+  to-small size = column-small lastPlace to size to-fits
 
-  pub from-small : balances ≡ true → length from ≡ 24 → Small 1600 from
+  pub from-small : balances ≡ true → length from ≡ dayHours → Small lastPlace from
   from-small e size =
-      column-small 1600 from size (λ h k.
+      column-small lastPlace from size (λ h k.
       let le = rw sub-one at (reach .balanced e (suc h) (omega arith) (omega arith)) in
       omega (arith, to-fits h k))
 
@@ -437,14 +439,14 @@ module _ (blocks : List ℕ) (count at out loss limit : ℕ) (places : List ℕ)
   pub record RestTo (i : ℕ) (least free : List ℕ) : Type 0 where
     pub from : at ≤ i
     pub to : i ≤ count
-    pub leastSize : length least ≡ 24
-    pub freeSize : length free ≡ 24
-    pub leastIs : (h : ℕ) → 1 ≤ h → h ≤ 24 → ofHour least h ≡ ofHour places h + added (mustFrom blocks at out loss limit) h i
-    pub freeIs : (h : ℕ) → 1 ≤ h → h ≤ 24 → ofHour free h ≡ added (mayFrom blocks at out loss limit) h i
-    pub leastFits : Small ((at + (count - i)) * 50000) least
-    pub freeFits : Small ((count - i) * 50000) free
+    pub leastSize : length least ≡ dayHours
+    pub freeSize : length free ≡ dayHours
+    pub leastIs : (h : ℕ) → 1 ≤ h → h ≤ dayHours → ofHour least h ≡ ofHour places h + added (mustFrom blocks at out loss limit) h i
+    pub freeIs : (h : ℕ) → 1 ≤ h → h ≤ dayHours → ofHour free h ≡ added (mayFrom blocks at out loss limit) h i
+    pub leastFits : Small ((at + (count - i)) * mostAdded) least
+    pub freeFits : Small ((count - i) * mostAdded) free
 
-  pub rest-start : at ≤ count → length places ≡ 24 → Small (at * 50000) places → RestTo count places (replicate 24 0)
+  pub rest-start : at ≤ count → length places ≡ dayHours → Small (at * mostAdded) places → RestTo count places (replicate dayHours 0)
   unfolding addedIn
   rest-start few size small =
       let none : count - count ≡ 0 = omega arith in
@@ -455,16 +457,16 @@ module _ (blocks : List ℕ) (count at out loss limit : ℕ) (places : List ℕ)
         leastSize = size;
         freeSize = refl;
         leastIs = λ h a b. rw none (omega arith);
-        freeIs = λ h a b. rw none (zeros 24 (h - 1));
+        freeIs = λ h a b. rw none (zeros dayHours (h - 1));
         leastFits = rw same small;
-        freeFits = λ i. omega (arith, zeros 24 i);
+        freeFits = λ i. omega (arith, zeros dayHours i);
       }
 
   one-more : (moves : ℕ → Bool) (h i : ℕ) → 0 < i → i ≤ count →
       added moves h (i - 1) ≡ when (moves (i - 1)) (rowAt blocks (i - 1) h) + added moves h i
   one-more moves h i = added-more blocks moves h count i
 
-  pub rest-next : (i : ℕ) (least free more freer : List ℕ) → RestTo i least free → at < i → ((h : ℕ) → rowAt blocks (i - 1) h ≤ 50000) →
+  pub rest-next : (i : ℕ) (least free more freer : List ℕ) → RestTo i least free → at < i → ((h : ℕ) → rowAt blocks (i - 1) h ≤ mostAdded) →
       AddedTo blocks (i - 1) (mustFrom blocks at out loss limit (i - 1)) (mayFrom blocks at out loss limit (i - 1)) least free more freer → RestTo (i - 1) more freer
   rest-next i least free more freer r pos few added =
       let sm = added .moreSize in
@@ -487,7 +489,7 @@ module _ (blocks : List ℕ) (count at out loss limit : ℕ) (places : List ℕ)
             omega (arith, f h x y, when-le (mayFrom blocks at out loss limit (i - 1)) (rowAt blocks (i - 1) h), few h)));
       }
 
-  pub rest-all : (i : ℕ) (least free : List ℕ) → RestTo i least free → i ≤ at → count ≤ 32 → RestOf blocks count at out loss limit places least free
+  pub rest-all : (i : ℕ) (least free : List ℕ) → RestTo i least free → i ≤ at → count ≤ mostBlocks → RestOf blocks count at out loss limit places least free
   rest-all i least free r k few =
       let e : i ≡ at = omega (arith, r .from) in
       record {
@@ -560,7 +562,7 @@ module _ (blocks : List ℕ) (count at out : ℕ) (high low : List ℕ) where
           rw z (upper-bit r b k (bit-small test b e) ∙ v .is k (omega arith))
 
   -- no bit is lost
-  pub ruled-room : (i r : ℕ) → RuledTo i r → at < i → count ≤ 32 → 2 * r + 1 < 2 ^ 32
+  pub ruled-room : (i r : ℕ) → RuledTo i r → at < i → count ≤ mostBlocks → 2 * r + 1 < 2 ^ 32
   ruled-room i r v pos few = omega (arith, v .fits, pow-mono {i = suc (count - i)} {j = 32} (omega (arith, v .to)))
 
   pub ruled-all : (i r : ℕ) → RuledTo i r → i ≤ at → (k : ℕ) → k < count - at → isOut r k ≡ ruledAt k
@@ -572,7 +574,7 @@ module _ (blocks : List ℕ) (count at out : ℕ) (high low : List ℕ) where
 -- the hours one after the other
 module _ (gap turn from to : List ℕ) where
   pub record LeastTo (h sum : ℕ) : Type 0 where
-    pub inside : h ≤ 24
+    pub inside : h ≤ dayHours
     pub is : sum ≡ sumTo h (λ k. cell gap k (nearest (ofHour turn k) (ofHour from k) (ofHour to k)))
     pub fits : sum ≤ h * 2 ^ 32
 
@@ -580,15 +582,15 @@ module _ (gap turn from to : List ℕ) where
   unfolding sumTo
   least-start = record { inside = omega arith; is = refl; fits = omega arith }
 
-  pub least-next : (h sum near : ℕ) → LeastTo h sum → h < 24 → near ≡ nearest (getD turn h 0) (getD from h 0) (getD to h 0) →
-      getD gap (h * 1602 + near) 0 < 2 ^ 32 → LeastTo (h + 1) (sum + getD gap (h * 1602 + near) 0)
+  pub least-next : (h sum near : ℕ) → LeastTo h sum → h < dayHours → near ≡ nearest (getD turn h 0) (getD from h 0) (getD to h 0) →
+      getD gap (h * rowSize + near) 0 < 2 ^ 32 → LeastTo (h + 1) (sum + getD gap (h * rowSize + near) 0)
   unfolding sumTo
   least-next h sum near g k e small = record { inside = omega arith; is = rw (g .is, e, add-one, sub-one); fits = omega (arith, g .fits) }
 
-  pub least-all : (h sum : ℕ) → LeastTo h sum → 24 ≤ h → (sum ≡ leastGaps gap turn from to) × (sum ≤ 24 * 2 ^ 32)
+  pub least-all : (h sum : ℕ) → LeastTo h sum → dayHours ≤ h → (sum ≡ leastGaps gap turn from to) × (sum ≤ mostGaps)
   unfolding leastGaps
   least-all h sum g k =
-      let e : h ≡ 24 = omega (arith, g .inside) in
+      let e : h ≡ dayHours = omega (arith, g .inside) in
       (rw (g .is, e), omega (arith, g .fits))
 
 module _ (first last least free : List ℕ) where
@@ -599,15 +601,15 @@ module _ (first last least free : List ℕ) where
   highestAt k = smaller (getD least k 0 + getD free k 0) (getD last k 0)
 
   pub record ReachTo (h : ℕ) (balances : Bool) (from to : List ℕ) : Type 0 where
-    pub inside : h ≤ 24
-    pub fromSize : length from ≡ 24
-    pub toSize : length to ≡ 24
+    pub inside : h ≤ dayHours
+    pub fromSize : length from ≡ dayHours
+    pub toSize : length to ≡ dayHours
     pub fromIs : (k : ℕ) → k < h → getD from k 0 ≡ lowestAt k
     pub toIs : (k : ℕ) → k < h → getD to k 0 ≡ highestAt k
     pub balanced : balances ≡ true → (k : ℕ) → k < h → lowestAt k ≤ highestAt k
     pub unbalanced : balances ≡ false → ((k : ℕ) → k < h → lowestAt k ≤ highestAt k) → ⊥
 
-  pub reach-start : ReachTo 0 true (replicate 24 0) (replicate 24 0)
+  pub reach-start : ReachTo 0 true (replicate dayHours 0) (replicate dayHours 0)
   reach-start = record {
     inside = omega arith;
     fromSize = refl;
@@ -618,7 +620,7 @@ module _ (first last least free : List ℕ) where
     unbalanced = λ e. clash refl e;
   }
 
-  pub reach-next : (h : ℕ) (balances : Bool) (from to : List ℕ) (lowest highest : ℕ) → ReachTo h balances from to → h < 24 →
+  pub reach-next : (h : ℕ) (balances : Bool) (from to : List ℕ) (lowest highest : ℕ) → ReachTo h balances from to → h < dayHours →
       lowest ≡ lowestAt h → highest ≡ highestAt h →
       ReachTo (h + 1) (balances && leb lowest highest) (set from h lowest) (set to h highest)
   reach-next h balances from to lowest highest r k el eh =
@@ -641,10 +643,10 @@ module _ (first last least free : List ℕ) where
             (λ b _ _. r .unbalanced b (λ j a. f j (omega arith))) e refl;
       }
 
-  pub reach-all : (h : ℕ) (balances : Bool) (from to : List ℕ) → ReachTo h balances from to → 24 ≤ h →
+  pub reach-all : (h : ℕ) (balances : Bool) (from to : List ℕ) → ReachTo h balances from to → dayHours ≤ h →
       ReachOf first last least free balances from to
   reach-all h balances from to r k =
-      let e : h ≡ 24 = omega (arith, r .inside) in
+      let e : h ≡ dayHours = omega (arith, r .inside) in
       record {
         fromIs = λ j a b. r .fromIs (j - 1) (omega arith);
         toIs = λ j a b. r .toIs (j - 1) (omega arith);

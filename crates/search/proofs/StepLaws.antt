@@ -6,6 +6,7 @@ use native.Mathlib.Omega.{arith}
 use lib.ListN.{length, take, drop, getD}
 use lib.Seq.{slice}
 use borrow.Rule.Slice.PartMut.{mid-len}
+use Rattle.search.specs.Layout.{dayHours}
 use Rattle.orders.specs.Columns.{stepsFrom}
 use Rattle.pricing.specs.Curves.{Columns}
 use Rattle.search.specs.Search.{Small, FirstSmall, StepsSized, PartSized, stepsAt}
@@ -57,15 +58,15 @@ unfolding stepsAt
 steps-next ends sides prices quantities h = let e : h + 1 - 1 ≡ h = omega arith in rw e
 
 -- no hour ends past the last
-pub hour-inside : (ends sides prices quantities : List ℕ) (h : ℕ) → StepsSized ends sides prices quantities → h < 24 →
-    getD ends (h + 1) 0 ≤ getD ends 24 0
-hour-inside ends sides prices quantities h s k = down (24 - (h + 1)) (h + 1) (omega arith)
+pub hour-inside : (ends sides prices quantities : List ℕ) (h : ℕ) → StepsSized ends sides prices quantities → h < dayHours →
+    getD ends (h + 1) 0 ≤ getD ends dayHours 0
+hour-inside ends sides prices quantities h s k = down (dayHours - (h + 1)) (h + 1) (omega arith)
   where
-    down : (n j : ℕ) → j + n ≡ 24 → getD ends j 0 ≤ getD ends 24 0
-    down zero j e = let f : j ≡ 24 = omega arith in rw f (omega arith)
+    down : (n j : ℕ) → j + n ≡ dayHours → getD ends j 0 ≤ getD ends dayHours 0
+    down zero j e = let f : j ≡ dayHours = omega arith in rw f (omega arith)
     down (suc n) j e = omega (arith, s .rise j (omega arith), down n (j + 1) (omega arith))
 
-pub hour-part : (ends sides prices quantities : List ℕ) (h : ℕ) → StepsSized ends sides prices quantities → h < 24 →
+pub hour-part : (ends sides prices quantities : List ℕ) (h : ℕ) → StepsSized ends sides prices quantities → h < dayHours →
     PartSized sides prices quantities (getD ends h 0) (getD ends (h + 1) 0)
 hour-part ends sides prices quantities h s k =
     let e = hour-inside ends sides prices quantities h s k in

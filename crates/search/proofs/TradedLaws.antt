@@ -10,6 +10,7 @@ use lib.Dec.{eqb}
 use lib.ListN.{length, drop, getD, set, replicate, length-set}
 use lib.Seq.{slice, getD-set-same, getD-set-other}
 use borrow.Author.Tests.{ne-eqb}
+use Rattle.search.specs.Layout.{dayHours, mostAdded, mostBlocks}
 use Rattle.orders.specs.Columns.{sideFor}
 use Rattle.rules.specs.Orders.{Step, Block}
 use Rattle.rules.specs.Hour.{bySide, when, buysFrom, sellsTo, Pricing, cleared, doesNotClear, pricing, priceIn}
@@ -23,12 +24,13 @@ use Rattle.rules.proofs.DayLaws.{all-clear}
 use Rattle.rules.proofs.SetBits.{bits-at}
 use Rattle.pricing.specs.Curves.{TradedAt}
 use Rattle.search.specs.Search.{Small, ofHour, sideAt, rowAt, addedIn, sellsIn, buysIn, SetTrades, TradedIn, StepsSized, stepsAt}
+use Rattle.search.specs.Tables.{Tables}
 use Rattle.search.specs.Meaning.{Shown, Known, StepsAre}
 use Rattle.search.proofs.LeafLaws.{zeros, below-next, places-grow}
 use Rattle.search.proofs.StepLaws.{steps-next}
 
 -- HOURS: today each counts once
-pub counts : (hours h : ℕ) → 1 ≤ h → h ≤ 24 → Counts hours h
+pub counts : (hours h : ℕ) → 1 ≤ h → h ≤ dayHours → Counts hours h
 unfolding weight
 counts hours h a b = record { first = a; last = b; counted = omega arith }
 
@@ -41,7 +43,7 @@ buys-row : (side : ℕ) (t : Bool) (q : ℕ) → when t (bySide (sideFor side) q
 buys-row zero t q = refl
 buys-row (suc side) t q = rw (ne-eqb (suc side) 0 (omega arith)) (when-zero t)
 
-module _ {day : Day} {p : ℕ → ℕ} {blocks : List ℕ} {j : ℕ} (s : Shown day p blocks j) (h : ℕ) (a : 1 ≤ h) (b : h ≤ 24) where
+module _ {day : Day} {p : ℕ → ℕ} {blocks : List ℕ} {j : ℕ} (s : Shown day p blocks j) (h : ℕ) (a : 1 ≤ h) (b : h ≤ dayHours) where
   pub sells-at : sells h (s .block) ≡ when (not (eqb (sideAt blocks j) 0)) (rowAt blocks j h)
   sells-at = rw (s .sideIs, s .rowIs h a b) (sells-row (sideAt blocks j) (s .block .runs h) (s .block .quantity))
 
@@ -49,8 +51,8 @@ module _ {day : Day} {p : ℕ → ℕ} {blocks : List ℕ} {j : ℕ} (s : Shown 
   buys-at = rw (s .sideIs, s .rowIs h a b) (buys-row (sideAt blocks j) (s .block .runs h) (s .block .quantity))
 
 -- A SET'S BLOCKS in an hour, by their rows
-module _ {day : Day} {p rest : ℕ → ℕ} {low gap first last blocks : List ℕ} {count : ℕ} (known : Known day p rest low gap first last blocks count)
-    (chosen h : ℕ) (a : 1 ≤ h) (b : h ≤ 24) where
+module _ {day : Day} {p rest : ℕ → ℕ} {tables : Tables} (known : Known day p rest tables)
+    (chosen h : ℕ) (a : 1 ≤ h) (b : h ≤ dayHours) where
   -- the decisions t are those of the set for the blocks from number i on
   abbrev Holds : ℕ → ℕ → List Bool → Type 0
   Holds n i t = (k : ℕ) → k < n → getD t k false ≡ eqb (chosen / 2 ^ (i + k) % 2) 1
@@ -61,9 +63,9 @@ module _ {day : Day} {p rest : ℕ → ℕ} {low gap first last blocks : List �
   holds-first : (n i : ℕ) (x : Bool) (t : List Bool) → Holds (suc n) i (x ∷ t) → eqb (chosen / 2 ^ i % 2) 1 ≡ x
   holds-first n i x t f = let e : i + 0 ≡ i = omega arith in sym (rw e at (f 0 (omega arith)))
 
-  rest-trades : (n i : ℕ) (t : List Bool) → i + n ≡ count → length t ≡ n → Holds n i t →
-      (addedIn blocks (sellsIn blocks chosen) h n i ≡ overBlocks (sells h) (taken (drop i (day .blocks)) t))
-      × (addedIn blocks (buysIn blocks chosen) h n i ≡ overBlocks (buys h) (taken (drop i (day .blocks)) t))
+  rest-trades : (n i : ℕ) (t : List Bool) → i + n ≡ tables .count → length t ≡ n → Holds n i t →
+      (addedIn (tables .blocks) (sellsIn (tables .blocks) chosen) h n i ≡ overBlocks (sells h) (taken (drop i (day .blocks)) t))
+      × (addedIn (tables .blocks) (buysIn (tables .blocks) chosen) h n i ≡ overBlocks (buys h) (taken (drop i (day .blocks)) t))
   unfolding addedIn
   rest-trades zero i [] e l f = (sym (none (sells h) (drop i (day .blocks))), sym (none (buys h) (drop i (day .blocks))))
     where
@@ -82,11 +84,11 @@ module _ {day : Day} {p rest : ℕ → ℕ} {low gap first last blocks : List �
       let more = rest-trades n (suc i) t (omega arith) (suc-inj l) (holds-next n i false t f) in
       rw (s .next, holds-first n i false t f) (omega (arith, more .0), omega (arith, more .1))
 
-  pub set-trades : (d : List Bool) → length d ≡ count → decisions (length d) chosen ≡ d →
-      (addedIn blocks (sellsIn blocks chosen) h count 0 ≡ overBlocks (sells h) (taken (day .blocks) d))
-      × (addedIn blocks (buysIn blocks chosen) h count 0 ≡ overBlocks (buys h) (taken (day .blocks) d))
+  pub set-trades : (d : List Bool) → length d ≡ tables .count → decisions (length d) chosen ≡ d →
+      (addedIn (tables .blocks) (sellsIn (tables .blocks) chosen) h (tables .count) 0 ≡ overBlocks (sells h) (taken (day .blocks) d))
+      × (addedIn (tables .blocks) (buysIn (tables .blocks) chosen) h (tables .count) 0 ≡ overBlocks (buys h) (taken (day .blocks) d))
   set-trades d size is =
-      rest-trades count 0 d (omega arith) size (λ k inside.
+      rest-trades (tables .count) 0 d (omega arith) size (λ k inside.
       let e : 0 + k ≡ k = omega arith in
       rw e (rw is at (bits-at (length d) chosen k (omega arith))))
 
@@ -104,11 +106,11 @@ price-positive day prices hours chosen law h c =
     go doesNotClear s k = absurd (s k)
 
 -- THE TRADED QUANTITY of a lawful set: at its prices, with the day's steps and what its blocks sell and buy
-pub traded-are : {day : Day} {p rest : ℕ → ℕ} {low gap first last blocks : List ℕ} {count : ℕ} → Known day p rest low gap first last blocks count →
-    {steps : ℕ → List Step} → StepsAre day steps → {chosen : ℕ} {d : List Bool} → length d ≡ count → decisions (length d) chosen ≡ d →
-    lawful day d ≡ true → {sales purchases : List ℕ} (prices quantities : List ℕ) → SetTrades blocks count chosen sales purchases →
-    ((h : ℕ) → 1 ≤ h → h ≤ 24 → ofHour prices h ≡ setPrices day (taken (day .blocks) d) h) → TradedIn steps sales purchases prices quantities →
-    (h : ℕ) → 1 ≤ h → h ≤ 24 → ofHour quantities h ≡ traded day (taken (day .blocks) d) h
+pub traded-are : {day : Day} {p rest : ℕ → ℕ} {tables : Tables} → Known day p rest tables →
+    {steps : ℕ → List Step} → StepsAre day steps → {chosen : ℕ} {d : List Bool} → length d ≡ tables .count → decisions (length d) chosen ≡ d →
+    lawful day d ≡ true → {sales purchases : List ℕ} (prices quantities : List ℕ) → SetTrades (tables .blocks) (tables .count) chosen sales purchases →
+    ((h : ℕ) → 1 ≤ h → h ≤ dayHours → ofHour prices h ≡ setPrices day (taken (day .blocks) d) h) → TradedIn steps sales purchases prices quantities →
+    (h : ℕ) → 1 ≤ h → h ≤ dayHours → ofHour quantities h ≡ traded day (taken (day .blocks) d) h
 unfolding traded
 traded-are {day} known same {chosen} {d} size is law prices quantities sets priced trades h a b =
     let c = counts (day .hours) h a b in
@@ -136,14 +138,14 @@ module _ (steps : ℕ → List Step) (sales purchases prices : List ℕ) where
       v ≡ min (buysFrom (getD prices k 0) (steps (suc k)) + getD purchases k 0) (sellsTo (getD prices k 0) (steps (suc k)) + getD sales k 0)
 
   pub record TradedTo (h : ℕ) (quantities : List ℕ) : Type 0 where
-    pub inside : h ≤ 24
-    pub size : length quantities ≡ 24
+    pub inside : h ≤ dayHours
+    pub size : length quantities ≡ dayHours
     pub done : (k : ℕ) → k < h → TradedHere k (getD quantities k 0)
 
-  pub traded-start : TradedTo 0 (replicate 24 0)
+  pub traded-start : TradedTo 0 (replicate dayHours 0)
   traded-start = record { inside = omega arith; size = refl; done = λ k a. absurd (omega arith) }
 
-  pub traded-next : (h : ℕ) (quantities : List ℕ) (v : ℕ) → TradedTo h quantities → h < 24 → TradedHere h v → TradedTo (h + 1) (set quantities h v)
+  pub traded-next : (h : ℕ) (quantities : List ℕ) (v : ℕ) → TradedTo h quantities → h < dayHours → TradedHere h v → TradedTo (h + 1) (set quantities h v)
   traded-next h quantities v t k is =
       let inside : h < length quantities = omega (arith, t .size) in
       record {
@@ -154,9 +156,9 @@ module _ (steps : ℕ → List Step) (sales purchases prices : List ℕ) where
             (rw (getD-set-same quantities h v 0 inside) is) (rw add-one at a);
       }
 
-  pub traded-all : (h : ℕ) (quantities : List ℕ) → TradedTo h quantities → 24 ≤ h → TradedIn steps sales purchases prices quantities
+  pub traded-all : (h : ℕ) (quantities : List ℕ) → TradedTo h quantities → dayHours ≤ h → TradedIn steps sales purchases prices quantities
   traded-all h quantities t k j a b =
-      let e : h ≡ 24 = omega (arith, t .inside) in
+      let e : h ≡ dayHours = omega (arith, t .inside) in
       let one : suc (j - 1) ≡ j = omega arith in
       rw one at (t .done (j - 1) (omega arith))
 
@@ -173,34 +175,34 @@ hour-of-columns ends sides prices quantities h sales purchases price v t pos =
 module _ (blocks : List ℕ) (count chosen : ℕ) where
   pub record TradesTo (i : ℕ) (sales purchases : List ℕ) : Type 0 where
     pub inside : i ≤ count
-    pub salesAre : (h : ℕ) → 1 ≤ h → h ≤ 24 → ofHour sales h ≡ addedIn blocks (sellsIn blocks chosen) h (count - i) i
-    pub purchasesAre : (h : ℕ) → 1 ≤ h → h ≤ 24 → ofHour purchases h ≡ addedIn blocks (buysIn blocks chosen) h (count - i) i
-    pub salesFit : Small ((count - i) * 50000) sales
-    pub purchasesFit : Small ((count - i) * 50000) purchases
+    pub salesAre : (h : ℕ) → 1 ≤ h → h ≤ dayHours → ofHour sales h ≡ addedIn blocks (sellsIn blocks chosen) h (count - i) i
+    pub purchasesAre : (h : ℕ) → 1 ≤ h → h ≤ dayHours → ofHour purchases h ≡ addedIn blocks (buysIn blocks chosen) h (count - i) i
+    pub salesFit : Small ((count - i) * mostAdded) sales
+    pub purchasesFit : Small ((count - i) * mostAdded) purchases
 
-  pub trades-start : TradesTo count (replicate 24 0) (replicate 24 0)
+  pub trades-start : TradesTo count (replicate dayHours 0) (replicate dayHours 0)
   unfolding addedIn
   trades-start =
       let none : count - count ≡ 0 = omega arith in
       record {
         inside = omega arith;
-        salesAre = λ h a b. rw none (zeros 24 (h - 1));
-        purchasesAre = λ h a b. rw none (zeros 24 (h - 1));
-        salesFit = λ j. omega (arith, zeros 24 j);
-        purchasesFit = λ j. omega (arith, zeros 24 j);
+        salesAre = λ h a b. rw none (zeros dayHours (h - 1));
+        purchasesAre = λ h a b. rw none (zeros dayHours (h - 1));
+        salesFit = λ j. omega (arith, zeros dayHours j);
+        purchasesFit = λ j. omega (arith, zeros dayHours j);
       }
 
   -- a list with block i - 1 added where a test passes
   abbrev AddedBy : ℕ → Bool → List ℕ → List ℕ → Type 0
-  AddedBy i test l r = (length r ≡ 24) × ((h : ℕ) → 1 ≤ h → h ≤ 24 → ofHour r h ≡ ofHour l h + when test (rowAt blocks (i - 1) h))
+  AddedBy i test l r = (length r ≡ dayHours) × ((h : ℕ) → 1 ≤ h → h ≤ dayHours → ofHour r h ≡ ofHour l h + when test (rowAt blocks (i - 1) h))
 
-  grown : (i : ℕ) (test : Bool) (l r : List ℕ) → 0 < i → i ≤ count → ((h : ℕ) → rowAt blocks (i - 1) h ≤ 50000) → AddedBy i test l r →
-      Small ((count - i) * 50000) l → Small ((count - (i - 1)) * 50000) r
+  grown : (i : ℕ) (test : Bool) (l r : List ℕ) → 0 < i → i ≤ count → ((h : ℕ) → rowAt blocks (i - 1) h ≤ mostAdded) → AddedBy i test l r →
+      Small ((count - i) * mostAdded) l → Small ((count - (i - 1)) * mostAdded) r
   grown i test l r pos le few added small =
       let n : count - (i - 1) ≡ count - i + 1 = omega arith in
       rw n (places-grow (count - i) l r (added .0) small (λ h a b. omega (arith, added .1 h a b, when-le test (rowAt blocks (i - 1) h), few h)))
 
-  pub trades-next : (i : ℕ) (sales purchases sold bought : List ℕ) → TradesTo i sales purchases → 0 < i → ((h : ℕ) → rowAt blocks (i - 1) h ≤ 50000) →
+  pub trades-next : (i : ℕ) (sales purchases sold bought : List ℕ) → TradesTo i sales purchases → 0 < i → ((h : ℕ) → rowAt blocks (i - 1) h ≤ mostAdded) →
       AddedBy i (sellsIn blocks chosen (i - 1)) sales sold → AddedBy i (buysIn blocks chosen (i - 1)) purchases bought → TradesTo (i - 1) sold bought
   trades-next i sales purchases sold bought t pos few s b = record {
     inside = omega (arith, t .inside);
@@ -210,7 +212,7 @@ module _ (blocks : List ℕ) (count chosen : ℕ) where
     purchasesFit = grown i (buysIn blocks chosen (i - 1)) purchases bought pos (t .inside) few b (t .purchasesFit);
   }
 
-  pub trades-all : (i : ℕ) (sales purchases : List ℕ) → TradesTo i sales purchases → i ≤ 0 → count ≤ 32 → SetTrades blocks count chosen sales purchases
+  pub trades-all : (i : ℕ) (sales purchases : List ℕ) → TradesTo i sales purchases → i ≤ 0 → count ≤ mostBlocks → SetTrades blocks count chosen sales purchases
   trades-all i sales purchases t k few =
       let e : i ≡ 0 = omega arith in
       let n : count - 0 ≡ count = omega arith in

@@ -1,5 +1,5 @@
 -- WHERE THE SEARCH'S TABLES AND LISTS HAVE WHAT: their sizes, and the place at which each column begins, as in src/layout.rt. Definitions only.
-use Prim.Native.Nat.{ℕ, _+_, _*_}
+use Prim.Native.Nat.{ℕ, _+_, _*_, _^_}
 use Rattle.rules.specs.Orders.{maxPrice}
 
 -- The hours of a day: the rows of a table, and what a column of the hours holds.
@@ -25,6 +25,29 @@ mostLimit = dayHours * maxPrice
 -- The most steps of a book.
 abbrev pub mostSteps : ℕ
 mostSteps = 2048
+
+-- The most that a step buys or sells.
+abbrev pub mostStep : ℕ
+mostStep = 99999
+
+-- ROOM, for safe arithmetic: what the search lets a block trade in an hour, and a place come to. Far above what a book's blocks do, and far from the end of
+-- 32 bits.
+abbrev pub mostAdded : ℕ
+mostAdded = 50000
+
+abbrev pub mostPlace : ℕ
+mostPlace = mostBlocks * mostAdded
+
+-- What all blocks lose, and what the gaps of all hours come to: each of them a number of 32 bits.
+abbrev pub mostLoss : ℕ
+mostLoss = mostBlocks * 2 ^ 32
+
+abbrev pub mostGaps : ℕ
+mostGaps = dayHours * 2 ^ 32
+
+-- The threshold of the last pass, 2 to the power of 39: every lawful set loses less than the two together.
+abbrev pub lastLimit : ℕ
+lastLimit = 549755813888
 
 -- THE TABLES: a row of places for each hour, the last place and one above it; 24 rows.
 abbrev pub rowSize : ℕ

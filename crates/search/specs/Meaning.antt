@@ -6,9 +6,10 @@ use lib.Dec.{eqb}
 use mathlib.Core.List.{List, _∷_, _++_}
 use mathlib.Core.Path.{_≡_}
 use lib.ListN.{length, drop, getD}
+use Rattle.search.specs.Layout.{blockListSize, dayHours, lastPlace, mostAdded, mostBlocks, tableSize}
 use Rattle.records.specs.Records.{holdsHour}
 use Rattle.orders.specs.Columns.{sideFor}
-use Rattle.rules.specs.Orders.{Step, Block}
+use Rattle.rules.specs.Orders.{Step, Block, maxPrice}
 use Rattle.rules.specs.Day.{Day, daySum, taken, decisions, overBlocks, sells, buys, stepsIn, setPrices, hourCount, lawful, traded}
 use Rattle.rules.specs.Outcome.{outcome}
 use Rattle.rules.specs.Contender.{PricesInRange, HoursInRange}
@@ -21,6 +22,7 @@ use Rattle.rules.proofs.LossSearchLaws as by-loss
 use Rattle.rules.proofs.PlaceLaws.{place, hourAt}
 use Rattle.rules.proofs.TwinLaws.{Ahead, InTurn}
 use Rattle.search.specs.Search.{Small, cell, ofHour, sideAt, hoursAt, limitAt, againstAt, gainAt, aheadAt, behindAt, rowAt, isOut}
+use Rattle.search.specs.Tables.{Tables}
 use Rattle.search.specs.declared.Day as code-day
 use Rattle.search.specs.declared.Best.{Best}
 use Rattle.search.specs.declared.Node.{Node}
@@ -28,25 +30,26 @@ use Rattle.rules.specs.Hour.{when}
 
 -- SIZES, for safe arithmetic and indexing
 pub record BlocksSized (blocks : List ℕ) : Type 0 where
-  pub columns : length blocks ≡ 1024
-  pub rowsFit : (i h : ℕ) → rowAt blocks i h ≤ 50000
-  pub twinsFit : (i : ℕ) → i < 32 → (aheadAt blocks i ≤ 32) × (behindAt blocks i ≤ 32)
+  pub columns : length blocks ≡ blockListSize
+  pub rowsFit : (i h : ℕ) → rowAt blocks i h ≤ mostAdded
+  pub twinsFit : (i : ℕ) → i < mostBlocks → (aheadAt blocks i ≤ mostBlocks) × (behindAt blocks i ≤ mostBlocks)
 
-pub record Sized (low gap first last blocks : List ℕ) : Type 0 where
-  pub lowRows : length low ≡ 38448
-  pub gapRows : length gap ≡ 38448
-  pub firstHours : length first ≡ 24
-  pub lastHours : length last ≡ 24
-  pub lastFits : Small 1600 last
-  pub lowFits : Small 300000 low
-  pub blocksFit : BlocksSized blocks
+pub record Sized (t : Tables) : Type 0 where
+  pub priceRows : length (t .unitPrices) ≡ tableSize
+  pub gapRows : length (t .gaps) ≡ tableSize
+  pub firstHours : length (t .first) ≡ dayHours
+  pub lastHours : length (t .last) ≡ dayHours
+  pub lastFits : Small lastPlace (t .last)
+  pub pricesFit : Small maxPrice (t .unitPrices)
+  pub blocksFit : BlocksSized (t .blocks)
+  pub few : t .count ≤ mostBlocks
 
 -- A node with so many blocks decided.
-pub record Fits (decided set loss : ℕ) (places : List ℕ) : Type 0 where
-  pub setFits : set < 2 ^ decided
-  pub lossFits : loss ≤ decided * 2 ^ 32
-  pub placesSize : length places ≡ 24
-  pub placesFit : Small (decided * 50000) places
+pub record Fits (decided : ℕ) (node : Node) : Type 0 where
+  pub setFits : node .set < 2 ^ decided
+  pub lossFits : node .loss ≤ decided * 2 ^ 32
+  pub placesSize : length (node .places) ≡ dayHours
+  pub placesFit : Small (decided * mostAdded) (node .places)
 
 -- THE DAY behind the tables, at hourly prices p; `rest` is what the tables leave off each hour's gaps
 -- Block j of the day and its columns.
@@ -55,41 +58,44 @@ pub record Shown (day : Day) (p : ℕ → ℕ) (blocks : List ℕ) (j : ℕ) : T
   pub next : drop j (day .blocks) ≡ block ∷ drop (suc j) (day .blocks)
   pub sideIs : block .side ≡ sideFor (sideAt blocks j)
   pub runsIs : (h : ℕ) → block .runs h ≡ holdsHour (hoursAt blocks j) h
-  pub rowIs : (h : ℕ) → 1 ≤ h → h ≤ 24 → rowAt blocks j h ≡ when (block .runs h) (block .quantity)
+  pub rowIs : (h : ℕ) → 1 ≤ h → h ≤ dayHours → rowAt blocks j h ≡ when (block .runs h) (block .quantity)
   pub limitIs : block .price * hourCount (day .hours) block ≡ limitAt blocks j
   pub againstIs : against (day .hours) p block ≡ againstAt blocks j
   pub gainIs : gain (day .hours) p block ≡ gainAt blocks j
 
-pub record Known (day : Day) (p rest : ℕ → ℕ) (low gap first last blocks : List ℕ) (count : ℕ) : Type 0 where
+pub record Known (day : Day) (p rest : ℕ → ℕ) (t : Tables) : Type 0 where
   pub prices : PricesInRange (day .steps)
   pub hours : HoursInRange (day .steps)
-  pub counted : length (day .blocks) ≡ count
+  pub counted : length (day .blocks) ≡ t .count
   -- no hour's blocks together reach past its row
-  pub fits : (h : ℕ) → 1 ≤ h → h ≤ 24 → overBlocks (sells h) (day .blocks) + overBlocks (buys h) (day .blocks) ≤ 1600
+  pub fits : (h : ℕ) → 1 ≤ h → h ≤ dayHours → overBlocks (sells h) (day .blocks) + overBlocks (buys h) (day .blocks) ≤ lastPlace
   -- the price table: the least price that meets the demand, one unit of N below the place
-  pub lowIs : (h i : ℕ) → 1 ≤ h → h ≤ 24 → i ≤ 1601 →
-      cell low h i ≡ unitPrice (net (stepsIn h (day .steps)) i (suc (overBlocks (buys h) (day .blocks))))
+  pub unitPriceIs : (h i : ℕ) → 1 ≤ h → h ≤ dayHours → i ≤ lastPlace + 1 →
+      cell (t .unitPrices) h i ≡ unitPrice (net (stepsIn h (day .steps)) i (suc (overBlocks (buys h) (day .blocks))))
   -- the places at which an hour clears, of those that its blocks can reach
-  pub clears : (h i : ℕ) → 1 ≤ h → h ≤ 24 → i ≤ 1600 → ofHour first h ≤ i → i ≤ ofHour last h → Clearable (hourAt day h i)
-  pub clearsOnly : (h i : ℕ) → 1 ≤ h → h ≤ 24 → i ≤ overBlocks (sells h) (day .blocks) + overBlocks (buys h) (day .blocks) → Clearable (hourAt day h i) →
-      (ofHour first h ≤ i) × (i ≤ ofHour last h)
+  pub clears : (h i : ℕ) → 1 ≤ h → h ≤ dayHours → i ≤ lastPlace → ofHour (t .first) h ≤ i → i ≤ ofHour (t .last) h → Clearable (hourAt day h i)
+  pub clearsOnly : (h i : ℕ) → 1 ≤ h → h ≤ dayHours → i ≤ overBlocks (sells h) (day .blocks) + overBlocks (buys h) (day .blocks) → Clearable (hourAt day h i) →
+      (ofHour (t .first) h ≤ i) × (i ≤ ofHour (t .last) h)
   -- the gap table
-  pub gapIs : (h i : ℕ) → 1 ≤ h → h ≤ 24 → ofHour first h ≤ i → i ≤ ofHour last h → slack (p h) (hourAt day h i) ≡ cell gap h i + rest h
-  pub shown : (j : ℕ) → j < count → Shown day p blocks j
+  pub gapIs : (h i : ℕ) → 1 ≤ h → h ≤ dayHours → ofHour (t .first) h ≤ i → i ≤ ofHour (t .last) h →
+      slack (p h) (hourAt day h i) ≡ cell (t .gaps) h i + rest h
+  pub shown : (j : ℕ) → j < t .count → Shown day p (t .blocks) j
   -- the twins
-  pub ahead : (j a : ℕ) → j < count → aheadAt blocks j ≡ suc a → (a < j) × Ahead day p a j
-  pub behind : (j b : ℕ) → j < count → behindAt blocks j ≡ suc b → (b < j) × Ahead day p j b
+  pub ahead : (j a : ℕ) → j < t .count → aheadAt (t .blocks) j ≡ suc a → (a < j) × Ahead day p a j
+  pub behind : (j b : ℕ) → j < t .count → behindAt (t .blocks) j ≡ suc b → (b < j) × Ahead day p j b
 
 -- Each hour's gaps fall to the place where they turn, and rise from it.
-pub record Turning (gap first last turn : List ℕ) : Type 0 where
-  pub falls : (h i j : ℕ) → 1 ≤ h → h ≤ 24 → ofHour first h ≤ i → i ≤ j → j ≤ ofHour last h → j ≤ ofHour turn h → cell gap h j ≤ cell gap h i
-  pub rises : (h i j : ℕ) → 1 ≤ h → h ≤ 24 → ofHour first h ≤ i → i ≤ j → j ≤ ofHour last h → ofHour turn h ≤ i → cell gap h i ≤ cell gap h j
+pub record Turning (t : Tables) : Type 0 where
+  pub falls : (h i j : ℕ) → 1 ≤ h → h ≤ dayHours → ofHour (t .first) h ≤ i → i ≤ j → j ≤ ofHour (t .last) h → j ≤ ofHour (t .turn) h →
+      cell (t .gaps) h j ≤ cell (t .gaps) h i
+  pub rises : (h i j : ℕ) → 1 ≤ h → h ≤ dayHours → ofHour (t .first) h ≤ i → i ≤ j → j ≤ ofHour (t .last) h → ofHour (t .turn) h ≤ i →
+      cell (t .gaps) h i ≤ cell (t .gaps) h j
 
 -- THE BRANCH of the decided blocks d
-pub record Branch (day : Day) (p : ℕ → ℕ) (d : List Bool) (set loss : ℕ) (places : List ℕ) : Type 0 where
-  pub setIs : decisions (length d) set ≡ d
-  pub lossIs : loss ≡ losses (day .hours) p (day .blocks) d
-  pub placesAre : (h : ℕ) → 1 ≤ h → h ≤ 24 → ofHour places h ≡ place (day .blocks) d h
+pub record Branch (day : Day) (p : ℕ → ℕ) (d : List Bool) (node : Node) : Type 0 where
+  pub setIs : decisions (length d) (node .set) ≡ d
+  pub lossIs : node .loss ≡ losses (day .hours) p (day .blocks) d
+  pub placesAre : (h : ℕ) → 1 ≤ h → h ≤ dayHours → ofHour (node .places) h ≡ place (day .blocks) d h
 
 -- the loss of a set, less what the tables leave off
 unfoldable pub lossAbove : Day → (ℕ → ℕ) → (ℕ → ℕ) → List Bool → ℕ
@@ -101,8 +107,8 @@ bestAs count best = record { limit = best .limit; set = decisions count (best .s
 
 -- a set's prices and traded quantities
 pub record DayOf (day : Day) (set : List Bool) (found : code-day.Day) : Type 0 where
-  pub pricesAre : (h : ℕ) → 1 ≤ h → h ≤ 24 → ofHour (found .prices) h ≡ setPrices day (taken (day .blocks) set) h
-  pub tradedAre : (h : ℕ) → 1 ≤ h → h ≤ 24 → ofHour (found .quantities) h ≡ traded day (taken (day .blocks) set) h
+  pub pricesAre : (h : ℕ) → 1 ≤ h → h ≤ dayHours → ofHour (found .prices) h ≡ setPrices day (taken (day .blocks) set) h
+  pub tradedAre : (h : ℕ) → 1 ≤ h → h ≤ dayHours → ofHour (found .quantities) h ≡ traded day (taken (day .blocks) set) h
 
 -- WHAT A BRANCH GIVES BACK of the best so far
 pub record Outcome (day : Day) (p rest : ℕ → ℕ) (count left : ℕ) (d : List Bool) (best r : Best) : Type 0 where
@@ -112,60 +118,58 @@ pub record Outcome (day : Day) (p rest : ℕ → ℕ) (count left : ℕ) (d : Li
 
 -- the steps of each hour are the day's
 abbrev pub StepsAre : Day → (ℕ → List Step) → Type 0
-StepsAre day steps = (h : ℕ) → 1 ≤ h → h ≤ 24 → steps h ≡ stepsIn h (day .steps)
+StepsAre day steps = (h : ℕ) → 1 ≤ h → h ≤ dayHours → steps h ≡ stepsIn h (day .steps)
 
-abbrev pub Decided : (low gap first last blocks : List ℕ) (steps : ℕ → List Step) (count set loss : ℕ) (places : List ℕ) (best r : Best) → Type 0
-Decided low gap first last blocks steps count set loss places best r =
-    (day : _) (p rest : ℕ → ℕ) (d : List Bool) → StepsAre day steps → Known day p rest low gap first last blocks count → Branch day p d set loss places →
-    length d ≡ count → set < 2 ^ count → Outcome day p rest count 0 d best r
+abbrev pub Decided : (t : Tables) (steps : ℕ → List Step) (node : Node) (best r : Best) → Type 0
+Decided t steps node best r =
+    (day : _) (p rest : ℕ → ℕ) (d : List Bool) → StepsAre day steps → Known day p rest t → Branch day p d node →
+    length d ≡ t .count → node .set < 2 ^ t .count → Outcome day p rest (t .count) 0 d best r
 
 -- THE BLOCKS THAT ARE OUT of a branch: no lawful completion that loses less than the limit takes one of them.
 abbrev pub OutOf : (day : Day) (p rest : ℕ → ℕ) (d : List Bool) (left limit out : ℕ) → Type 0
 OutOf day p rest d left limit out =
-    (t : List Bool) (k : ℕ) → length t ≡ left → lawful day (d ++ t) ≡ true → lossAbove day p rest (d ++ t) < limit → k < left →
-    isOut out k ≡ true → getD t k false ≡ false
+    (tail : List Bool) (k : ℕ) → length tail ≡ left → lawful day (d ++ tail) ≡ true → lossAbove day p rest (d ++ tail) < limit → k < left →
+    isOut out k ≡ true → getD tail k false ≡ false
 
 -- THE BRANCH AT ITS TABLES, with its blocks that are out
-pub record At (low gap first last turn blocks : List ℕ) (count left : ℕ) (node : Node) (limit out : ℕ) (day : Day) (p rest : ℕ → ℕ) (d : List Bool) :
-    Type 0 where
-  pub known : Known day p rest low gap first last blocks count
-  pub turning : Turning gap first last turn
-  pub branch : Branch day p d (node .set) (node .loss) (node .places)
-  pub size : length d + left ≡ count
+pub record At (t : Tables) (left : ℕ) (node : Node) (limit out : ℕ) (day : Day) (p rest : ℕ → ℕ) (d : List Bool) : Type 0 where
+  pub known : Known day p rest t
+  pub turning : Turning t
+  pub branch : Branch day p d node
+  pub size : length d + left ≡ t .count
   pub outOf : OutOf day p rest d left limit out
 
-abbrev pub ExploredFrom : (low gap first last turn blocks : List ℕ) (steps : ℕ → List Step) (count left out : ℕ) (node : Node) (best r : Best) → Type 0
-ExploredFrom low gap first last turn blocks steps count left out node best r =
-    (day : _) (p rest : ℕ → ℕ) (d : List Bool) → StepsAre day steps → At low gap first last turn blocks count left node (best .limit) out day p rest d →
-    Outcome day p rest count left d best r
+abbrev pub ExploredFrom : (t : Tables) (steps : ℕ → List Step) (left out : ℕ) (node : Node) (best r : Best) → Type 0
+ExploredFrom t steps left out node best r =
+    (day : _) (p rest : ℕ → ℕ) (d : List Bool) → StepsAre day steps → At t left node (best .limit) out day p rest d →
+    Outcome day p rest (t .count) left d best r
 
 -- A BRANCH TO DROP: no lawful completion loses less than the limit.
-abbrev pub DroppedFrom : (low gap first last turn blocks : List ℕ) (count left out : ℕ) (node : Node) (limit : ℕ) → Type 0
-DroppedFrom low gap first last turn blocks count left out node limit =
-    (day : _) (p rest : ℕ → ℕ) (d t : List Bool) → At low gap first last turn blocks count left node limit out day p rest d →
-    length t ≡ left → lawful day (d ++ t) ≡ true → limit ≤ lossAbove day p rest (d ++ t)
+abbrev pub DroppedFrom : (t : Tables) (left out : ℕ) (node : Node) (limit : ℕ) → Type 0
+DroppedFrom t left out node limit =
+    (day : _) (p rest : ℕ → ℕ) (d tail : List Bool) → At t left node limit out day p rest d →
+    length tail ≡ left → lawful day (d ++ tail) ≡ true → limit ≤ lossAbove day p rest (d ++ tail)
 
 -- A BRANCH JUDGED: it is dropped, or these blocks are out of it.
-pub record JudgedFrom (low gap first last turn blocks : List ℕ) (count left out : ℕ) (node : Node) (limit : ℕ) (isDropped : Bool) (r : ℕ) : Type 0 where
-  pub dropped : isDropped ≡ true → DroppedFrom low gap first last turn blocks count left out node limit
-  pub outOf : isDropped ≡ false → (day : _) (p rest : ℕ → ℕ) (d : List Bool) → At low gap first last turn blocks count left node limit out day p rest d →
-      OutOf day p rest d left limit r
+pub record JudgedFrom (t : Tables) (left out : ℕ) (node : Node) (limit : ℕ) (isDropped : Bool) (r : ℕ) : Type 0 where
+  pub dropped : isDropped ≡ true → DroppedFrom t left out node limit
+  pub outOf : isDropped ≡ false → (day : _) (p rest : ℕ → ℕ) (d : List Bool) → At t left node limit out day p rest d → OutOf day p rest d left limit r
 
 -- ONE MORE BLOCK decided: the set, the loss, and the places moved on by what a sell sells if taken, a buy buys if left out
 pub record TakenTo (blocks : List ℕ) (at : ℕ) (node r : Node) : Type 0 where
   pub setIs : r .set ≡ node .set + 2 ^ at
   pub lossIs : r .loss ≡ node .loss + againstAt blocks at
-  pub placesAre : (h : ℕ) → 1 ≤ h → h ≤ 24 →
+  pub placesAre : (h : ℕ) → 1 ≤ h → h ≤ dayHours →
       ofHour (r .places) h ≡ ofHour (node .places) h + when (not (eqb (sideAt blocks at) 0)) (rowAt blocks at h)
 
 pub record LeftTo (blocks : List ℕ) (at : ℕ) (node r : Node) : Type 0 where
   pub setIs : r .set ≡ node .set
   pub lossIs : r .loss ≡ node .loss + gainAt blocks at
-  pub placesAre : (h : ℕ) → 1 ≤ h → h ≤ 24 →
+  pub placesAre : (h : ℕ) → 1 ≤ h → h ≤ dayHours →
       ofHour (r .places) h ≡ ofHour (node .places) h + when (eqb (sideAt blocks at) 0) (rowAt blocks at h)
 
 -- THE PUBLISHED SET, with its day
-abbrev pub FoundIn : (low gap first last turn blocks : List ℕ) (steps : ℕ → List Step) (count : ℕ) (r : Best) → Type 0
-FoundIn low gap first last turn blocks steps count r =
-    (day : _) (p rest : ℕ → ℕ) → StepsAre day steps → Known day p rest low gap first last blocks count → Turning gap first last turn →
-    (decisions count (r .set) ≡ outcome day) × (r .set < 2 ^ count) × DayOf day (outcome day) (r .day)
+abbrev pub FoundIn : (t : Tables) (steps : ℕ → List Step) (r : Best) → Type 0
+FoundIn t steps r =
+    (day : _) (p rest : ℕ → ℕ) → StepsAre day steps → Known day p rest t → Turning t →
+    (decisions (t .count) (r .set) ≡ outcome day) × (r .set < 2 ^ t .count) × DayOf day (outcome day) (r .day)

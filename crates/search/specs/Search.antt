@@ -6,9 +6,10 @@ use mathlib.Core.Path.{_≡_}
 use lib.Dec.{eqb, leb}
 use lib.ListN.{length, take, drop, getD}
 use lib.Seq.{slice}
+use Rattle.search.specs.Layout.{againstColumn, aheadColumn, behindColumn, blockRows, dayHours, gainColumn, hoursColumn, limitColumn, mostGaps, mostPlace, mostStep, mostSteps, quantityColumn, rowSize, turnColumn}
 use Rattle.rules.specs.Execution.{testSide}
 use Rattle.orders.specs.Columns.{sideFor, stepsFrom}
-use Rattle.rules.specs.Orders.{Step}
+use Rattle.rules.specs.Orders.{Step, maxPrice}
 use Rattle.rules.specs.Hour.{bySide, when, buysFrom, sellsTo}
 use Rattle.rules.specs.Day.{sumTo}
 use Rattle.records.specs.Records.{holdsHour}
@@ -19,46 +20,46 @@ Small m l = (i : ℕ) → getD l i 0 ≤ m
 
 -- A price of at most 300,000 for each of 24 hours.
 abbrev pub DayPrices : List ℕ → Type 0
-DayPrices l = (length l ≡ 24) × Small 300000 l
+DayPrices l = (length l ≡ dayHours) × Small maxPrice l
 
 -- The sum of a column of hours over the hours of a block, given as bits.
 unfoldable pub sumOfHours : List ℕ → ℕ → ℕ
-sumOfHours column hours = sumTo 24 (λ h. when (holdsHour hours h) (getD column (h - 1) 0))
+sumOfHours column hours = sumTo dayHours (λ h. when (holdsHour hours h) (getD column (h - 1) 0))
 
 -- THE TABLES: 24 rows of 1,602 places, hour 1 first.
 -- The number at a place of hour h.
 abbrev pub cell : List ℕ → ℕ → ℕ → ℕ
-cell table h i = getD table ((h - 1) * 1602 + i) 0
+cell table h i = getD table ((h - 1) * rowSize + i) 0
 
 -- The number of hour h in a column of 24.
 abbrev pub ofHour : List ℕ → ℕ → ℕ
 ofHour column h = getD column (h - 1) 0
 
 -- THE HOURS: three columns of 24 numbers: the first and the last place at which each clears, and the place of its least gap, where its gaps turn.
-abbrev pub firstOf : List ℕ → List ℕ
-firstOf hours = take 24 hours
+abbrev pub clearsFirst : List ℕ → List ℕ
+clearsFirst hours = take dayHours hours
 
-abbrev pub lastOf : List ℕ → List ℕ
-lastOf hours = take 24 (drop 24 hours)
+abbrev pub clearsLast : List ℕ → List ℕ
+clearsLast hours = take dayHours (drop dayHours hours)
 
-abbrev pub turnOf : List ℕ → List ℕ
-turnOf hours = take 24 (drop 48 hours)
+abbrev pub gapsTurn : List ℕ → List ℕ
+gapsTurn hours = take dayHours (drop turnColumn hours)
 
 -- Each hour clears at its place, the place lying from the hour's first to its last.
 abbrev pub InRange : List ℕ → List ℕ → List ℕ → Type 0
-InRange first last places = (h : ℕ) → 1 ≤ h → h ≤ 24 → (ofHour first h ≤ ofHour places h) × (ofHour places h ≤ ofHour last h)
+InRange first last places = (h : ℕ) → 1 ≤ h → h ≤ dayHours → (ofHour first h ≤ ofHour places h) × (ofHour places h ≤ ofHour last h)
 
 -- The gaps at the places: their sum where every place is in range.
 pub record GapsOf (gap first last places : List ℕ) (clears : Bool) (sum : ℕ) : Type 0 where
   pub inRange : clears ≡ true → InRange first last places
   pub notInRange : clears ≡ false → InRange first last places → ⊥
-  pub sumIs : clears ≡ true → sum ≡ sumTo 24 (λ h. cell gap h (ofHour places h))
-  pub fits : sum ≤ 24 * 2 ^ 32
+  pub sumIs : clears ≡ true → sum ≡ sumTo dayHours (λ h. cell gap h (ofHour places h))
+  pub fits : sum ≤ mostGaps
 
 -- The prices at the places: the middle of the two neighbouring entries.
-pub record PricesOf (low places prices : List ℕ) : Type 0 where
-  pub are : (h : ℕ) → 1 ≤ h → h ≤ 24 → ofHour prices h ≡ (cell low h (ofHour places h) + cell low h (ofHour places h + 1)) / 2
-  pub small : Small 300000 prices
+pub record PricesOf (unitPrices places prices : List ℕ) : Type 0 where
+  pub are : (h : ℕ) → 1 ≤ h → h ≤ dayHours → ofHour prices h ≡ (cell unitPrices h (ofHour places h) + cell unitPrices h (ofHour places h + 1)) / 2
+  pub small : Small maxPrice prices
 
 -- THE BLOCKS: eight columns of 32 numbers: side, hours, quantity, limit (price times hour count), loss if taken, loss if left out, and for twins the
 -- earlier block that is taken before this one, and the one that is taken after it (0 for none, else its number and 1); then 32 rows of 24 hours.
@@ -66,29 +67,29 @@ abbrev pub sideAt : List ℕ → ℕ → ℕ
 sideAt blocks i = getD blocks i 0
 
 abbrev pub hoursAt : List ℕ → ℕ → ℕ
-hoursAt blocks i = getD blocks (32 + i) 0
+hoursAt blocks i = getD blocks (hoursColumn + i) 0
 
 abbrev pub quantityAt : List ℕ → ℕ → ℕ
-quantityAt blocks i = getD blocks (64 + i) 0
+quantityAt blocks i = getD blocks (quantityColumn + i) 0
 
 abbrev pub limitAt : List ℕ → ℕ → ℕ
-limitAt blocks i = getD blocks (96 + i) 0
+limitAt blocks i = getD blocks (limitColumn + i) 0
 
 abbrev pub againstAt : List ℕ → ℕ → ℕ
-againstAt blocks i = getD blocks (128 + i) 0
+againstAt blocks i = getD blocks (againstColumn + i) 0
 
 abbrev pub gainAt : List ℕ → ℕ → ℕ
-gainAt blocks i = getD blocks (160 + i) 0
+gainAt blocks i = getD blocks (gainColumn + i) 0
 
 abbrev pub aheadAt : List ℕ → ℕ → ℕ
-aheadAt blocks i = getD blocks (192 + i) 0
+aheadAt blocks i = getD blocks (aheadColumn + i) 0
 
 abbrev pub behindAt : List ℕ → ℕ → ℕ
-behindAt blocks i = getD blocks (224 + i) 0
+behindAt blocks i = getD blocks (behindColumn + i) 0
 
 -- What block i trades in hour h.
 abbrev pub rowAt : List ℕ → ℕ → ℕ → ℕ
-rowAt blocks i h = getD blocks (256 + 24 * i + (h - 1)) 0
+rowAt blocks i h = getD blocks (blockRows + dayHours * i + (h - 1)) 0
 
 -- A twin that is taken before block i is left out: block i is not taken. One that is taken after it is taken: block i is taken too.
 unfoldable pub isBarred : (blocks : List ℕ) (i set : ℕ) → Bool
@@ -153,17 +154,17 @@ addedIn blocks moves h (suc n) i = when (moves i) (rowAt blocks i h) + addedIn b
 
 -- The least places and what is free with block i more, each where the block moves it.
 pub record AddedTo (blocks : List ℕ) (i : ℕ) (must may : Bool) (least free more freer : List ℕ) : Type 0 where
-  pub moreSize : length more ≡ 24
-  pub freerSize : length freer ≡ 24
-  pub moreIs : (h : ℕ) → 1 ≤ h → h ≤ 24 → ofHour more h ≡ ofHour least h + when must (rowAt blocks i h)
-  pub freerIs : (h : ℕ) → 1 ≤ h → h ≤ 24 → ofHour freer h ≡ ofHour free h + when may (rowAt blocks i h)
+  pub moreSize : length more ≡ dayHours
+  pub freerSize : length freer ≡ dayHours
+  pub moreIs : (h : ℕ) → 1 ≤ h → h ≤ dayHours → ofHour more h ≡ ofHour least h + when must (rowAt blocks i h)
+  pub freerIs : (h : ℕ) → 1 ≤ h → h ≤ dayHours → ofHour freer h ≡ ofHour free h + when may (rowAt blocks i h)
 
 -- The least places of the hours, and what the blocks from number j on are free to add.
 pub record RestOf (blocks : List ℕ) (count j out loss limit : ℕ) (places least free : List ℕ) : Type 0 where
-  pub leastIs : (h : ℕ) → 1 ≤ h → h ≤ 24 → ofHour least h ≡ ofHour places h + addedIn blocks (mustFrom blocks j out loss limit) h (count - j) j
-  pub freeIs : (h : ℕ) → 1 ≤ h → h ≤ 24 → ofHour free h ≡ addedIn blocks (mayFrom blocks j out loss limit) h (count - j) j
-  pub leastFits : Small 1600000 least
-  pub freeFits : Small 1600000 free
+  pub leastIs : (h : ℕ) → 1 ≤ h → h ≤ dayHours → ofHour least h ≡ ofHour places h + addedIn blocks (mustFrom blocks j out loss limit) h (count - j) j
+  pub freeIs : (h : ℕ) → 1 ≤ h → h ≤ dayHours → ofHour free h ≡ addedIn blocks (mayFrom blocks j out loss limit) h (count - j) j
+  pub leastFits : Small mostPlace least
+  pub freeFits : Small mostPlace free
 
 -- The larger and the smaller of two numbers; the number from a to b that is nearest to n.
 unfoldable pub larger : ℕ → ℕ → ℕ
@@ -177,10 +178,10 @@ nearest n a b = smaller (larger n a) b
 
 -- From its least place, with so much free to add, an hour reaches the places from..to at which it clears; it can balance where there are any.
 pub record ReachOf (first last least free : List ℕ) (balances : Bool) (from to : List ℕ) : Type 0 where
-  pub fromIs : (h : ℕ) → 1 ≤ h → h ≤ 24 → ofHour from h ≡ larger (ofHour least h) (ofHour first h)
-  pub toIs : (h : ℕ) → 1 ≤ h → h ≤ 24 → ofHour to h ≡ smaller (ofHour least h + ofHour free h) (ofHour last h)
-  pub balanced : balances ≡ true → (h : ℕ) → 1 ≤ h → h ≤ 24 → ofHour from h ≤ ofHour to h
-  pub unbalanced : balances ≡ false → ((h : ℕ) → 1 ≤ h → h ≤ 24 → ofHour from h ≤ ofHour to h) → ⊥
+  pub fromIs : (h : ℕ) → 1 ≤ h → h ≤ dayHours → ofHour from h ≡ larger (ofHour least h) (ofHour first h)
+  pub toIs : (h : ℕ) → 1 ≤ h → h ≤ dayHours → ofHour to h ≡ smaller (ofHour least h + ofHour free h) (ofHour last h)
+  pub balanced : balances ≡ true → (h : ℕ) → 1 ≤ h → h ≤ dayHours → ofHour from h ≤ ofHour to h
+  pub unbalanced : balances ≡ false → ((h : ℕ) → 1 ≤ h → h ≤ dayHours → ofHour from h ≤ ofHour to h) → ⊥
 
 -- A branch at these places reaches that with its blocks from number j on.
 pub record ReachedBy (first last blocks : List ℕ) (count j out loss limit : ℕ) (places : List ℕ) (balances : Bool) (from to : List ℕ) : Type 0 where
@@ -191,7 +192,7 @@ pub record ReachedBy (first last blocks : List ℕ) (count j out loss limit : �
 
 -- The sum of the hours' gaps at the places from `from` to `to` that are nearest to where the gaps turn.
 unfoldable pub leastGaps : (gap turn from to : List ℕ) → ℕ
-leastGaps gap turn from to = sumTo 24 (λ h. cell gap h (nearest (ofHour turn h) (ofHour from h) (ofHour to h)))
+leastGaps gap turn from to = sumTo dayHours (λ h. cell gap h (nearest (ofHour turn h) (ofHour from h) (ofHour to h)))
 
 -- WHAT A DECIDED SET TRADES
 -- Block i of a set given as bits is in it and sells; is in it and buys.
@@ -203,9 +204,9 @@ buysIn blocks set i = eqb (set / 2 ^ i % 2) 1 && eqb (sideAt blocks i) 0
 
 -- What the first count blocks of a set sell and buy in each hour.
 pub record SetTrades (blocks : List ℕ) (count set : ℕ) (sales purchases : List ℕ) : Type 0 where
-  pub salesAre : (h : ℕ) → 1 ≤ h → h ≤ 24 → ofHour sales h ≡ addedIn blocks (sellsIn blocks set) h count 0
-  pub purchasesAre : (h : ℕ) → 1 ≤ h → h ≤ 24 → ofHour purchases h ≡ addedIn blocks (buysIn blocks set) h count 0
-  pub purchasesFit : Small 1600000 purchases
+  pub salesAre : (h : ℕ) → 1 ≤ h → h ≤ dayHours → ofHour sales h ≡ addedIn blocks (sellsIn blocks set) h count 0
+  pub purchasesAre : (h : ℕ) → 1 ≤ h → h ≤ dayHours → ofHour purchases h ≡ addedIn blocks (buysIn blocks set) h count 0
+  pub purchasesFit : Small mostPlace purchases
 
 -- THE STEPS: columns of sides, prices and quantities, hour after hour; `ends` has at h how many of them the hours 1 to h have.
 -- Every one of the first n numbers of a list is at most m.
@@ -223,26 +224,26 @@ stepsAt ends sides prices quantities h = stepsFrom h (partOf ends sides h) (part
 -- What is asked of the columns, for safe arithmetic and indexing.
 pub record StepsSized (ends sides prices quantities : List ℕ) : Type 0 where
   pub start : getD ends 0 0 ≡ 0
-  pub rise : (h : ℕ) → h < 24 → getD ends h 0 ≤ getD ends (h + 1) 0
-  pub fit : getD ends 24 0 ≤ 2048
-  pub inSides : getD ends 24 0 ≤ length sides
-  pub inPrices : getD ends 24 0 ≤ length prices
-  pub inQuantities : getD ends 24 0 ≤ length quantities
-  pub pricesFit : FirstSmall (getD ends 24 0) 300000 prices
-  pub quantitiesFit : FirstSmall (getD ends 24 0) 99999 quantities
+  pub rise : (h : ℕ) → h < dayHours → getD ends h 0 ≤ getD ends (h + 1) 0
+  pub fit : getD ends dayHours 0 ≤ mostSteps
+  pub inSides : getD ends dayHours 0 ≤ length sides
+  pub inPrices : getD ends dayHours 0 ≤ length prices
+  pub inQuantities : getD ends dayHours 0 ≤ length quantities
+  pub pricesFit : FirstSmall (getD ends dayHours 0) maxPrice prices
+  pub quantitiesFit : FirstSmall (getD ends dayHours 0) mostStep quantities
 
 -- The part of the columns from one place to another is within them, and its prices and quantities are in their ranges.
 pub record PartSized (sides prices quantities : List ℕ) (from to : ℕ) : Type 0 where
   pub ordered : from ≤ to
-  pub fit : to ≤ 2048
+  pub fit : to ≤ mostSteps
   pub inSides : to ≤ length sides
   pub inPrices : to ≤ length prices
   pub inQuantities : to ≤ length quantities
-  pub pricesFit : FirstSmall to 300000 prices
-  pub quantitiesFit : FirstSmall to 99999 quantities
+  pub pricesFit : FirstSmall to maxPrice prices
+  pub quantitiesFit : FirstSmall to mostStep quantities
 
 -- What is traded in each hour at its price: what is bought at or above it, or sold at or below it, the lesser, each with the blocks' own.
 abbrev pub TradedIn : (steps : ℕ → List Step) (sales purchases prices traded : List ℕ) → Type 0
 TradedIn steps sales purchases prices traded =
-    (h : ℕ) → 1 ≤ h → h ≤ 24 → 1 ≤ ofHour prices h →
+    (h : ℕ) → 1 ≤ h → h ≤ dayHours → 1 ≤ ofHour prices h →
     ofHour traded h ≡ min (buysFrom (ofHour prices h) (steps h) + ofHour purchases h) (sellsTo (ofHour prices h) (steps h) + ofHour sales h)

@@ -8,17 +8,39 @@ ghost use Rattle.rules.specs.Hour.{when};
 ghost use Rattle.records.specs.Records.{holdsHour};
 ghost use mathlib.Core.Bool.{cond};
 ghost use Rattle.pricing.specs.Curves.{TradedAt};
-ghost use Rattle.search.specs.Search.{Small, DayPrices, sumOfHours, ofHour, GapsOf, PricesOf, keepsAt, allKeep, isOut, isRuledOut, mustMove, mayMove, AddedTo, isBarred, isDue, isForced, rowAt, RestOf, ReachOf, ReachedBy, leastGaps, firstOf, lastOf, turnOf, SetTrades, TradedIn, StepsSized, PartSized, stepsAt};
+ghost use Rattle.search.specs.Search.{Small, DayPrices, sumOfHours, ofHour, GapsOf, PricesOf, keepsAt, allKeep, isOut, isRuledOut, mustMove, mayMove, AddedTo, isBarred, isDue, isForced, rowAt, RestOf, ReachOf, ReachedBy, leastGaps, clearsFirst, clearsLast, SetTrades, TradedIn, StepsSized, PartSized, stepsAt};
 ghost use Rattle.search.specs.Search as numbers;
+ghost use Rattle.rules.specs.Orders.{maxPrice};
+ghost use Rattle.search.specs.Layout.{dayHours, mostBlocks, lastPlace, mostLimit, mostAdded, mostPlace, mostLoss, mostGaps, tableSize, hourListSize, blockListSize};
+ghost use Rattle.search.specs.Tables.{tablesOf};
 ghost use Rattle.search.specs.Meaning.{BlocksSized, Sized, Fits, Decided, TakenTo, LeftTo, JudgedFrom, ExploredFrom, FoundIn};
+use crate::layout::AGAINST;
+use crate::layout::AHEAD;
+use crate::layout::BEHIND;
+use crate::layout::BLOCK_ROWS;
+use crate::layout::FIRST;
+use crate::layout::GAIN;
+use crate::layout::HOUR_LIST;
+use crate::layout::HOURS;
+use crate::layout::LAST;
+use crate::layout::LIMIT;
+use crate::layout::ROW;
+use crate::layout::RUNS;
+use crate::layout::TURN;
 use pricing::execution::traded_at;
 
 pub mod layout;
 
+// The threshold of the first pass: the published set seldom loses as much.
+const FIRST_LIMIT: u64 = 1024;
+
+// The threshold of the last pass, 2 to the power of 39: more than 32 blocks and 24 hours can lose, each of them less than 2 to the power of 32.
+const LAST_LIMIT: u64 = 549755813888;
+
 // The price and the traded quantity of each hour.
 pub struct Day {
-    pub prices: [u32; 24],
-    pub quantities: [u32; 24],
+    pub prices: [u32; HOURS],
+    pub quantities: [u32; HOURS],
 }
 
 // The least loss so far with its set and day; at first a threshold.
@@ -29,21 +51,21 @@ pub struct Best {
 }
 
 fn bit(at: u32) -> u32
-    requires { ⌜ at < 32 ⌝ }
+    requires { ⌜ at < mostBlocks ⌝ }
     ensures { λ r. ⌜ r ≡ 2 ^ at ⌝ }
 {
     1u32 << at
 }
 
 // The places with a quantity more in each hour of a block.
-pub fn moved(places: [u32; 24], hours: u32, quantity: u32) -> [u32; 24]
-    requires { ⌜ Small 1600000 places × (quantity ≤ 50000) ⌝ }
-    ensures { λ r. ⌜ (length r ≡ 24) × ((h : ℕ) → 1 ≤ h → h ≤ 24 → getD r (h - 1) 0 ≡ getD places (h - 1) 0 + when (holdsHour hours h) quantity) ⌝ }
+pub fn moved(places: [u32; HOURS], hours: u32, quantity: u32) -> [u32; HOURS]
+    requires { ⌜ Small mostPlace places × (quantity ≤ mostAdded) ⌝ }
+    ensures { λ r. ⌜ (length r ≡ dayHours) × ((h : ℕ) → 1 ≤ h → h ≤ dayHours → getD r (h - 1) 0 ≡ getD places (h - 1) 0 + when (holdsHour hours h) quantity) ⌝ }
 {
     let mut r = places;
     let mut h: usize = 0;
     let mut rest = hours;
-    while h < 24 {
+    while h < HOURS {
         r[h] += (rest % 2) * quantity;
         rest = rest / 2;
         h += 1;
@@ -54,12 +76,12 @@ pub fn moved(places: [u32; 24], hours: u32, quantity: u32) -> [u32; 24]
 // The sum of prices over the hours of a block.
 pub fn price_sum(prices: &[u32], hours: u32) -> u32
     requires { ⌜ DayPrices (now prices) ⌝ }
-    ensures { λ r. ⌜ (r ≡ sumOfHours (now (prices .entry)) hours) × (r ≤ 7200000) ⌝ }
+    ensures { λ r. ⌜ (r ≡ sumOfHours (now (prices .entry)) hours) × (r ≤ mostLimit) ⌝ }
 {
     let mut sum: u32 = 0;
     let mut h: usize = 0;
     let mut rest = hours;
-    while h < 24 {
+    while h < HOURS {
         sum += (rest % 2) * prices[h];
         rest = rest / 2;
         h += 1;
@@ -73,13 +95,13 @@ struct Gaps {
     sum: u64,
 }
 
-fn gaps_at(gap: &[u32], first: &[u32], last: &[u32], places: [u32; 24]) -> Gaps
-    requires { ⌜ (length (now gap) ≡ 38448) × (length (now first) ≡ 24) × (length (now last) ≡ 24) × Small 1600 (now last) ⌝ }
+fn gaps_at(gap: &[u32], first: &[u32], last: &[u32], places: [u32; HOURS]) -> Gaps
+    requires { ⌜ (length (now gap) ≡ tableSize) × (length (now first) ≡ dayHours) × (length (now last) ≡ dayHours) × Small lastPlace (now last) ⌝ }
     ensures { λ r. ⌜ GapsOf (now (gap .entry)) (now (first .entry)) (now (last .entry)) places (r .clears) (r .sum) ⌝ }
 {
     let mut sum: u64 = 0;
     let mut h: usize = 0;
-    while h < 24 {
+    while h < HOURS {
         let place = places[h];
         if (place < first[h]) | (last[h] < place) {
             return Gaps {
@@ -87,7 +109,7 @@ fn gaps_at(gap: &[u32], first: &[u32], last: &[u32], places: [u32; 24]) -> Gaps
                 sum: 0,
             };
         }
-        let cell = gap[h * 1602 + (place as usize)];
+        let cell = gap[h * ROW + (place as usize)];
         sum += cell as u64;
         h += 1;
     }
@@ -98,15 +120,15 @@ fn gaps_at(gap: &[u32], first: &[u32], last: &[u32], places: [u32; 24]) -> Gaps
 }
 
 // The price of each hour at its place.
-pub fn prices_at(low: &[u32], places: [u32; 24]) -> [u32; 24]
-    requires { ⌜ (length (now low) ≡ 38448) × Small 300000 (now low) × Small 1600 places ⌝ }
-    ensures { λ r. ⌜ PricesOf (now (low .entry)) places r ⌝ }
+pub fn prices_at(unit_prices: &[u32], places: [u32; HOURS]) -> [u32; HOURS]
+    requires { ⌜ (length (now «unit_prices») ≡ tableSize) × Small maxPrice (now «unit_prices») × Small lastPlace places ⌝ }
+    ensures { λ r. ⌜ PricesOf (now («unit_prices» .entry)) places r ⌝ }
 {
-    let mut prices = [0; 24];
+    let mut prices = [0; HOURS];
     let mut h: usize = 0;
-    while h < 24 {
-        let at = h * 1602 + (places[h] as usize);
-        prices[h] = (low[at] + low[at + 1]) / 2;
+    while h < HOURS {
+        let at = h * ROW + (places[h] as usize);
+        prices[h] = (unit_prices[at] + unit_prices[at + 1]) / 2;
         h += 1;
     }
     prices
@@ -127,7 +149,7 @@ fn keeps_limit(side: u32, hours: u32, limit: u32, high: &[u32], low: &[u32]) -> 
 
 // Whether each of the first count blocks that the set holds keeps its limit: a buy at the low prices, a sell at the high ones.
 fn keeps_limits(blocks: &[u32], count: usize, set: u32, high: &[u32], low: &[u32]) -> bool
-    requires { ⌜ (length (now blocks) ≡ 1024) × (count ≤ 32) × DayPrices (now high) × DayPrices (now low) ⌝ }
+    requires { ⌜ (length (now blocks) ≡ blockListSize) × (count ≤ mostBlocks) × DayPrices (now high) × DayPrices (now low) ⌝ }
     ensures { λ r. ⌜ r ≡ allKeep (now (blocks .entry)) set (now (high .entry)) (now (low .entry)) count ⌝ }
 {
     let mut i = count;
@@ -135,7 +157,7 @@ fn keeps_limits(blocks: &[u32], count: usize, set: u32, high: &[u32], low: &[u32
         i -= 1;
         let chosen = (set >> (i as u32)) % 2;
         if chosen == 1 {
-            if !keeps_limit(blocks[i], blocks[32 + i], blocks[96 + i], high, low) {
+            if !keeps_limit(blocks[i], blocks[RUNS + i], blocks[LIMIT + i], high, low) {
                 return false;
             }
         }
@@ -147,7 +169,7 @@ fn keeps_limits(blocks: &[u32], count: usize, set: u32, high: &[u32], low: &[u32
 pub struct Node {
     pub set: u32,
     pub loss: u64,
-    pub places: [u32; 24],
+    pub places: [u32; HOURS],
 }
 
 // 1 where the test passes, else 0.
@@ -158,15 +180,15 @@ fn number_of(test: bool) -> u32
 }
 
 // The places with what block i trades in each hour more, where the test passes.
-fn moved_where(test: bool, places: [u32; 24], blocks: &[u32], i: usize) -> [u32; 24]
-    requires { ⌜ BlocksSized (now blocks) × (i < 32) × Small 1600000 places ⌝ }
-    ensures { λ r. ⌜ (length r ≡ 24) × ((h : ℕ) → 1 ≤ h → h ≤ 24 → getD r (h - 1) 0 ≡ getD places (h - 1) 0 + when test (rowAt (now (blocks .entry)) i h)) ⌝ }
+fn moved_where(test: bool, places: [u32; HOURS], blocks: &[u32], i: usize) -> [u32; HOURS]
+    requires { ⌜ BlocksSized (now blocks) × (i < mostBlocks) × Small mostPlace places ⌝ }
+    ensures { λ r. ⌜ (length r ≡ dayHours) × ((h : ℕ) → 1 ≤ h → h ≤ dayHours → getD r (h - 1) 0 ≡ getD places (h - 1) 0 + when test (rowAt (now (blocks .entry)) i h)) ⌝ }
 {
     let times = number_of(test);
-    let row = 256 + 24 * i;
+    let row = BLOCK_ROWS + HOURS * i;
     let mut r = places;
     let mut h: usize = 0;
-    while h < 24 {
+    while h < HOURS {
         r[h] += times * blocks[row + h];
         h += 1;
     }
@@ -175,17 +197,17 @@ fn moved_where(test: bool, places: [u32; 24], blocks: &[u32], i: usize) -> [u32;
 
 // What blocks sell and buy in each hour.
 pub struct Trades {
-    pub sales: [u32; 24],
-    pub buys: [u32; 24],
+    pub sales: [u32; HOURS],
+    pub buys: [u32; HOURS],
 }
 
 // What the first count blocks that the set holds sell and buy.
 fn set_trades(blocks: &[u32], count: usize, set: u32) -> Trades
-    requires { ⌜ BlocksSized (now blocks) × (count ≤ 32) ⌝ }
+    requires { ⌜ BlocksSized (now blocks) × (count ≤ mostBlocks) ⌝ }
     ensures { λ r. ⌜ SetTrades (now (blocks .entry)) count set (r .sales) (r .buys) ⌝ }
 {
-    let mut sales = [0; 24];
-    let mut buys = [0; 24];
+    let mut sales = [0; HOURS];
+    let mut buys = [0; HOURS];
     let mut i = count;
     while 0 < i {
         i -= 1;
@@ -209,7 +231,7 @@ fn hour_traded(
     buys: u32,
     price: u32,
 ) -> u32
-    requires { ⌜ PartSized (now sides) (now prices) (now quantities) from to × (buys ≤ 1600000) ⌝ }
+    requires { ⌜ PartSized (now sides) (now prices) (now quantities) from to × (buys ≤ mostPlace) ⌝ }
     ensures { λ r. ⌜ TradedAt (slice from to (now (sides .entry))) (slice from to (now (prices .entry))) (slice from to (now (quantities .entry))) sales buys price r ⌝ }
 {
     traded_at(
@@ -229,16 +251,16 @@ fn traded_in(
     quantities: &[u32],
     ends: &[u16],
     trades: Trades,
-    middles: [u32; 24],
-) -> [u32; 24]
-    requires { ⌜ (length (now ends) ≡ 25) × StepsSized (now ends) (now sides) (now prices) (now quantities) × Small 1600000 (trades .buys) ⌝ }
+    middles: [u32; HOURS],
+) -> [u32; HOURS]
+    requires { ⌜ (length (now ends) ≡ dayHours + 1) × StepsSized (now ends) (now sides) (now prices) (now quantities) × Small mostPlace (trades .buys) ⌝ }
     ensures { λ r. ⌜ TradedIn (stepsAt (now (ends .entry)) (now (sides .entry)) (now (prices .entry)) (now (quantities .entry))) (trades .sales) (trades .buys) middles r ⌝ }
 {
     let sales = trades.sales;
     let buys = trades.buys;
-    let mut traded = [0; 24];
+    let mut traded = [0; HOURS];
     let mut h: usize = 0;
-    while h < 24 {
+    while h < HOURS {
         traded[h] = hour_traded(
             sides,
             prices,
@@ -256,7 +278,7 @@ fn traded_in(
 
 // All blocks are decided: the set becomes the best where it is lawful and loses less, with its day.
 fn decide(
-    low: &[u32],
+    unit_prices: &[u32],
     gap: &[u32],
     hours: &[u32],
     blocks: &[u32],
@@ -268,12 +290,13 @@ fn decide(
     node: Node,
     best: Best,
 ) -> Best
-    requires { ⌜ Sized (now low) (now gap) (firstOf (now hours)) (lastOf (now hours)) (now blocks) × (length (now hours) ≡ 72) × (length (now ends) ≡ 25) × StepsSized (now ends) (now sides) (now prices) (now quantities) × (count ≤ 32) × (node .loss ≤ 32 * 2 ^ 32) ⌝ }
-    ensures { λ r. ⌜ Decided (now (low .entry)) (now (gap .entry)) (firstOf (now (hours .entry))) (lastOf (now (hours .entry))) (now (blocks .entry))
-        (stepsAt (now (ends .entry)) (now (sides .entry)) (now (prices .entry)) (now (quantities .entry))) count (node .set) (node .loss) (node .places) best r ⌝ }
+    requires { ⌜ Sized (tablesOf (now «unit_prices») (now gap) (now hours) (now blocks) count) × (length (now hours) ≡ hourListSize)
+        × (length (now ends) ≡ dayHours + 1) × StepsSized (now ends) (now sides) (now prices) (now quantities) × (node .loss ≤ mostLoss) ⌝ }
+    ensures { λ r. ⌜ Decided (tablesOf (now («unit_prices» .entry)) (now (gap .entry)) (now (hours .entry)) (now (blocks .entry)) count)
+        (stepsAt (now (ends .entry)) (now (sides .entry)) (now (prices .entry)) (now (quantities .entry))) node best r ⌝ }
 {
     let places = node.places;
-    let gaps = gaps_at(gap, &hours[0..24], &hours[24..48], places);
+    let gaps = gaps_at(gap, &hours[FIRST..LAST], &hours[LAST..TURN], places);
     if !gaps.clears {
         return best;
     }
@@ -281,7 +304,7 @@ fn decide(
     if best.limit <= total {
         return best;
     }
-    let middles = prices_at(low, places);
+    let middles = prices_at(unit_prices, places);
     if !keeps_limits(blocks, count as usize, node.set, &middles, &middles) {
         return best;
     }
@@ -300,30 +323,30 @@ fn decide(
 
 // The node with block number at taken: a sell moves the places on in its hours.
 fn take(blocks: &[u32], at: u32, node: Node) -> Node
-    requires { ⌜ BlocksSized (now blocks) × (at < 32) × Fits at (node .set) (node .loss) (node .places) ⌝ }
-    ensures { λ r. ⌜ Fits (at + 1) (r .set) (r .loss) (r .places) × TakenTo (now (blocks .entry)) at node r ⌝ }
+    requires { ⌜ BlocksSized (now blocks) × (at < mostBlocks) × Fits at node ⌝ }
+    ensures { λ r. ⌜ Fits (at + 1) r × TakenTo (now (blocks .entry)) at node r ⌝ }
 {
     let i = at as usize;
     let places = node.places;
     let moved = moved_where(blocks[i] != 0, places, blocks, i);
     Node {
         set: node.set + bit(at),
-        loss: node.loss + (blocks[128 + i] as u64),
+        loss: node.loss + (blocks[AGAINST + i] as u64),
         places: moved,
     }
 }
 
 // The node with block number at left out: a buy moves the places on in its hours.
 fn leave(blocks: &[u32], at: u32, node: Node) -> Node
-    requires { ⌜ BlocksSized (now blocks) × (at < 32) × Fits at (node .set) (node .loss) (node .places) ⌝ }
-    ensures { λ r. ⌜ Fits (at + 1) (r .set) (r .loss) (r .places) × LeftTo (now (blocks .entry)) at node r ⌝ }
+    requires { ⌜ BlocksSized (now blocks) × (at < mostBlocks) × Fits at node ⌝ }
+    ensures { λ r. ⌜ Fits (at + 1) r × LeftTo (now (blocks .entry)) at node r ⌝ }
 {
     let i = at as usize;
     let places = node.places;
     let moved = moved_where(blocks[i] == 0, places, blocks, i);
     Node {
         set: node.set,
-        loss: node.loss + (blocks[160 + i] as u64),
+        loss: node.loss + (blocks[GAIN + i] as u64),
         places: moved,
     }
 }
@@ -344,7 +367,7 @@ fn smaller(a: u32, b: u32) -> u32
 
 // Whether the block k places after the decided ones is out of the branch: no lawful completion that loses less than the limit takes it.
 fn is_out(out: u32, k: usize) -> bool
-    requires { ⌜ k < 32 ⌝ }
+    requires { ⌜ k < mostBlocks ⌝ }
     ensures { λ r. ⌜ r ≡ isOut out k ⌝ }
 {
     (out >> (k as u32)) % 2 == 1
@@ -352,18 +375,18 @@ fn is_out(out: u32, k: usize) -> bool
 
 // Whether undecided block i is out: it was before, or it misses its limit at the best prices within reach.
 fn is_ruled_out(blocks: &[u32], i: usize, was: bool, high: &[u32], low: &[u32]) -> bool
-    requires { ⌜ (length (now blocks) ≡ 1024) × (i < 32) × DayPrices (now high) × DayPrices (now low) ⌝ }
+    requires { ⌜ (length (now blocks) ≡ blockListSize) × (i < mostBlocks) × DayPrices (now high) × DayPrices (now low) ⌝ }
     ensures { λ r. ⌜ r ≡ isRuledOut (now (blocks .entry)) i was (now (high .entry)) (now (low .entry)) ⌝ }
 {
     if was {
         return true;
     }
-    !keeps_limit(blocks[i], blocks[32 + i], blocks[96 + i], high, low)
+    !keeps_limit(blocks[i], blocks[RUNS + i], blocks[LIMIT + i], high, low)
 }
 
 // The undecided blocks that are out, from the last one on to the one at number at, whose bit is the lowest.
 fn ruled_out(blocks: &[u32], count: usize, at: usize, out: u32, high: &[u32], low: &[u32]) -> u32
-    requires { ⌜ (length (now blocks) ≡ 1024) × (count ≤ 32) × (at ≤ count) × DayPrices (now high) × DayPrices (now low) ⌝ }
+    requires { ⌜ (length (now blocks) ≡ blockListSize) × (count ≤ mostBlocks) × (at ≤ count) × DayPrices (now high) × DayPrices (now low) ⌝ }
     ensures { λ r. ⌜ ((k : ℕ) → k < count - at → isOut r k ≡ isRuledOut (now (blocks .entry)) (at + k) (isOut out k) (now (high .entry)) (now (low .entry))) ⌝ }
 {
     let mut r: u32 = 0;
@@ -383,12 +406,12 @@ pub struct Moves {
 }
 
 fn moves_of(blocks: &[u32], i: usize, out: bool, loss: u64, limit: u64) -> Moves
-    requires { ⌜ BlocksSized (now blocks) × (i < 32) × (loss ≤ 32 * 2 ^ 32) ⌝ }
+    requires { ⌜ BlocksSized (now blocks) × (i < mostBlocks) × (loss ≤ mostLoss) ⌝ }
     ensures { λ r. ⌜ (r .must ≡ mustMove (now (blocks .entry)) out loss limit i) × (r .may ≡ mayMove (now (blocks .entry)) out loss limit i) ⌝ }
 {
     let buys = blocks[i] == 0;
-    let left_out = out | (limit <= loss + (blocks[128 + i] as u64));
-    let taken = limit <= loss + (blocks[160 + i] as u64);
+    let left_out = out | (limit <= loss + (blocks[AGAINST + i] as u64));
+    let taken = limit <= loss + (blocks[GAIN + i] as u64);
     Moves {
         must: (left_out & buys) | (taken & !buys),
         may: !left_out & !taken,
@@ -397,22 +420,28 @@ fn moves_of(blocks: &[u32], i: usize, out: bool, loss: u64, limit: u64) -> Moves
 
 // The least place of each hour, and what its undecided blocks are free to add.
 pub struct Rest {
-    pub least: [u32; 24],
-    pub free: [u32; 24],
+    pub least: [u32; HOURS],
+    pub free: [u32; HOURS],
 }
 
 // The least places and what is free with block i more, where it must move them on, or may.
-fn with_block(least: [u32; 24], free: [u32; 24], moves: Moves, blocks: &[u32], i: usize) -> Rest
-    requires { ⌜ BlocksSized (now blocks) × (i < 32) × Small 1600000 least × Small 1600000 free ⌝ }
+fn with_block(
+    least: [u32; HOURS],
+    free: [u32; HOURS],
+    moves: Moves,
+    blocks: &[u32],
+    i: usize,
+) -> Rest
+    requires { ⌜ BlocksSized (now blocks) × (i < mostBlocks) × Small mostPlace least × Small mostPlace free ⌝ }
     ensures { λ r. ⌜ AddedTo (now (blocks .entry)) i (moves .must) (moves .may) least free (r .least) (r .free) ⌝ }
 {
     let must = number_of(moves.must);
     let may = number_of(moves.may);
-    let row = 256 + 24 * i;
+    let row = BLOCK_ROWS + HOURS * i;
     let mut more = least;
     let mut freer = free;
     let mut h: usize = 0;
-    while h < 24 {
+    while h < HOURS {
         let traded = blocks[row + h];
         more[h] += must * traded;
         freer[h] += may * traded;
@@ -432,13 +461,13 @@ fn rest_of(
     out: u32,
     loss: u64,
     limit: u64,
-    places: [u32; 24],
+    places: [u32; HOURS],
 ) -> Rest
-    requires { ⌜ BlocksSized (now blocks) × (count ≤ 32) × (at ≤ count) × (loss ≤ 32 * 2 ^ 32) × Small (at * 50000) places ⌝ }
+    requires { ⌜ BlocksSized (now blocks) × (count ≤ mostBlocks) × (at ≤ count) × (loss ≤ mostLoss) × Small (at * mostAdded) places ⌝ }
     ensures { λ r. ⌜ RestOf (now (blocks .entry)) count at out loss limit places (r .least) (r .free) ⌝ }
 {
     let mut least = places;
-    let mut free = [0; 24];
+    let mut free = [0; HOURS];
     let mut i = count;
     while at < i {
         i -= 1;
@@ -453,19 +482,19 @@ fn rest_of(
 // The places that a branch can still reach and at which its hours clear, from and to; an hour that has none can no longer balance.
 pub struct Reach {
     pub balances: bool,
-    pub from: [u32; 24],
-    pub to: [u32; 24],
+    pub from: [u32; HOURS],
+    pub to: [u32; HOURS],
 }
 
-fn reach_of(first: &[u32], last: &[u32], least: [u32; 24], free: [u32; 24]) -> Reach
-    requires { ⌜ (length (now first) ≡ 24) × (length (now last) ≡ 24) × Small 1600000 least × Small 1600000 free ⌝ }
+fn reach_of(first: &[u32], last: &[u32], least: [u32; HOURS], free: [u32; HOURS]) -> Reach
+    requires { ⌜ (length (now first) ≡ dayHours) × (length (now last) ≡ dayHours) × Small mostPlace least × Small mostPlace free ⌝ }
     ensures { λ r. ⌜ ReachOf (now (first .entry)) (now (last .entry)) least free (r .balances) (r .from) (r .to) ⌝ }
 {
     let mut balances = true;
-    let mut from = [0; 24];
-    let mut to = [0; 24];
+    let mut from = [0; HOURS];
+    let mut to = [0; HOURS];
     let mut h: usize = 0;
-    while h < 24 {
+    while h < HOURS {
         let lowest = larger(least[h], first[h]);
         let highest = smaller(least[h] + free[h], last[h]);
         from[h] = lowest;
@@ -486,26 +515,26 @@ fn reach_at(
     node: Node,
     limit: u64,
 ) -> Reach
-    requires { ⌜ BlocksSized (now blocks) × (length (now hours) ≡ 72) × (count ≤ 32) × (at ≤ count) × (node .loss ≤ 32 * 2 ^ 32) × Small (at * 50000) (node .places) ⌝ }
-    ensures { λ r. ⌜ ReachedBy (firstOf (now (hours .entry))) (lastOf (now (hours .entry))) (now (blocks .entry)) count at out (node .loss) limit (node .places) (r .balances) (r .from) (r .to) ⌝ }
+    requires { ⌜ BlocksSized (now blocks) × (length (now hours) ≡ hourListSize) × (count ≤ mostBlocks) × (at ≤ count) × (node .loss ≤ mostLoss) × Small (at * mostAdded) (node .places) ⌝ }
+    ensures { λ r. ⌜ ReachedBy (clearsFirst (now (hours .entry))) (clearsLast (now (hours .entry))) (now (blocks .entry)) count at out (node .loss) limit (node .places) (r .balances) (r .from) (r .to) ⌝ }
 {
     let places = node.places;
     let rest = rest_of(blocks, count, at, out, node.loss, limit, places);
     let least = rest.least;
     let free = rest.free;
-    reach_of(&hours[0..24], &hours[24..48], least, free)
+    reach_of(&hours[FIRST..LAST], &hours[LAST..TURN], least, free)
 }
 
 // The sum of the hours' least gaps over the places from `from` to `to`.
-fn least_gaps(gap: &[u32], turn: &[u32], from: [u32; 24], to: [u32; 24]) -> u64
-    requires { ⌜ (length (now gap) ≡ 38448) × (length (now turn) ≡ 24) × ((h : ℕ) → h < 24 → getD to h 0 ≤ 1600) ⌝ }
-    ensures { λ r. ⌜ (r ≡ leastGaps (now (gap .entry)) (now (turn .entry)) from to) × (r ≤ 24 * 2 ^ 32) ⌝ }
+fn least_gaps(gap: &[u32], turn: &[u32], from: [u32; HOURS], to: [u32; HOURS]) -> u64
+    requires { ⌜ (length (now gap) ≡ tableSize) × (length (now turn) ≡ dayHours) × ((h : ℕ) → h < dayHours → getD to h 0 ≤ lastPlace) ⌝ }
+    ensures { λ r. ⌜ (r ≡ leastGaps (now (gap .entry)) (now (turn .entry)) from to) × (r ≤ mostGaps) ⌝ }
 {
     let mut sum: u64 = 0;
     let mut h: usize = 0;
-    while h < 24 {
+    while h < HOURS {
         let place = smaller(larger(turn[h], from[h]), to[h]);
-        sum += gap[h * 1602 + (place as usize)] as u64;
+        sum += gap[h * ROW + (place as usize)] as u64;
         h += 1;
     }
     sum
@@ -513,7 +542,7 @@ fn least_gaps(gap: &[u32], turn: &[u32], from: [u32; 24], to: [u32; 24]) -> u64
 
 // Whether the other way to decide the block that was decided last loses the limit or more: then what a branch can reach is as it was before that block.
 fn is_forced(blocks: &[u32], at: usize, set: u32, loss: u64, limit: u64) -> bool
-    requires { ⌜ BlocksSized (now blocks) × (at ≤ 32) × (loss ≤ 32 * 2 ^ 32) ⌝ }
+    requires { ⌜ BlocksSized (now blocks) × (at ≤ mostBlocks) × (loss ≤ mostLoss) ⌝ }
     ensures { λ r. ⌜ r ≡ isForced (now (blocks .entry)) at set loss limit ⌝ }
 {
     if at == 0 {
@@ -522,9 +551,9 @@ fn is_forced(blocks: &[u32], at: usize, set: u32, loss: u64, limit: u64) -> bool
     let i = at - 1;
     let taken = (set >> (i as u32)) % 2 == 1;
     let other = if taken {
-        blocks[160 + i]
+        blocks[GAIN + i]
     } else {
-        blocks[128 + i]
+        blocks[AGAINST + i]
     };
     limit <= loss + (other as u64)
 }
@@ -539,7 +568,7 @@ pub struct Judged {
 // longer balance, where the least gaps within reach come to as much, or where a taken block misses its limit at the best prices within reach. An undecided
 // block that misses its limit there is out.
 fn judge(
-    low: &[u32],
+    unit_prices: &[u32],
     gap: &[u32],
     hours: &[u32],
     blocks: &[u32],
@@ -549,9 +578,10 @@ fn judge(
     node: Node,
     limit: u64,
 ) -> Judged
-    requires { ⌜ Sized (now low) (now gap) (firstOf (now hours)) (lastOf (now hours)) (now blocks) × (length (now hours) ≡ 72) × (count ≤ 32) × (left ≤ count) × Fits (count - left) (node .set) (node .loss) (node .places) ⌝ }
-    ensures { λ r. ⌜ JudgedFrom (now (low .entry)) (now (gap .entry)) (firstOf (now (hours .entry))) (lastOf (now (hours .entry))) (turnOf (now (hours .entry)))
-        (now (blocks .entry)) count left out node limit (r .dropped) (r .out) ⌝ }
+    requires { ⌜ Sized (tablesOf (now «unit_prices») (now gap) (now hours) (now blocks) count) × (length (now hours) ≡ hourListSize)
+        × (left ≤ count) × Fits (count - left) node ⌝ }
+    ensures { λ r. ⌜ JudgedFrom (tablesOf (now («unit_prices» .entry)) (now (gap .entry)) (now (hours .entry)) (now (blocks .entry)) count)
+        left out node limit (r .dropped) (r .out) ⌝ }
 {
     let drop = Judged {
         dropped: true,
@@ -573,11 +603,11 @@ fn judge(
     }
     let from = reach.from;
     let to = reach.to;
-    if limit <= node.loss + least_gaps(gap, &hours[48..72], from, to) {
+    if limit <= node.loss + least_gaps(gap, &hours[TURN..HOUR_LIST], from, to) {
         return drop;
     }
-    let high = prices_at(low, from);
-    let lowest = prices_at(low, to);
+    let high = prices_at(unit_prices, from);
+    let lowest = prices_at(unit_prices, to);
     if !keeps_limits(blocks, at, node.set, &high, &lowest) {
         return drop;
     }
@@ -589,10 +619,10 @@ fn judge(
 
 // Whether a twin that is taken before block i is left out.
 fn is_barred(blocks: &[u32], i: usize, set: u32) -> bool
-    requires { ⌜ BlocksSized (now blocks) × (i < 32) ⌝ }
+    requires { ⌜ BlocksSized (now blocks) × (i < mostBlocks) ⌝ }
     ensures { λ r. ⌜ r ≡ isBarred (now (blocks .entry)) i set ⌝ }
 {
-    let ahead = blocks[192 + i];
+    let ahead = blocks[AHEAD + i];
     if ahead == 0 {
         return false;
     }
@@ -601,10 +631,10 @@ fn is_barred(blocks: &[u32], i: usize, set: u32) -> bool
 
 // Whether a twin that is taken after block i is taken.
 fn is_due(blocks: &[u32], i: usize, set: u32) -> bool
-    requires { ⌜ BlocksSized (now blocks) × (i < 32) ⌝ }
+    requires { ⌜ BlocksSized (now blocks) × (i < mostBlocks) ⌝ }
     ensures { λ r. ⌜ r ≡ isDue (now (blocks .entry)) i set ⌝ }
 {
-    let behind = blocks[224 + i];
+    let behind = blocks[BEHIND + i];
     if behind == 0 {
         return false;
     }
@@ -614,7 +644,7 @@ fn is_due(blocks: &[u32], i: usize, set: u32) -> bool
 // Every way to decide the blocks that are left, each first taken and then left out; of twins, the one that is taken before the other first. A block that
 // is out is only left out. Each branch has its own node by value, so nothing is released.
 fn explore(
-    low: &[u32],
+    unit_prices: &[u32],
     gap: &[u32],
     hours: &[u32],
     blocks: &[u32],
@@ -628,18 +658,29 @@ fn explore(
     node: Node,
     best: Best,
 ) -> Best
-    requires { ⌜ Sized (now low) (now gap) (firstOf (now hours)) (lastOf (now hours)) (now blocks) × (length (now hours) ≡ 72) × (length (now ends) ≡ 25) × StepsSized (now ends) (now sides) (now prices) (now quantities) × (count ≤ 32) × (left ≤ count) × Fits (count - left) (node .set) (node .loss) (node .places) ⌝ }
-    ensures { λ r. ⌜ ExploredFrom (now (low .entry)) (now (gap .entry)) (firstOf (now (hours .entry))) (lastOf (now (hours .entry))) (turnOf (now (hours .entry))) (now (blocks .entry))
-        (stepsAt (now (ends .entry)) (now (sides .entry)) (now (prices .entry)) (now (quantities .entry))) count left out node best r ⌝ }
+    requires { ⌜ Sized (tablesOf (now «unit_prices») (now gap) (now hours) (now blocks) count) × (length (now hours) ≡ hourListSize)
+        × (length (now ends) ≡ dayHours + 1) × StepsSized (now ends) (now sides) (now prices) (now quantities) × (left ≤ count) × Fits (count - left) node ⌝ }
+    ensures { λ r. ⌜ ExploredFrom (tablesOf (now («unit_prices» .entry)) (now (gap .entry)) (now (hours .entry)) (now (blocks .entry)) count)
+        (stepsAt (now (ends .entry)) (now (sides .entry)) (now (prices .entry)) (now (quantities .entry))) left out node best r ⌝ }
 {
     let limit = best.limit;
-    let judged = judge(low, gap, hours, blocks, count, left, out, node, limit);
+    let judged = judge(
+        unit_prices,
+        gap,
+        hours,
+        blocks,
+        count,
+        left,
+        out,
+        node,
+        limit,
+    );
     if judged.dropped {
         return best;
     }
     if left == 0 {
         return decide(
-            low,
+            unit_prices,
             gap,
             hours,
             blocks,
@@ -658,7 +699,7 @@ fn explore(
     let without = leave(blocks, at, node);
     if is_out(judged.out, 0) | is_barred(blocks, at as usize, node.set) {
         return explore(
-            low,
+            unit_prices,
             gap,
             hours,
             blocks,
@@ -675,7 +716,7 @@ fn explore(
     }
     let with = take(blocks, at, node);
     let taken = explore(
-        low,
+        unit_prices,
         gap,
         hours,
         blocks,
@@ -693,7 +734,7 @@ fn explore(
         return taken;
     }
     explore(
-        low,
+        unit_prices,
         gap,
         hours,
         blocks,
@@ -711,7 +752,7 @@ fn explore(
 
 // The published set: a pass with a small threshold first, doubled until a pass finds a set. A pass that finds one has found the published one.
 pub fn find(
-    low: &[u32],
+    unit_prices: &[u32],
     gap: &[u32],
     hours: &[u32],
     blocks: &[u32],
@@ -721,28 +762,29 @@ pub fn find(
     ends: &[u16],
     count: u32,
 ) -> Best
-    requires { ⌜ Sized (now low) (now gap) (firstOf (now hours)) (lastOf (now hours)) (now blocks) × (length (now hours) ≡ 72) × (length (now ends) ≡ 25) × StepsSized (now ends) (now sides) (now prices) (now quantities) × (count ≤ 32) ⌝ }
-    ensures { λ r. ⌜ FoundIn (now (low .entry)) (now (gap .entry)) (firstOf (now (hours .entry))) (lastOf (now (hours .entry))) (turnOf (now (hours .entry))) (now (blocks .entry))
-        (stepsAt (now (ends .entry)) (now (sides .entry)) (now (prices .entry)) (now (quantities .entry))) count r ⌝ }
+    requires { ⌜ Sized (tablesOf (now «unit_prices») (now gap) (now hours) (now blocks) count) × (length (now hours) ≡ hourListSize)
+        × (length (now ends) ≡ dayHours + 1) × StepsSized (now ends) (now sides) (now prices) (now quantities) ⌝ }
+    ensures { λ r. ⌜ FoundIn (tablesOf (now («unit_prices» .entry)) (now (gap .entry)) (now (hours .entry)) (now (blocks .entry)) count)
+        (stepsAt (now (ends .entry)) (now (sides .entry)) (now (prices .entry)) (now (quantities .entry))) r ⌝ }
 {
     let day = Day {
-        prices: [0; 24],
-        quantities: [0; 24],
+        prices: [0; HOURS],
+        quantities: [0; HOURS],
     };
     let root = Node {
         set: 0,
         loss: 0,
-        places: [0; 24],
+        places: [0; HOURS],
     };
-    let mut limit: u64 = 1024;
-    while limit < 549755813888 {
+    let mut limit = FIRST_LIMIT;
+    while limit < LAST_LIMIT {
         let start = Best {
             limit: limit,
             set: 0,
             day: day,
         };
         let found = explore(
-            low,
+            unit_prices,
             gap,
             hours,
             blocks,
@@ -767,7 +809,7 @@ pub fn find(
         day: day,
     };
     explore(
-        low,
+        unit_prices,
         gap,
         hours,
         blocks,

@@ -9,35 +9,36 @@ use native.Mathlib.Nat.{lt-of-not-le}
 use native.Mathlib.Numerals.{add-one}
 use lib.ListN.{length, getD, set, replicate, length-set}
 use lib.Seq.{getD-set-same, getD-set-other}
+use Rattle.search.specs.Layout.{againstColumn, aheadColumn, dayHours, gainColumn, hoursColumn, limitColumn, mostBlocks, mostQuantity, quantityColumn}
 use Rattle.records.specs.Records.{holdsHour, hourCount}
 use Rattle.orders.specs.Columns.{sideFor}
 use Rattle.rules.specs.Orders.{Side, buy, sell}
 use Rattle.rules.specs.Hour.{bySide, when}
 use Rattle.search.specs.Search.{Small, sideAt, hoursAt, quantityAt, limitAt, againstAt, gainAt, sumOfHours}
-use Rattle.setup.specs.Setup.{BlocksHeld, sumBelow, tradedIn, TradedBy, written, Written}
+use Rattle.setup.specs.Setup.{BlocksHeld, sumBelow, blocksTrade, TradedBy, written, Written}
 use Rattle.search.proofs.LeafLaws.{zeros}
 use Rattle.roots.proofs.SizeLaws.{side-le, chosen-le, moved-most}
 
 -- WHAT THE BLOCKS TRADE in each hour
 module _ (sides hours quantities : List ℕ) (all : Bool) where
   pub record TradedTo (i : ℕ) (column : List ℕ) : Type 0 where
-    pub size : length column ≡ 24
-    pub small : Small (i * 50) column
-    pub is : (h : ℕ) → 1 ≤ h → h ≤ 24 → getD column (h - 1) 0 ≡ tradedIn i sides hours quantities all h
+    pub size : length column ≡ dayHours
+    pub small : Small (i * mostQuantity) column
+    pub is : (h : ℕ) → 1 ≤ h → h ≤ dayHours → getD column (h - 1) 0 ≡ blocksTrade i sides hours quantities all h
 
-  pub traded-start : TradedTo 0 (replicate 24 0)
+  pub traded-start : TradedTo 0 (replicate dayHours 0)
   unfolding sumBelow
-  traded-start = record { size = refl; small = λ j. omega (arith, zeros 24 j); is = λ h a b. zeros 24 (h - 1) }
+  traded-start = record { size = refl; small = λ j. omega (arith, zeros dayHours j); is = λ h a b. zeros dayHours (h - 1) }
 
   -- what one block trades
-  pub traded-fits : (i q rest : ℕ) → getD quantities i 0 ≤ 50 → rest ≡ cond all (getD quantities i 0) 0 →
-      q ≡ bySide (sideFor (getD sides i 0)) (getD quantities i 0) rest → q ≤ 50
+  pub traded-fits : (i q rest : ℕ) → getD quantities i 0 ≤ mostQuantity → rest ≡ cond all (getD quantities i 0) 0 →
+      q ≡ bySide (sideFor (getD sides i 0)) (getD quantities i 0) rest → q ≤ mostQuantity
   traded-fits i q rest few er e =
-      rw e (side-le (sideFor (getD sides i 0)) (getD quantities i 0) rest 50 few (rw er (chosen-le all (getD quantities i 0) 50 few)))
+      rw e (side-le (sideFor (getD sides i 0)) (getD quantities i 0) rest mostQuantity few (rw er (chosen-le all (getD quantities i 0) mostQuantity few)))
 
-  pub traded-next : (i : ℕ) (column more : List ℕ) (q rest : ℕ) → TradedTo i column → getD quantities i 0 ≤ 50 →
-      rest ≡ cond all (getD quantities i 0) 0 → q ≡ bySide (sideFor (getD sides i 0)) (getD quantities i 0) rest → length more ≡ 24 →
-      ((h : ℕ) → 1 ≤ h → h ≤ 24 → getD more (h - 1) 0 ≡ getD column (h - 1) 0 + when (holdsHour (getD hours i 0) h) q) → TradedTo (i + 1) more
+  pub traded-next : (i : ℕ) (column more : List ℕ) (q rest : ℕ) → TradedTo i column → getD quantities i 0 ≤ mostQuantity →
+      rest ≡ cond all (getD quantities i 0) 0 → q ≡ bySide (sideFor (getD sides i 0)) (getD quantities i 0) rest → length more ≡ dayHours →
+      ((h : ℕ) → 1 ≤ h → h ≤ dayHours → getD more (h - 1) 0 ≡ getD column (h - 1) 0 + when (holdsHour (getD hours i 0) h) q) → TradedTo (i + 1) more
   unfolding sumBelow
   traded-next i column more q rest t few er e size moved = record {
     size = size;
@@ -45,11 +46,11 @@ module _ (sides hours quantities : List ℕ) (all : Bool) where
     is = λ h a b. moved h a b ∙ rw (add-one, t .is h a b, e, er);
   }
 
-  pub traded-all : (count i : ℕ) (column : List ℕ) → TradedTo i column → i ≡ count → count ≤ 32 → TradedBy count sides hours quantities all column
+  pub traded-all : (count i : ℕ) (column : List ℕ) → TradedTo i column → i ≡ count → count ≤ mostBlocks → TradedBy count sides hours quantities all column
   traded-all count i column t e few = record { small = λ j. omega (arith, t .small j); is = λ h a b. rw (← e) (t .is h a b) }
 
 -- the buys are no more than all
-bought-least : (sides hours quantities : List ℕ) (h n : ℕ) → tradedIn n sides hours quantities false h ≤ tradedIn n sides hours quantities true h
+bought-least : (sides hours quantities : List ℕ) (h n : ℕ) → blocksTrade n sides hours quantities false h ≤ blocksTrade n sides hours quantities true h
 unfolding sumBelow
 bought-least sides hours quantities h zero = omega arith
 bought-least sides hours quantities h (suc n) =
@@ -61,7 +62,7 @@ bought-least sides hours quantities h (suc n) =
     one sell false q = omega arith
 
 pub bought-within : (count : ℕ) (sides hours quantities bought traded : List ℕ) → TradedBy count sides hours quantities false bought →
-    TradedBy count sides hours quantities true traded → (h : ℕ) → h < 24 → getD bought h 0 ≤ getD traded h 0
+    TradedBy count sides hours quantities true traded → (h : ℕ) → h < dayHours → getD bought h 0 ≤ getD traded h 0
 bought-within count sides hours quantities bought traded b t h k =
     let e : suc h - 1 ≡ h = omega arith in
     let x : getD bought (suc h - 1) 0 ≡ getD bought h 0 = rw e in
@@ -74,80 +75,80 @@ bought-within count sides hours quantities bought traded b t h k =
     )
 
 -- ONE BLOCK WRITTEN: six numbers
-module _ (c : List ℕ) (i v₀ v₁ v₂ v₃ v₄ v₅ : ℕ) (k : i < 32) (size : length c ≡ 192) where
+module _ (c : List ℕ) (i v₀ v₁ v₂ v₃ v₄ v₅ : ℕ) (k : i < mostBlocks) (size : length c ≡ aheadColumn) where
   abbrev l₁ : List ℕ
   l₁ = set c i v₀
 
   abbrev l₂ : List ℕ
-  l₂ = set l₁ (32 + i) v₁
+  l₂ = set l₁ (hoursColumn + i) v₁
 
   abbrev l₃ : List ℕ
-  l₃ = set l₂ (64 + i) v₂
+  l₃ = set l₂ (quantityColumn + i) v₂
 
   abbrev l₄ : List ℕ
-  l₄ = set l₃ (96 + i) v₃
+  l₄ = set l₃ (limitColumn + i) v₃
 
   abbrev l₅ : List ℕ
-  l₅ = set l₄ (128 + i) v₄
+  l₅ = set l₄ (againstColumn + i) v₄
 
   abbrev l₆ : List ℕ
-  l₆ = set l₅ (160 + i) v₅
+  l₆ = set l₅ (gainColumn + i) v₅
 
-  size₁ : length l₁ ≡ 192
+  size₁ : length l₁ ≡ aheadColumn
   size₁ = rw length-set size
 
-  size₂ : length l₂ ≡ 192
+  size₂ : length l₂ ≡ aheadColumn
   size₂ = rw length-set size₁
 
-  size₃ : length l₃ ≡ 192
+  size₃ : length l₃ ≡ aheadColumn
   size₃ = rw length-set size₂
 
-  size₄ : length l₄ ≡ 192
+  size₄ : length l₄ ≡ aheadColumn
   size₄ = rw length-set size₃
 
-  size₅ : length l₅ ≡ 192
+  size₅ : length l₅ ≡ aheadColumn
   size₅ = rw length-set size₄
 
-  six-size : length l₆ ≡ 192
+  six-size : length l₆ ≡ aheadColumn
   six-size = rw length-set size₅
 
   -- other places are as they were
-  six-other : (at : ℕ) → (at ≡ i → ⊥) → (at ≡ 32 + i → ⊥) → (at ≡ 64 + i → ⊥) → (at ≡ 96 + i → ⊥) → (at ≡ 128 + i → ⊥) →
-      (at ≡ 160 + i → ⊥) → getD l₆ at 0 ≡ getD c at 0
+  six-other : (at : ℕ) → (at ≡ i → ⊥) → (at ≡ hoursColumn + i → ⊥) → (at ≡ quantityColumn + i → ⊥) → (at ≡ limitColumn + i → ⊥) → (at ≡ againstColumn + i → ⊥) →
+      (at ≡ gainColumn + i → ⊥) → getD l₆ at 0 ≡ getD c at 0
   six-other at e₀ e₁ e₂ e₃ e₄ e₅ =
-      getD-set-other l₅ (160 + i) at v₅ 0 e₅ ∙ getD-set-other l₄ (128 + i) at v₄ 0 e₄ ∙ getD-set-other l₃ (96 + i) at v₃ 0 e₃
-      ∙ getD-set-other l₂ (64 + i) at v₂ 0 e₂ ∙ getD-set-other l₁ (32 + i) at v₁ 0 e₁ ∙ getD-set-other c i at v₀ 0 e₀
+      getD-set-other l₅ (gainColumn + i) at v₅ 0 e₅ ∙ getD-set-other l₄ (againstColumn + i) at v₄ 0 e₄ ∙ getD-set-other l₃ (limitColumn + i) at v₃ 0 e₃
+      ∙ getD-set-other l₂ (quantityColumn + i) at v₂ 0 e₂ ∙ getD-set-other l₁ (hoursColumn + i) at v₁ 0 e₁ ∙ getD-set-other c i at v₀ 0 e₀
 
   six₀ : getD l₆ i 0 ≡ v₀
   six₀ =
-      getD-set-other l₅ (160 + i) i v₅ 0 (λ e. omega arith) ∙ getD-set-other l₄ (128 + i) i v₄ 0 (λ e. omega arith)
-      ∙ getD-set-other l₃ (96 + i) i v₃ 0 (λ e. omega arith) ∙ getD-set-other l₂ (64 + i) i v₂ 0 (λ e. omega arith)
-      ∙ getD-set-other l₁ (32 + i) i v₁ 0 (λ e. omega arith) ∙ getD-set-same c i v₀ 0 (omega arith)
+      getD-set-other l₅ (gainColumn + i) i v₅ 0 (λ e. omega arith) ∙ getD-set-other l₄ (againstColumn + i) i v₄ 0 (λ e. omega arith)
+      ∙ getD-set-other l₃ (limitColumn + i) i v₃ 0 (λ e. omega arith) ∙ getD-set-other l₂ (quantityColumn + i) i v₂ 0 (λ e. omega arith)
+      ∙ getD-set-other l₁ (hoursColumn + i) i v₁ 0 (λ e. omega arith) ∙ getD-set-same c i v₀ 0 (omega arith)
 
-  six₁ : getD l₆ (32 + i) 0 ≡ v₁
+  six₁ : getD l₆ (hoursColumn + i) 0 ≡ v₁
   six₁ =
-      getD-set-other l₅ (160 + i) (32 + i) v₅ 0 (λ e. omega arith) ∙ getD-set-other l₄ (128 + i) (32 + i) v₄ 0 (λ e. omega arith)
-      ∙ getD-set-other l₃ (96 + i) (32 + i) v₃ 0 (λ e. omega arith) ∙ getD-set-other l₂ (64 + i) (32 + i) v₂ 0 (λ e. omega arith)
-      ∙ getD-set-same l₁ (32 + i) v₁ 0 (omega (arith, size₁))
+      getD-set-other l₅ (gainColumn + i) (hoursColumn + i) v₅ 0 (λ e. omega arith) ∙ getD-set-other l₄ (againstColumn + i) (hoursColumn + i) v₄ 0 (λ e. omega arith)
+      ∙ getD-set-other l₃ (limitColumn + i) (hoursColumn + i) v₃ 0 (λ e. omega arith) ∙ getD-set-other l₂ (quantityColumn + i) (hoursColumn + i) v₂ 0 (λ e. omega arith)
+      ∙ getD-set-same l₁ (hoursColumn + i) v₁ 0 (omega (arith, size₁))
 
-  six₂ : getD l₆ (64 + i) 0 ≡ v₂
+  six₂ : getD l₆ (quantityColumn + i) 0 ≡ v₂
   six₂ =
-      getD-set-other l₅ (160 + i) (64 + i) v₅ 0 (λ e. omega arith) ∙ getD-set-other l₄ (128 + i) (64 + i) v₄ 0 (λ e. omega arith)
-      ∙ getD-set-other l₃ (96 + i) (64 + i) v₃ 0 (λ e. omega arith) ∙ getD-set-same l₂ (64 + i) v₂ 0 (omega (arith, size₂))
+      getD-set-other l₅ (gainColumn + i) (quantityColumn + i) v₅ 0 (λ e. omega arith) ∙ getD-set-other l₄ (againstColumn + i) (quantityColumn + i) v₄ 0 (λ e. omega arith)
+      ∙ getD-set-other l₃ (limitColumn + i) (quantityColumn + i) v₃ 0 (λ e. omega arith) ∙ getD-set-same l₂ (quantityColumn + i) v₂ 0 (omega (arith, size₂))
 
-  six₃ : getD l₆ (96 + i) 0 ≡ v₃
+  six₃ : getD l₆ (limitColumn + i) 0 ≡ v₃
   six₃ =
-      getD-set-other l₅ (160 + i) (96 + i) v₅ 0 (λ e. omega arith) ∙ getD-set-other l₄ (128 + i) (96 + i) v₄ 0 (λ e. omega arith)
-      ∙ getD-set-same l₃ (96 + i) v₃ 0 (omega (arith, size₃))
+      getD-set-other l₅ (gainColumn + i) (limitColumn + i) v₅ 0 (λ e. omega arith) ∙ getD-set-other l₄ (againstColumn + i) (limitColumn + i) v₄ 0 (λ e. omega arith)
+      ∙ getD-set-same l₃ (limitColumn + i) v₃ 0 (omega (arith, size₃))
 
-  six₄ : getD l₆ (128 + i) 0 ≡ v₄
-  six₄ = getD-set-other l₅ (160 + i) (128 + i) v₅ 0 (λ e. omega arith) ∙ getD-set-same l₄ (128 + i) v₄ 0 (omega (arith, size₄))
+  six₄ : getD l₆ (againstColumn + i) 0 ≡ v₄
+  six₄ = getD-set-other l₅ (gainColumn + i) (againstColumn + i) v₅ 0 (λ e. omega arith) ∙ getD-set-same l₄ (againstColumn + i) v₄ 0 (omega (arith, size₄))
 
-  six₅ : getD l₆ (160 + i) 0 ≡ v₅
-  six₅ = getD-set-same l₅ (160 + i) v₅ 0 (omega (arith, size₅))
+  six₅ : getD l₆ (gainColumn + i) 0 ≡ v₅
+  six₅ = getD-set-same l₅ (gainColumn + i) v₅ 0 (omega (arith, size₅))
 
 -- .. which are the block's
-module _ (c : List ℕ) (i side hours quantity limit sum : ℕ) (k : i < 32) (size : length c ≡ 192) where
+module _ (c : List ℕ) (i side hours quantity limit sum : ℕ) (k : i < mostBlocks) (size : length c ≡ aheadColumn) where
   abbrev after : List ℕ
   after = written c i side hours quantity limit sum
 
@@ -157,12 +158,12 @@ module _ (c : List ℕ) (i side hours quantity limit sum : ℕ) (k : i < 32) (si
   abbrev won : ℕ
   won = quantity * bySide (sideFor side) (limit - sum) (sum - limit)
 
-  pub written-size : length after ≡ 192
+  pub written-size : length after ≡ aheadColumn
   unfolding written
   written-size = six-size c i side hours quantity limit lost won k size
 
-  written-other : (at : ℕ) → (at ≡ i → ⊥) → (at ≡ 32 + i → ⊥) → (at ≡ 64 + i → ⊥) → (at ≡ 96 + i → ⊥) → (at ≡ 128 + i → ⊥) →
-      (at ≡ 160 + i → ⊥) → getD after at 0 ≡ getD c at 0
+  written-other : (at : ℕ) → (at ≡ i → ⊥) → (at ≡ hoursColumn + i → ⊥) → (at ≡ quantityColumn + i → ⊥) → (at ≡ limitColumn + i → ⊥) → (at ≡ againstColumn + i → ⊥) →
+      (at ≡ gainColumn + i → ⊥) → getD after at 0 ≡ getD c at 0
   unfolding written
   written-other = six-other c i side hours quantity limit lost won k size
 
@@ -191,54 +192,54 @@ module _ (c : List ℕ) (i side hours quantity limit sum : ℕ) (k : i < 32) (si
   gain-here = six₅ c i side hours quantity limit lost won k size
 
   -- the columns of another block are as they were
-  module _ (j : ℕ) (inside : j < 32) (other : j ≡ i → ⊥) where
+  module _ (j : ℕ) (inside : j < mostBlocks) (other : j ≡ i → ⊥) where
     pub side-there : sideAt after j ≡ sideAt c j
     side-there =
         written-other j other (λ e. omega arith) (λ e. omega arith) (λ e. omega arith) (λ e. omega arith) (λ e. omega arith)
 
     pub hours-there : hoursAt after j ≡ hoursAt c j
     hours-there =
-        written-other (32 + j) (λ e. omega arith) (λ e. other (omega arith)) (λ e. omega arith) (λ e. omega arith) (λ e. omega arith) (λ e. omega arith)
+        written-other (hoursColumn + j) (λ e. omega arith) (λ e. other (omega arith)) (λ e. omega arith) (λ e. omega arith) (λ e. omega arith) (λ e. omega arith)
 
     pub quantity-there : quantityAt after j ≡ quantityAt c j
     quantity-there =
-        written-other (64 + j) (λ e. omega arith) (λ e. omega arith) (λ e. other (omega arith)) (λ e. omega arith) (λ e. omega arith) (λ e. omega arith)
+        written-other (quantityColumn + j) (λ e. omega arith) (λ e. omega arith) (λ e. other (omega arith)) (λ e. omega arith) (λ e. omega arith) (λ e. omega arith)
 
     pub limit-there : limitAt after j ≡ limitAt c j
     limit-there =
-        written-other (96 + j) (λ e. omega arith) (λ e. omega arith) (λ e. omega arith) (λ e. other (omega arith)) (λ e. omega arith) (λ e. omega arith)
+        written-other (limitColumn + j) (λ e. omega arith) (λ e. omega arith) (λ e. omega arith) (λ e. other (omega arith)) (λ e. omega arith) (λ e. omega arith)
 
     pub against-there : againstAt after j ≡ againstAt c j
     against-there =
-        written-other (128 + j) (λ e. omega arith) (λ e. omega arith) (λ e. omega arith) (λ e. omega arith) (λ e. other (omega arith)) (λ e. omega arith)
+        written-other (againstColumn + j) (λ e. omega arith) (λ e. omega arith) (λ e. omega arith) (λ e. omega arith) (λ e. other (omega arith)) (λ e. omega arith)
 
     pub gain-there : gainAt after j ≡ gainAt c j
     gain-there =
-        written-other (160 + j) (λ e. omega arith) (λ e. omega arith) (λ e. omega arith) (λ e. omega arith) (λ e. omega arith) (λ e. other (omega arith))
+        written-other (gainColumn + j) (λ e. omega arith) (λ e. omega arith) (λ e. omega arith) (λ e. omega arith) (λ e. omega arith) (λ e. other (omega arith))
 
 -- ALL BLOCKS WRITTEN
 module _ (sides hours prices quantities root : List ℕ) where
   abbrev limitOf : ℕ → ℕ
-  limitOf i = getD prices i 0 * hourCount 24 (getD hours i 0)
+  limitOf i = getD prices i 0 * hourCount dayHours (getD hours i 0)
 
   abbrev sumOf : ℕ → ℕ
   sumOf i = sumOfHours root (getD hours i 0)
 
   pub record WrittenTo (count i : ℕ) (columns : List ℕ) : Type 0 where
     pub inside : i ≤ count
-    pub size : length columns ≡ 192
-    pub small : (j : ℕ) → j < 32 → quantityAt columns j ≤ 50
+    pub size : length columns ≡ aheadColumn
+    pub small : (j : ℕ) → j < mostBlocks → quantityAt columns j ≤ mostQuantity
     pub done : (j : ℕ) → j < i → Written sides hours prices quantities root columns j
 
-  pub written-start : (count : ℕ) → WrittenTo count 0 (replicate 192 0)
+  pub written-start : (count : ℕ) → WrittenTo count 0 (replicate aheadColumn 0)
   written-start count =
-      record { inside = omega arith; size = refl; small = λ j k. omega (arith, zeros 192 (64 + j)); done = λ j a. absurd (omega arith) }
+      record { inside = omega arith; size = refl; small = λ j k. omega (arith, zeros aheadColumn (quantityColumn + j)); done = λ j a. absurd (omega arith) }
 
   pub written-next : (count i : ℕ) (columns : List ℕ) (side x q limit sum : ℕ) (more : List ℕ) → WrittenTo count i columns →
       BlocksHeld count prices quantities → i < count → side ≡ getD sides i 0 → x ≡ getD hours i 0 → q ≡ getD quantities i 0 → limit ≡ limitOf i →
       sum ≡ sumOf i → more ≡ written columns i side x q limit sum → WrittenTo count (i + 1) more
   written-next count i columns side x q limit sum more w held k es ex eq el em e =
-      let few : i < 32 = omega (arith, held .few) in
+      let few : i < mostBlocks = omega (arith, held .few) in
       rw e
       record {
         inside = omega arith;
@@ -247,7 +248,7 @@ module _ (sides hours prices quantities root : List ℕ) where
         done = λ j a. doneAt j a few;
       }
     where
-      smallAt : (j : ℕ) → j < 32 → i < 32 → quantityAt (written columns i side x q limit sum) j ≤ 50
+      smallAt : (j : ℕ) → j < mostBlocks → i < mostBlocks → quantityAt (written columns i side x q limit sum) j ≤ mostQuantity
       smallAt j b few = elim (decLe j i) [
         | yes u ↦ elim (decLe i j) [
           | yes v ↦
@@ -258,7 +259,7 @@ module _ (sides hours prices quantities root : List ℕ) where
         | no u ↦ let d : i < j = lt-of-not-le u in rw (quantity-there columns i side x q limit sum few (w .size) j b (λ z. omega arith)) (w .small j b)
       ]
 
-      new : i < 32 → Written sides hours prices quantities root (written columns i side x q limit sum) i
+      new : i < mostBlocks → Written sides hours prices quantities root (written columns i side x q limit sum) i
       new few = record {
         sideIs = side-here columns i side x q limit sum few (w .size) ∙ es;
         hoursIs = hours-here columns i side x q limit sum few (w .size) ∙ ex;
@@ -268,9 +269,9 @@ module _ (sides hours prices quantities root : List ℕ) where
         gainIs = gain-here columns i side x q limit sum few (w .size) ∙ rw (eq, es, el, em);
       }
 
-      old : i < 32 → (j : ℕ) → j < i → Written sides hours prices quantities root (written columns i side x q limit sum) j
+      old : i < mostBlocks → (j : ℕ) → j < i → Written sides hours prices quantities root (written columns i side x q limit sum) j
       old few j a =
-          let b : j < 32 = omega arith in
+          let b : j < mostBlocks = omega arith in
           let z : j ≡ i → ⊥ = λ y. omega arith in
           let d = w .done j a in
           record {
@@ -282,12 +283,12 @@ module _ (sides hours prices quantities root : List ℕ) where
             gainIs = gain-there columns i side x q limit sum few (w .size) j b z ∙ d .gainIs;
           }
 
-      doneAt : (j : ℕ) → j < i + 1 → i < 32 → Written sides hours prices quantities root (written columns i side x q limit sum) j
+      doneAt : (j : ℕ) → j < i + 1 → i < mostBlocks → Written sides hours prices quantities root (written columns i side x q limit sum) j
       doneAt j a few = elim (decLe i j) [
         | yes u ↦ let same : j ≡ i = omega arith in rw same (new few)
         | no u ↦ old few j (lt-of-not-le u)
       ]
 
   pub written-all : (count i : ℕ) (columns : List ℕ) → WrittenTo count i columns → count ≤ i →
-      ((j : ℕ) → j < 32 → quantityAt columns j ≤ 50) × ((j : ℕ) → j < count → Written sides hours prices quantities root columns j)
+      ((j : ℕ) → j < mostBlocks → quantityAt columns j ≤ mostQuantity) × ((j : ℕ) → j < count → Written sides hours prices quantities root columns j)
   written-all count i columns w k = (w .small, λ j a. w .done j (omega (arith, w .inside)))

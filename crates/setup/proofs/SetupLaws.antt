@@ -9,6 +9,7 @@ use native.Mathlib.Decide.{decLe}
 use native.Mathlib.Nat.{lt-of-not-le}
 use lib.ListN.{length, take, drop, getD, length-map, drop-of-length-le}
 use lib.Seq.{getD-take, getD-drop, slice}
+use Rattle.search.specs.Layout.{dayHours, lastPlace, mostBlocks, mostQuantity, mostSteps, rowSize, tableSize}
 use Rattle.records.specs.Records.{number, hourCount, holdsHour}
 use Rattle.book.specs.Refusals.{Accepted}
 use Rattle.book.proofs.Members.{Each}
@@ -19,7 +20,7 @@ use Rattle.orders.proofs.BridgeLaws.{BlockInRange, blocks-in-range, prices-in-r
 use Rattle.orders.proofs.FrontLaws.{block-records-front, block-sides-front, block-hours-front, block-prices-front, block-quantities-front}
 use Rattle.orders.proofs.HourLaws.{hour-from-columns, ends-rise, ends-fit}
 use Rattle.orders.proofs.PlaceLaws.{block-place}
-use Rattle.rules.specs.Orders.{Side, buy, sell, Step, Block}
+use Rattle.rules.specs.Orders.{Side, buy, sell, Step, Block, maxPrice}
 use Rattle.rules.specs.Hour.{bySide, when, allBuys, allSells}
 use Rattle.rules.specs.Day.{overBlocks, sells, buys, stepsIn, priceSum}
 use Rattle.rules.specs.Day as day
@@ -37,18 +38,19 @@ use Rattle.tables.specs.Tables.{UnitPrices, NotRising}
 use Rattle.tables.proofs.LevelLaws.{table-in-range, table-not-rising}
 use Rattle.tables.proofs.GapLaws.{gap-table, gap-falls, gap-rises}
 use Rattle.search.specs.Search.{Small, cell, ofHour, sideAt, quantityAt, limitAt, aheadAt, behindAt, sumOfHours}
+use Rattle.search.specs.Tables.{Tables}
 use Rattle.search.specs.Meaning.{BlocksSized, Sized, Shown, Known, Turning}
 use Rattle.setup.specs.Setup.{
   StepsHeld,
   BlocksHeld,
-  between,
-  partOf,
-  rowOf,
+  fromTo,
+  hourPart,
+  tableRow,
   RowsAre,
   RangedAt,
   RangesAre,
   sumBelow,
-  tradedIn,
+  blocksTrade,
   TradedBy,
   Written,
   TwinsAt,
@@ -96,45 +98,45 @@ traded-both (suc n) runs side q = omega (arith, traded-both n runs side q, one (
     one false sell x = omega arith
 
 -- what blocks of at most 50 trade in an hour
-trade-fits : (h : ℕ) (s : Block) → BlockInRange s → sells h s + buys h s ≤ 50
+trade-fits : (h : ℕ) (s : Block) → BlockInRange s → sells h s + buys h s ≤ mostQuantity
 trade-fits h s r = at (s .side) (s .runs h)
   where
-    at : (side : Side) (t : _) → when t (bySide side 0 (s .quantity)) + when t (bySide side (s .quantity) 0) ≤ 50
+    at : (side : Side) (t : _) → when t (bySide side 0 (s .quantity)) + when t (bySide side (s .quantity) 0) ≤ mostQuantity
     at buy t = omega (arith, when-le t 0, when-le t (s .quantity), r .quantity .1)
     at sell t = omega (arith, when-le t 0, when-le t (s .quantity), r .quantity .1)
 
-trades-fit : (h : ℕ) (l : List Block) → Each BlockInRange l → overBlocks (sells h) l + overBlocks (buys h) l ≤ length l * 50
+trades-fit : (h : ℕ) (l : List Block) → Each BlockInRange l → overBlocks (sells h) l + overBlocks (buys h) l ≤ length l * mostQuantity
 trades-fit h [] e = omega arith
 trades-fit h (s ∷ l) e = omega (arith, trade-fits h s (e .0), trades-fit h l (e .1))
 
 -- THE TABLE IS SMALL
-row-at : (table : List ℕ) (h i : ℕ) → i < 1602 → getD (rowOf table h) i 0 ≡ getD table (h * 1602 + i) 0
-row-at table h i k = getD-take 1602 (drop (h * 1602) table) i 0 k ∙ getD-drop (h * 1602) table i 0
+row-at : (table : List ℕ) (h i : ℕ) → i < rowSize → getD (tableRow table h) i 0 ≡ getD table (h * rowSize + i) 0
+row-at table h i k = getD-take rowSize (drop (h * rowSize) table) i 0 k ∙ getD-drop (h * rowSize) table i 0
 
-module _ (sides prices quantities ends off low : List ℕ) (size : length low ≡ 38448) (rows : RowsAre sides prices quantities ends off low) where
-  pub low-small : Small 300000 low
-  low-small i = elim (decLe 38448 i) [
-    | yes k ↦ let z : length low ≤ i = omega arith in rw (lib.ListN.List·getD-eq-default low 0 z) (omega arith)
+module _ (sides prices quantities ends off unitPrices : List ℕ) (size : length unitPrices ≡ tableSize) (rows : RowsAre sides prices quantities ends off unitPrices) where
+  pub prices-small : Small maxPrice unitPrices
+  prices-small i = elim (decLe tableSize i) [
+    | yes k ↦ let z : length unitPrices ≤ i = omega arith in rw (lib.ListN.List·getD-eq-default unitPrices 0 z) (omega arith)
     | no k ↦
-        let a : i < 38448 = lt-of-not-le k in
-        let h = i / 1602 in
-        let hk : i / 1602 < 24 = omega arith in
-        let e : h * 1602 + i % 1602 ≡ i = omega arith in
-        let m : i % 1602 < 1602 = omega arith in
-        let inside : i % 1602 < length (rowOf low h) = omega (arith, row-length low h size hk) in
-        let l = stepsFrom 0 (partOf ends h sides) (partOf ends h prices) (partOf ends h quantities) in
-        let top = table-in-range l (getD off h 0) (rowOf low h) (rows h hk 0) (i % 1602) inside in
-        rw e at (rw (row-at low h (i % 1602) m) at top)
+        let a : i < tableSize = lt-of-not-le k in
+        let h = i / rowSize in
+        let hk : i / rowSize < dayHours = omega arith in
+        let e : h * rowSize + i % rowSize ≡ i = omega arith in
+        let m : i % rowSize < rowSize = omega arith in
+        let inside : i % rowSize < length (tableRow unitPrices h) = omega (arith, row-length unitPrices h size hk) in
+        let l = stepsFrom 0 (hourPart ends h sides) (hourPart ends h prices) (hourPart ends h quantities) in
+        let top = table-in-range l (getD off h 0) (tableRow unitPrices h) (rows h hk 0) (i % rowSize) inside in
+        rw e at (rw (row-at unitPrices h (i % rowSize) m) at top)
   ]
 
 -- a part of a column, in either form
-slice-between : (a e : ℕ) (l : List ℕ) → a ≤ e → slice a e l ≡ between a e l
-slice-between a e l k = let z : a + (e - a) ≡ e = omega arith in rw (take-drop a (e - a) l, z)
+slice-from-to : (a e : ℕ) (l : List ℕ) → a ≤ e → slice a e l ≡ fromTo a e l
+slice-from-to a e l k = let z : a + (e - a) ≡ e = omega arith in rw (take-drop a (e - a) l, z)
 
 -- THE DAY OF AN ACCEPTED BOOK
 module _ (b ends stepRecords sides prices quantities : List ℕ) (count : ℕ) (records blockSides hours blockPrices blockQuantities : List ℕ)
     (a : Accepted b) (sc : StepColumns b ends stepRecords sides prices quantities)
-    (bc : BlockColumns 32 b count records blockSides hours blockPrices blockQuantities) where
+    (bc : BlockColumns mostBlocks b count records blockSides hours blockPrices blockQuantities) where
   abbrev blockHere : ℕ → Block
   blockHere j = blockOf (number b (getD records j 0)) (getD blockSides j 0) (getD hours j 0) (getD blockPrices j 0) (getD blockQuantities j 0)
 
@@ -164,11 +166,11 @@ module _ (b ends stepRecords sides prices quantities : List ℕ) (count : ℕ) (
   none-after : drop count (dayFrom b .blocks) ≡ []
   none-after = let most : length (dayFrom b .blocks) ≤ count = omega (arith, blocks-counted) in drop-of-length-le (dayFrom b .blocks) most
 
-  bought-is : (h : ℕ) → tradedIn count blockSides hours blockQuantities false h ≡ overBlocks (buys h) (dayFrom b .blocks)
+  bought-is : (h : ℕ) → blocksTrade count blockSides hours blockQuantities false h ≡ overBlocks (buys h) (dayFrom b .blocks)
   bought-is h =
       omega (arith, over-below (dayFrom b .blocks) blockHere (buys h) count block-next, ap (overBlocks (buys h)) none-after)
 
-  traded-is : (h : ℕ) → tradedIn count blockSides hours blockQuantities true h
+  traded-is : (h : ℕ) → blocksTrade count blockSides hours blockQuantities true h
       ≡ overBlocks (sells h) (dayFrom b .blocks) + overBlocks (buys h) (dayFrom b .blocks)
   traded-is h =
       omega (
@@ -180,22 +182,22 @@ module _ (b ends stepRecords sides prices quantities : List ℕ) (count : ℕ) (
         traded-both count (λ i. holdsHour (getD hours i 0) h) (λ i. sideFor (getD blockSides i 0)) (λ i. getD blockQuantities i 0),
       )
 
-  blocks-fit : (h : ℕ) → overBlocks (sells h) (dayFrom b .blocks) + overBlocks (buys h) (dayFrom b .blocks) ≤ 1600
+  blocks-fit : (h : ℕ) → overBlocks (sells h) (dayFrom b .blocks) + overBlocks (buys h) (dayFrom b .blocks) ≤ lastPlace
   blocks-fit h = omega (arith, trades-fit h (dayFrom b .blocks) (blocks-in-range b a), blocks-counted, bc .few)
 
   abbrev stepsHere : ℕ → List Step
-  stepsHere h = stepsFrom h (partOf ends (h - 1) sides) (partOf ends (h - 1) prices) (partOf ends (h - 1) quantities)
+  stepsHere h = stepsFrom h (hourPart ends (h - 1) sides) (hourPart ends (h - 1) prices) (hourPart ends (h - 1) quantities)
 
-  steps-are : (h : ℕ) → 1 ≤ h → h ≤ 24 → stepsIn h (dayFrom b .steps) ≡ stepsHere h
+  steps-are : (h : ℕ) → 1 ≤ h → h ≤ dayHours → stepsIn h (dayFrom b .steps) ≡ stepsHere h
   steps-are h first last =
       let one : h - 1 + 1 ≡ h = omega arith in
       let rise = ends-rise b ends stepRecords sides prices quantities sc (h - 1) h (omega arith) last in
       rw one
       (hour-from-columns b ends stepRecords sides prices quantities sc a h first last
       ∙ rw (
-        slice-between (getD ends (h - 1) 0) (getD ends h 0) sides rise,
-        slice-between (getD ends (h - 1) 0) (getD ends h 0) prices rise,
-        slice-between (getD ends (h - 1) 0) (getD ends h 0) quantities rise,
+        slice-from-to (getD ends (h - 1) 0) (getD ends h 0) sides rise,
+        slice-from-to (getD ends (h - 1) 0) (getD ends h 0) prices rise,
+        slice-from-to (getD ends (h - 1) 0) (getD ends h 0) quantities rise,
       ))
 
   -- A BLOCK OF THE COLUMNS, at the prices root
@@ -210,7 +212,7 @@ module _ (b ends stepRecords sides prices quantities : List ℕ) (count : ℕ) (
     unfolding priceSum sumOfHours
     sum-is = daySum-plain (dayFrom b .hours) _
 
-    limit-is : blockHere j .price * day.hourCount (dayFrom b .hours) (blockHere j) ≡ getD blockPrices j 0 * hourCount 24 (getD hours j 0)
+    limit-is : blockHere j .price * day.hourCount (dayFrom b .hours) (blockHere j) ≡ getD blockPrices j 0 * hourCount dayHours (getD hours j 0)
     limit-is =
         rw (hour-count (dayFrom b .hours) (number b (getD records j 0)) (getD blockSides j 0) (getD hours j 0) (getD blockPrices j 0)
         (getD blockQuantities j 0))
@@ -220,15 +222,15 @@ module _ (b ends stepRecords sides prices quantities : List ℕ) (count : ℕ) (
 
     against-is : against (dayFrom b .hours) priceOf (blockHere j)
         ≡ getD blockQuantities j 0
-        * bySide (sideFor (getD blockSides j 0)) (sumOfHours root (getD hours j 0) - getD blockPrices j 0 * hourCount 24 (getD hours j 0))
-        (getD blockPrices j 0 * hourCount 24 (getD hours j 0) - sumOfHours root (getD hours j 0))
+        * bySide (sideFor (getD blockSides j 0)) (sumOfHours root (getD hours j 0) - getD blockPrices j 0 * hourCount dayHours (getD hours j 0))
+        (getD blockPrices j 0 * hourCount dayHours (getD hours j 0) - sumOfHours root (getD hours j 0))
     unfolding against
     against-is = rw (sum-is, limit-is)
 
     gain-is : gain (dayFrom b .hours) priceOf (blockHere j)
         ≡ getD blockQuantities j 0
-        * bySide (sideFor (getD blockSides j 0)) (getD blockPrices j 0 * hourCount 24 (getD hours j 0) - sumOfHours root (getD hours j 0))
-        (sumOfHours root (getD hours j 0) - getD blockPrices j 0 * hourCount 24 (getD hours j 0))
+        * bySide (sideFor (getD blockSides j 0)) (getD blockPrices j 0 * hourCount dayHours (getD hours j 0) - sumOfHours root (getD hours j 0))
+        (sumOfHours root (getD hours j 0) - getD blockPrices j 0 * hourCount dayHours (getD hours j 0))
     unfolding gain
     gain-is = rw (sum-is, limit-is)
 
@@ -281,9 +283,9 @@ module _ (b ends stepRecords sides prices quantities : List ℕ) (count : ℕ) (
         (below, twins-ahead j c k (omega arith) (twins-back columns c j (f .1)) (omega (arith, less)) (λ n. (f .3, less)))
 
   -- THE HOURS
-  module _ (off most root low gap first last turn columns : List ℕ) (lowSize : length low ≡ 38448)
+  module _ (off most root unitPrices gap first last turn columns : List ℕ) (pricesSize : length unitPrices ≡ tableSize)
       (bought : TradedBy count blockSides hours blockQuantities false off) (traded : TradedBy count blockSides hours blockQuantities true most)
-      (rows : RowsAre sides prices quantities ends off low) (ranges : RangesAre sides prices quantities ends off most root low gap first last turn)
+      (rows : RowsAre sides prices quantities ends off unitPrices) (ranges : RangesAre sides prices quantities ends off most root unitPrices gap first last turn)
       (blocks : Completed blockSides hours blockPrices blockQuantities root count columns) where
     abbrev rootOf : ℕ → ℕ
     rootOf h = getD root (h - 1) 0
@@ -292,8 +294,8 @@ module _ (b ends stepRecords sides prices quantities : List ℕ) (count : ℕ) (
     abbrev restOf : ℕ → ℕ
     restOf h = slack (rootOf h) (hourAt (dayFrom b) h (ofHour first h)) - cell gap h (ofHour first h)
 
-    module _ (h : ℕ) (from : 1 ≤ h) (to : h ≤ 24) where
-      inside : h - 1 < 24
+    module _ (h : ℕ) (from : 1 ≤ h) (to : h ≤ dayHours) where
+      inside : h - 1 < dayHours
       inside = omega arith
 
       off-is : getD off (h - 1) 0 ≡ overBlocks (buys h) (dayFrom b .blocks)
@@ -308,10 +310,10 @@ module _ (b ends stepRecords sides prices quantities : List ℕ) (count : ℕ) (
       abbrev offHere : ℕ
       offHere = getD off (h - 1) 0
 
-      range : RangedAt sides prices quantities ends off most root low gap first last turn (h - 1)
+      range : RangedAt sides prices quantities ends off most root unitPrices gap first last turn (h - 1)
       range = ranges (h - 1) inside
 
-      unit-prices : UnitPrices steps offHere (rowOf low (h - 1))
+      unit-prices : UnitPrices steps offHere (tableRow unitPrices (h - 1))
       unit-prices = rw (steps-are h from to) (rows (h - 1) inside h)
 
       prices-here : PricesInRange steps
@@ -329,20 +331,20 @@ module _ (b ends stepRecords sides prices quantities : List ℕ) (count : ℕ) (
       clearing-at : (i : ℕ) → i ≤ mostHere → ((ofHour first h ≤ i) × (i ≤ ofHour last h)) ↔ Clearable (net steps i offHere)
       clearing-at = range .range .clearing steps bought-here sold-here
 
-      cell-is : (table : List ℕ) (i : ℕ) → i ≤ 1601 → getD (rowOf table (h - 1)) i 0 ≡ cell table h i
+      cell-is : (table : List ℕ) (i : ℕ) → i ≤ lastPlace + 1 → getD (tableRow table (h - 1)) i 0 ≡ cell table h i
       cell-is table i k = row-at table (h - 1) i (omega arith)
 
-      low-is : (i : ℕ) → i ≤ 1601 → cell low h i ≡ unitPrice (net steps i (suc (overBlocks (buys h) (dayFrom b .blocks))))
-      low-is i k =
-          rw (← off-is) (sym (cell-is low i k) ∙ unit-prices i (omega (arith, row-length low (h - 1) lowSize inside)))
+      unit-price-is : (i : ℕ) → i ≤ lastPlace + 1 → cell unitPrices h i ≡ unitPrice (net steps i (suc (overBlocks (buys h) (dayFrom b .blocks))))
+      unit-price-is i k =
+          rw (← off-is) (sym (cell-is unitPrices i k) ∙ unit-prices i (omega (arith, row-length unitPrices (h - 1) pricesSize inside)))
 
-      row-falls : NotRising (rowOf low (h - 1))
-      row-falls = table-not-rising steps offHere (rowOf low (h - 1)) unit-prices
+      row-falls : NotRising (tableRow unitPrices (h - 1))
+      row-falls = table-not-rising steps offHere (tableRow unitPrices (h - 1)) unit-prices
 
-      row-inside : ofHour last h < length (rowOf low (h - 1))
-      row-inside = omega (arith, range .range .inside, traded .small (h - 1), row-length low (h - 1) lowSize inside)
+      row-inside : ofHour last h < length (tableRow unitPrices (h - 1))
+      row-inside = omega (arith, range .range .inside, traded .small (h - 1), row-length unitPrices (h - 1) pricesSize inside)
 
-      clears-at : (i : ℕ) → i ≤ 1600 → ofHour first h ≤ i → i ≤ ofHour last h → Clearable (hourAt (dayFrom b) h i)
+      clears-at : (i : ℕ) → i ≤ lastPlace → ofHour first h ≤ i → i ≤ ofHour last h → Clearable (hourAt (dayFrom b) h i)
       clears-at i k x y = rw (← off-is) (clearing-at i (omega (arith, range .range .inside)) .0 (x, y))
 
       clears-only : (i : ℕ) → i ≤ overBlocks (sells h) (dayFrom b .blocks) + overBlocks (buys h) (dayFrom b .blocks) → Clearable (hourAt (dayFrom b) h i) → (ofHour first h ≤ i) × (i ≤ ofHour last h)
@@ -355,13 +357,13 @@ module _ (b ends stepRecords sides prices quantities : List ℕ) (count : ℕ) (
           (bought-within count blockSides hours blockQuantities off most bought traded (h - 1) inside)
 
       gap-here : (i : ℕ) → ofHour first h ≤ i → i ≤ ofHour last h →
-          slack (rootOf h) (net steps i offHere) ≡ getD (rowOf gap (h - 1)) i 0 + slack (rootOf h) (net steps (ofHour turn h) offHere)
+          slack (rootOf h) (net steps i offHere) ≡ getD (tableRow gap (h - 1)) i 0 + slack (rootOf h) (net steps (ofHour turn h) offHere)
       gap-here =
           let o = ordered in
           let top = range .range .inside in
           let fits = traded .small (h - 1) in
-          gap-table steps prices-here offHere (rowOf low (h - 1)) unit-prices (rootOf h) (ofHour first h) (ofHour last h) (ofHour turn h)
-          (rowOf gap (h - 1)) (range .gaps) (omega (arith, row-length low (h - 1) lowSize inside))
+          gap-table steps prices-here offHere (tableRow unitPrices (h - 1)) unit-prices (rootOf h) (ofHour first h) (ofHour last h) (ofHour turn h)
+          (tableRow gap (h - 1)) (range .gaps) (omega (arith, row-length unitPrices (h - 1) pricesSize inside))
           (clearing-at (ofHour first h) (omega arith) .0 (omega arith, omega arith))
           (clearing-at (ofHour last h) (omega arith) .0 (omega arith, omega arith))
 
@@ -379,13 +381,16 @@ module _ (b ends stepRecords sides prices quantities : List ℕ) (count : ℕ) (
             cell-is gap (ofHour first h) (omega arith),
           ))
 
-    pub known : Known (dayFrom b) rootOf restOf low gap first last columns count
+    abbrev tables : Tables
+    tables = record { unitPrices = unitPrices; gaps = gap; first = first; last = last; turn = turn; blocks = columns; count = count }
+
+    pub known : Known (dayFrom b) rootOf restOf tables
     known = record {
       prices = prices-in-range b a;
       hours = hours-in-range b a;
       counted = blocks-counted;
       fits = λ h from to. blocks-fit h;
-      lowIs = λ h i from to. low-is h from to i;
+      unitPriceIs = λ h i from to. unit-price-is h from to i;
       clears = λ h i from to. clears-at h from to i;
       clearsOnly = λ h i from to. clears-only h from to i;
       gapIs = λ h i from to. gap-is h from to i;
@@ -394,7 +399,7 @@ module _ (b ends stepRecords sides prices quantities : List ℕ) (count : ℕ) (
       behind = is-behind root columns blocks;
     }
 
-    pub turning : Turning gap first last turn
+    pub turning : Turning tables
     turning = record {
       falls = λ h i j from to x y z t.
           let o = range h from to .range .inside in
@@ -409,31 +414,41 @@ module _ (b ends stepRecords sides prices quantities : List ℕ) (count : ℕ) (
     }
 
 -- WHAT IS PREPARED
-pub set-up : (low gap first last columns : List ℕ) → length low ≡ 38448 → length gap ≡ 38448 → length first ≡ 24 → length last ≡ 24 →
-    Small 1600 last → Small 300000 low → BlocksSized columns → Sized low gap first last columns
-set-up low gap first last columns l g f t s m c =
-    record { lowRows = l; gapRows = g; firstHours = f; lastHours = t; lastFits = s; lowFits = m; blocksFit = c }
+pub set-up : (t : Tables) → length (t .unitPrices) ≡ tableSize → length (t .gaps) ≡ tableSize → length (t .first) ≡ dayHours → length (t .last) ≡ dayHours →
+    Small lastPlace (t .last) → Small maxPrice (t .unitPrices) → BlocksSized (t .blocks) → t .count ≤ mostBlocks → Sized t
+set-up t prices gaps first last fits small blocks few =
+    record {
+      priceRows = prices;
+      gapRows = gaps;
+      firstHours = first;
+      lastHours = last;
+      lastFits = fits;
+      pricesFit = small;
+      blocksFit = blocks;
+      few = few;
+    }
 
 pub ready : (sides prices quantities ends : List ℕ) (count : ℕ) (records blockSides hours blockPrices blockQuantities : List ℕ)
-    (off most root low gap first last turn columns : List ℕ) → length low ≡ 38448 → TradedBy count blockSides hours blockQuantities false off →
-    TradedBy count blockSides hours blockQuantities true most → RowsAre sides prices quantities ends off low →
-    RangesAre sides prices quantities ends off most root low gap first last turn →
+    (off most root unitPrices gap first last turn columns : List ℕ) → length unitPrices ≡ tableSize → TradedBy count blockSides hours blockQuantities false off →
+    TradedBy count blockSides hours blockQuantities true most → RowsAre sides prices quantities ends off unitPrices →
+    RangesAre sides prices quantities ends off most root unitPrices gap first last turn →
     Completed blockSides hours blockPrices blockQuantities root count columns →
-    ReadyFor sides prices quantities ends count records blockSides hours blockPrices blockQuantities low gap first last turn columns
-ready sides prices quantities ends count records blockSides hours blockPrices blockQuantities off most root low gap first last turn columns l o t rows
+    ReadyFor sides prices quantities ends records blockSides hours blockPrices blockQuantities
+    record { unitPrices = unitPrices; gaps = gap; first = first; last = last; turn = turn; blocks = columns; count = count }
+ready sides prices quantities ends count records blockSides hours blockPrices blockQuantities off most root unitPrices gap first last turn columns l o t rows
     ranges w b stepRecords a sc bc =
     record {
       p = _;
       rest = _;
-      known = known b ends stepRecords sides prices quantities count records blockSides hours blockPrices blockQuantities a sc bc off most root low
+      known = known b ends stepRecords sides prices quantities count records blockSides hours blockPrices blockQuantities a sc bc off most root unitPrices
           gap first last turn columns l o t rows ranges w;
-      turning = turning b ends stepRecords sides prices quantities count records blockSides hours blockPrices blockQuantities a sc bc off most root low
+      turning = turning b ends stepRecords sides prices quantities count records blockSides hours blockPrices blockQuantities a sc bc off most root unitPrices
           gap first last turn columns l o t rows ranges w;
     }
 
 -- WHAT SAFETY ASKS holds of an accepted book's columns, where the steps' are arrays of 2,048
 pub steps-held : (b ends stepRecords sides prices quantities : List ℕ) → StepColumns b ends stepRecords sides prices quantities →
-    length sides ≡ 2048 → length prices ≡ 2048 → length quantities ≡ 2048 → StepsHeld sides prices quantities ends
+    length sides ≡ mostSteps → length prices ≡ mostSteps → length quantities ≡ mostSteps → StepsHeld sides prices quantities ends
 steps-held b ends stepRecords sides prices quantities c s p q = record {
   asManyPrices = s ∙ sym p;
   asManyQuantities = s ∙ sym q;
@@ -443,7 +458,7 @@ steps-held b ends stepRecords sides prices quantities c s p q = record {
 }
 
 pub blocks-held : (b : List ℕ) (count : ℕ) (records sides hours prices quantities : List ℕ) →
-    BlockColumns 32 b count records sides hours prices quantities → Accepted b → BlocksHeld count prices quantities
+    BlockColumns mostBlocks b count records sides hours prices quantities → Accepted b → BlocksHeld count prices quantities
 blocks-held b count records sides hours prices quantities c a = record {
   few = c .few;
   pricesFit = λ i k. block-place b count records sides hours prices quantities c a i k .priceRange .1;

@@ -8,12 +8,13 @@ use native.Mathlib.Nat.{lt-of-not-le}
 use lib.ListN.{length, take, drop, getD, set, replicate, length-set, length-take, length-drop}
 use lib.Seq.{length-take-le, take-take, take-nil, drop-nil, drop-at, take-at, getD-set-same, getD-set-other}
 use borrow.Rule.Slice.PartMut.{putMid, midOf, take-put, same-len-mid}
-use Rattle.rules.specs.Orders.{Step, buy, sell}
+use Rattle.search.specs.Layout.{dayHours, lastPlace, rowSize, tableSize}
+use Rattle.rules.specs.Orders.{Step, buy, sell, maxPrice}
 use Rattle.orders.specs.Columns.{stepsFrom}
 use Rattle.tables.specs.Tables.{PriceTable, AllOf, ClearRange, NotRising, GapsFor, GapTable}
 use Rattle.tables.proofs.LevelLaws.{table-not-rising, table-in-range}
 use Rattle.search.specs.Search.{Small}
-use Rattle.setup.specs.Setup.{StepsHeld, PartHeld, partOf, rowOf, RowIs, RowsAre, Ranged, RangedAt, RangesAre}
+use Rattle.setup.specs.Setup.{StepsHeld, PartHeld, hourPart, tableRow, RowIs, RowsAre, Ranged, RangedAt, RangesAre}
 use Rattle.search.proofs.LeafLaws.{zeros}
 use Rattle.roots.proofs.SizeLaws.{set-small}
 
@@ -28,7 +29,7 @@ part-front : (m k n : ℕ) (l r : List ℕ) → m + k ≤ n → take n l ≡ tak
 part-front m k n l r a e =
     take-drop m k l ∙ ap (drop m) (sym (take-take (m + k) n l a) ∙ ap (take (m + k)) e ∙ take-take (m + k) n r a) ∙ sym (take-drop m k r)
 
-pub part-held : (sides prices quantities ends : List ℕ) → StepsHeld sides prices quantities ends → (h : ℕ) → h < 24 →
+pub part-held : (sides prices quantities ends : List ℕ) → StepsHeld sides prices quantities ends → (h : ℕ) → h < dayHours →
     PartHeld sides prices quantities (getD ends h 0) (getD ends (h + 1) 0)
 part-held sides prices quantities ends s h k = record {
   asManyPrices = s .asManyPrices;
@@ -39,36 +40,36 @@ part-held sides prices quantities ends s h k = record {
 }
 
 -- ROWS
-module _ (table row : List ℕ) (h k : ℕ) (size : length table ≡ 38448) (here : h < 24) (full : length row ≡ 1602) (wide : k ≡ 1602) where
-  pub row-put : rowOf (putMid (h * 1602) k table row) h ≡ row
+module _ (table row : List ℕ) (h k : ℕ) (size : length table ≡ tableSize) (here : h < dayHours) (full : length row ≡ rowSize) (wide : k ≡ rowSize) where
+  pub row-put : tableRow (putMid (h * rowSize) k table row) h ≡ row
   row-put =
-      let n : h * 1602 ≤ length table = omega arith in
+      let n : h * rowSize ≤ length table = omega arith in
       rw (
-        drop-at (take (h * 1602) table) (row ++ drop k (drop (h * 1602) table)) (h * 1602) (length-take-le (h * 1602) table n),
-        take-at row (drop k (drop (h * 1602) table)) 1602 full,
+        drop-at (take (h * rowSize) table) (row ++ drop k (drop (h * rowSize) table)) (h * rowSize) (length-take-le (h * rowSize) table n),
+        take-at row (drop k (drop (h * rowSize) table)) rowSize full,
       )
 
-  pub row-before : (j : ℕ) → j < h → rowOf (putMid (h * 1602) k table row) j ≡ rowOf table j
+  pub row-before : (j : ℕ) → j < h → tableRow (putMid (h * rowSize) k table row) j ≡ tableRow table j
   row-before j a =
-      part-front (j * 1602) 1602 (h * 1602) (putMid (h * 1602) k table row) table (omega arith) (take-put (h * 1602) k table row (omega arith))
+      part-front (j * rowSize) rowSize (h * rowSize) (putMid (h * rowSize) k table row) table (omega arith) (take-put (h * rowSize) k table row (omega arith))
 
-  pub put-size : length (putMid (h * 1602) k table row) ≡ 38448
+  pub put-size : length (putMid (h * rowSize) k table row) ≡ tableSize
   put-size =
-      let e : length row ≡ length (midOf (h * 1602) k table) = rw (wide, full) (simp (length-take, length-drop) (omega arith)) in
-      same-len-mid (h * 1602) k table row e ∙ size
+      let e : length row ≡ length (midOf (h * rowSize) k table) = rw (wide, full) (simp (length-take, length-drop) (omega arith)) in
+      same-len-mid (h * rowSize) k table row e ∙ size
 
-pub row-length : (table : List ℕ) (h : ℕ) → length table ≡ 38448 → h < 24 → length (rowOf table h) ≡ 1602
+pub row-length : (table : List ℕ) (h : ℕ) → length table ≡ tableSize → h < dayHours → length (tableRow table h) ≡ rowSize
 row-length table h size k = simp (length-take, length-drop) (omega arith)
 
-pub part-length : (table : List ℕ) (h : ℕ) → length table ≡ 38448 → h < 24 →
-    length (take (h * 1602 + 1602 - h * 1602) (drop (h * 1602) table)) ≡ 1602
+pub part-length : (table : List ℕ) (h : ℕ) → length table ≡ tableSize → h < dayHours →
+    length (take (h * rowSize + rowSize - h * rowSize) (drop (h * rowSize) table)) ≡ rowSize
 part-length table h size k = simp (length-take, length-drop) (omega arith)
 
-pub row-wide : (h : ℕ) → h * 1602 + 1602 - h * 1602 ≡ 1602
+pub row-wide : (h : ℕ) → h * rowSize + rowSize - h * rowSize ≡ rowSize
 row-wide h = omega arith
 
 -- the part of a table that is lent is the row
-pub part-row : (table : List ℕ) (h : ℕ) → take (h * 1602 + 1602 - h * 1602) (drop (h * 1602) table) ≡ rowOf table h
+pub part-row : (table : List ℕ) (h : ℕ) → take (h * rowSize + rowSize - h * rowSize) (drop (h * rowSize) table) ≡ tableRow table h
 part-row table h = rw (row-wide h)
 
 -- what holds below h and at h holds below h + 1
@@ -80,26 +81,26 @@ below-next P h k f p a = elim (decLe h k) [
 
 -- THE PRICE TABLES
 module _ (sides prices quantities ends off : List ℕ) where
-  pub record RowsTo (low : List ℕ) (h : ℕ) : Type 0 where
-    pub inside : h ≤ 24
-    pub size : length low ≡ 38448
-    pub done : (j : ℕ) → j < h → RowIs sides prices quantities ends off low j
+  pub record RowsTo (unitPrices : List ℕ) (h : ℕ) : Type 0 where
+    pub inside : h ≤ dayHours
+    pub size : length unitPrices ≡ tableSize
+    pub done : (j : ℕ) → j < h → RowIs sides prices quantities ends off unitPrices j
 
-  pub rows-start : (low : List ℕ) → length low ≡ 38448 → RowsTo low 0
-  rows-start low e = record { inside = omega arith; size = e; done = λ j a. absurd (omega arith) }
+  pub rows-start : (unitPrices : List ℕ) → length unitPrices ≡ tableSize → RowsTo unitPrices 0
+  rows-start unitPrices e = record { inside = omega arith; size = e; done = λ j a. absurd (omega arith) }
 
-  pub rows-next : (low row : List ℕ) (h k : ℕ) → RowsTo low h → h < 24 → length row ≡ 1602 → k ≡ 1602 →
-      PriceTable (partOf ends h sides) (partOf ends h prices) (partOf ends h quantities) (getD off h 0) row →
-      RowsTo (putMid (h * 1602) k low row) (h + 1)
-  rows-next low row h k r a full wide t = record {
+  pub rows-next : (unitPrices row : List ℕ) (h k : ℕ) → RowsTo unitPrices h → h < dayHours → length row ≡ rowSize → k ≡ rowSize →
+      PriceTable (hourPart ends h sides) (hourPart ends h prices) (hourPart ends h quantities) (getD off h 0) row →
+      RowsTo (putMid (h * rowSize) k unitPrices row) (h + 1)
+  rows-next unitPrices row h k r a full wide t = record {
     inside = omega arith;
-    size = put-size low row h k (r .size) a full wide;
-    done = λ j b. below-next (RowIs sides prices quantities ends off (putMid (h * 1602) k low row)) h j
-        (λ c. rw (row-before low row h k (r .size) a full wide j c) (r .done j c)) (rw (row-put low row h k (r .size) a full wide) t) b;
+    size = put-size unitPrices row h k (r .size) a full wide;
+    done = λ j b. below-next (RowIs sides prices quantities ends off (putMid (h * rowSize) k unitPrices row)) h j
+        (λ c. rw (row-before unitPrices row h k (r .size) a full wide j c) (r .done j c)) (rw (row-put unitPrices row h k (r .size) a full wide) t) b;
   }
 
-  pub rows-all : (low : List ℕ) (h : ℕ) → RowsTo low h → 24 ≤ h → RowsAre sides prices quantities ends off low
-  rows-all low h r k j a = r .done j (omega arith)
+  pub rows-all : (unitPrices : List ℕ) (h : ℕ) → RowsTo unitPrices h → dayHours ≤ h → RowsAre sides prices quantities ends off unitPrices
+  rows-all unitPrices h r k j a = r .done j (omega arith)
 
 -- ONE HOUR'S RANGE: it has the place off
 pub range-holds : (buys sells off most first last : ℕ) → ClearRange buys sells off most first last → off ≤ most → (first ≤ off) × (off ≤ last)
@@ -108,8 +109,8 @@ range-holds buys sells off most first last r k =
     r .clearing l (omega arith) (omega arith) off k .1 (record { buysSuffice = omega arith; sellsSuffice = omega arith })
 
 module _ (sides prices quantities : List ℕ) (off most price : ℕ) (row : List ℕ) (table : PriceTable sides prices quantities off row)
-    (size : length row ≡ 1602) (small : off ≤ most) (few : most ≤ 1600) (top : price ≤ 300000) where
-  pub hour-room : (buys sells first last : ℕ) (gap : List ℕ) → length gap ≡ 1602 → ClearRange buys sells off most first last →
+    (size : length row ≡ rowSize) (small : off ≤ most) (few : most ≤ lastPlace) (top : price ≤ maxPrice) where
+  pub hour-room : (buys sells first last : ℕ) (gap : List ℕ) → length gap ≡ rowSize → ClearRange buys sells off most first last →
       GapsFor row price first last gap × NotRising row
   hour-room buys sells first last gap e r =
       let l = stepsFrom 0 sides prices quantities in (
@@ -126,50 +127,50 @@ module _ (sides prices quantities : List ℕ) (off most price : ℕ) (row : List
 
   pub hour-ranged : (buys sells first last turn : ℕ) (gap : List ℕ) → AllOf sides prices quantities buys sells →
       ClearRange buys sells off most first last → GapTable row price first last turn gap →
-      ((first ≤ 1600) × (last ≤ 1600) × (turn ≤ 1600)) × Ranged sides prices quantities off most price first last turn row gap
+      ((first ≤ lastPlace) × (last ≤ lastPlace) × (turn ≤ lastPlace)) × Ranged sides prices quantities off most price first last turn row gap
   hour-ranged buys sells first last turn gap a r g = (
     (omega (arith, range-holds buys sells off most first last r small), omega (arith, r .inside), omega (arith, g .to, r .inside)),
     record { bought = buys; sold = sells; all = a; range = r; gaps = g },
   )
 
 -- THE RANGES AND THE GAP TABLES
-module _ (sides prices quantities ends off most root low : List ℕ) where
+module _ (sides prices quantities ends off most root unitPrices : List ℕ) where
   pub record RangesTo (gap first last turn : List ℕ) (h : ℕ) : Type 0 where
-    pub inside : h ≤ 24
-    pub size : length gap ≡ 38448
-    pub firstSize : length first ≡ 24
-    pub lastSize : length last ≡ 24
-    pub turnSize : length turn ≡ 24
-    pub small : (j : ℕ) → getD last j 0 ≤ 1600
-    pub done : (j : ℕ) → j < h → RangedAt sides prices quantities ends off most root low gap first last turn j
+    pub inside : h ≤ dayHours
+    pub size : length gap ≡ tableSize
+    pub firstSize : length first ≡ dayHours
+    pub lastSize : length last ≡ dayHours
+    pub turnSize : length turn ≡ dayHours
+    pub small : (j : ℕ) → getD last j 0 ≤ lastPlace
+    pub done : (j : ℕ) → j < h → RangedAt sides prices quantities ends off most root unitPrices gap first last turn j
 
-  pub ranges-start : (gap : List ℕ) → length gap ≡ 38448 → RangesTo gap (replicate 24 0) (replicate 24 0) (replicate 24 0) 0
+  pub ranges-start : (gap : List ℕ) → length gap ≡ tableSize → RangesTo gap (replicate dayHours 0) (replicate dayHours 0) (replicate dayHours 0) 0
   ranges-start gap e = record {
     inside = omega arith;
     size = e;
     firstSize = refl;
     lastSize = refl;
     turnSize = refl;
-    small = λ j. omega (arith, zeros 24 j);
+    small = λ j. omega (arith, zeros dayHours j);
     done = λ j a. absurd (omega arith);
   }
 
-  pub ranges-next : (gap first last turn row : List ℕ) (h k f l m : ℕ) → RangesTo gap first last turn h → h < 24 → length row ≡ 1602 → k ≡ 1602 → l ≤ 1600 →
-      Ranged (partOf ends h sides) (partOf ends h prices) (partOf ends h quantities) (getD off h 0) (getD most h 0) (getD root h 0) f l m (rowOf low h) row →
-      RangesTo (putMid (h * 1602) k gap row) (set first h f) (set last h l) (set turn h m) (h + 1)
+  pub ranges-next : (gap first last turn row : List ℕ) (h k f l m : ℕ) → RangesTo gap first last turn h → h < dayHours → length row ≡ rowSize → k ≡ rowSize → l ≤ lastPlace →
+      Ranged (hourPart ends h sides) (hourPart ends h prices) (hourPart ends h quantities) (getD off h 0) (getD most h 0) (getD root h 0) f l m (tableRow unitPrices h) row →
+      RangesTo (putMid (h * rowSize) k gap row) (set first h f) (set last h l) (set turn h m) (h + 1)
   ranges-next gap first last turn row h k f l m r a full wide small t =
       let inF : h < length first = omega (arith, r .firstSize) in
       let inL : h < length last = omega (arith, r .lastSize) in
       let inT : h < length turn = omega (arith, r .turnSize) in
-      let new = putMid (h * 1602) k gap row in
+      let new = putMid (h * rowSize) k gap row in
       record {
         inside = omega arith;
         size = put-size gap row h k (r .size) a full wide;
         firstSize = rw length-set (r .firstSize);
         lastSize = rw length-set (r .lastSize);
         turnSize = rw length-set (r .turnSize);
-        small = set-small 1600 last h l inL small (r .small);
-        done = λ j b. below-next (RangedAt sides prices quantities ends off most root low new (set first h f) (set last h l) (set turn h m)) h j
+        small = set-small lastPlace last h l inL small (r .small);
+        done = λ j b. below-next (RangedAt sides prices quantities ends off most root unitPrices new (set first h f) (set last h l) (set turn h m)) h j
             (λ c. rw (
               row-before gap row h k (r .size) a full wide j c,
               getD-set-other first h j f 0 (λ e. omega arith),
@@ -184,7 +185,7 @@ module _ (sides prices quantities ends off most root low : List ℕ) where
             ) t) b;
       }
 
-  pub ranges-all : (gap first last turn : List ℕ) (h : ℕ) → RangesTo gap first last turn h → 24 ≤ h →
-      ((length first ≡ 24) × (length last ≡ 24) × (length turn ≡ 24) × Small 1600 last)
-      × RangesAre sides prices quantities ends off most root low gap first last turn
+  pub ranges-all : (gap first last turn : List ℕ) (h : ℕ) → RangesTo gap first last turn h → dayHours ≤ h →
+      ((length first ≡ dayHours) × (length last ≡ dayHours) × (length turn ≡ dayHours) × Small lastPlace last)
+      × RangesAre sides prices quantities ends off most root unitPrices gap first last turn
   ranges-all gap first last turn h r k = ((r .firstSize, r .lastSize, r .turnSize, r .small), λ j a. r .done j (omega arith))

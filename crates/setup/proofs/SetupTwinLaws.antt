@@ -11,13 +11,14 @@ use lib.Dec.{leb, ltb, eqb}
 use lib.ListN.{length, take, drop, getD, set, replicate, length-set, length-take, length-drop}
 use lib.Seq.{getD-set-same, getD-set-other, getD-take, getD-drop, ext-getD}
 use borrow.Author.Tests.{leb-true, leb-false, ltb-true, eqb-true}
+use Rattle.search.specs.Layout.{againstColumn, aheadColumn, behindColumn, blockListSize, blockRows, dayHours, gainColumn, hourListSize, hoursColumn, lastColumn, limitColumn, mostBlocks, mostQuantity, quantityColumn, turnColumn}
 use Rattle.records.specs.Records.{holdsHour}
 use Rattle.orders.specs.Columns.{sideFor}
 use Rattle.rules.specs.Orders.{Side, buy, sell}
 use Rattle.rules.specs.Hour.{bySide, when}
 use Rattle.rules.specs.Execution.{testSide}
 use Rattle.rules.proofs.Tests.{by-test, both}
-use Rattle.search.specs.Search.{firstOf, lastOf, turnOf, sideAt, hoursAt, quantityAt, limitAt, aheadAt, behindAt, rowAt}
+use Rattle.search.specs.Search.{clearsFirst, clearsLast, gapsTurn, sideAt, hoursAt, quantityAt, limitAt, aheadAt, behindAt, rowAt}
 use Rattle.search.specs.Meaning.{BlocksSized}
 use Rattle.setup.specs.Setup.{
   Written,
@@ -36,88 +37,88 @@ use Rattle.search.proofs.LeafLaws.{zeros, below-next}
 -- THE HOURS' COLUMNS IN ONE LIST, hour by hour
 module _ (first last turn : List ℕ) where
   pub record JoinedTo (h : ℕ) (r : List ℕ) : Type 0 where
-    pub size : length r ≡ 72
+    pub size : length r ≡ hourListSize
     pub firsts : (k : ℕ) → k < h → getD r k 0 ≡ getD first k 0
-    pub lasts : (k : ℕ) → k < h → getD r (24 + k) 0 ≡ getD last k 0
-    pub turns : (k : ℕ) → k < h → getD r (48 + k) 0 ≡ getD turn k 0
+    pub lasts : (k : ℕ) → k < h → getD r (lastColumn + k) 0 ≡ getD last k 0
+    pub turns : (k : ℕ) → k < h → getD r (turnColumn + k) 0 ≡ getD turn k 0
 
-  pub joined-start : JoinedTo 0 (replicate 72 0)
+  pub joined-start : JoinedTo 0 (replicate hourListSize 0)
   joined-start =
       record { size = refl; firsts = λ k a. absurd (omega arith); lasts = λ k a. absurd (omega arith); turns = λ k a. absurd (omega arith) }
 
-  pub joined-next : (h : ℕ) (r : List ℕ) → JoinedTo h r → h < 24 →
-      JoinedTo (h + 1) (set (set (set r h (getD first h 0)) (24 + h) (getD last h 0)) (48 + h) (getD turn h 0))
+  pub joined-next : (h : ℕ) (r : List ℕ) → JoinedTo h r → h < dayHours →
+      JoinedTo (h + 1) (set (set (set r h (getD first h 0)) (lastColumn + h) (getD last h 0)) (turnColumn + h) (getD turn h 0))
   joined-next h r j inside = record {
     size = rw length-set size₂;
     firsts = λ k a. below-next (λ k. getD r₃ k 0 ≡ getD first k 0) h k
         (λ b. other k (omega arith) (omega arith) (omega arith) ∙ j .firsts k b) first-here (rw add-one at a);
-    lasts = λ k a. below-next (λ k. getD r₃ (24 + k) 0 ≡ getD last k 0) h k
-        (λ b. other (24 + k) (omega arith) (omega arith) (omega arith) ∙ j .lasts k b) last-here (rw add-one at a);
-    turns = λ k a. below-next (λ k. getD r₃ (48 + k) 0 ≡ getD turn k 0) h k
-        (λ b. other (48 + k) (omega arith) (omega arith) (omega arith) ∙ j .turns k b) turn-here (rw add-one at a);
+    lasts = λ k a. below-next (λ k. getD r₃ (lastColumn + k) 0 ≡ getD last k 0) h k
+        (λ b. other (lastColumn + k) (omega arith) (omega arith) (omega arith) ∙ j .lasts k b) last-here (rw add-one at a);
+    turns = λ k a. below-next (λ k. getD r₃ (turnColumn + k) 0 ≡ getD turn k 0) h k
+        (λ b. other (turnColumn + k) (omega arith) (omega arith) (omega arith) ∙ j .turns k b) turn-here (rw add-one at a);
   }
     where
       r₁ : List ℕ
       r₁ = set r h (getD first h 0)
 
       r₂ : List ℕ
-      r₂ = set r₁ (24 + h) (getD last h 0)
+      r₂ = set r₁ (lastColumn + h) (getD last h 0)
 
       r₃ : List ℕ
-      r₃ = set r₂ (48 + h) (getD turn h 0)
+      r₃ = set r₂ (turnColumn + h) (getD turn h 0)
 
-      size₁ : length r₁ ≡ 72
+      size₁ : length r₁ ≡ hourListSize
       size₁ = length-set r h (getD first h 0) ∙ j .size
 
-      size₂ : length r₂ ≡ 72
-      size₂ = length-set r₁ (24 + h) (getD last h 0) ∙ size₁
+      size₂ : length r₂ ≡ hourListSize
+      size₂ = length-set r₁ (lastColumn + h) (getD last h 0) ∙ size₁
 
-      other : (at : ℕ) → (at ≡ h → ⊥) → (at ≡ 24 + h → ⊥) → (at ≡ 48 + h → ⊥) → getD r₃ at 0 ≡ getD r at 0
+      other : (at : ℕ) → (at ≡ h → ⊥) → (at ≡ dayHours + h → ⊥) → (at ≡ turnColumn + h → ⊥) → getD r₃ at 0 ≡ getD r at 0
       other at e₀ e₁ e₂ =
-          getD-set-other r₂ (48 + h) at (getD turn h 0) 0 e₂ ∙ getD-set-other r₁ (24 + h) at (getD last h 0) 0 e₁
+          getD-set-other r₂ (turnColumn + h) at (getD turn h 0) 0 e₂ ∙ getD-set-other r₁ (lastColumn + h) at (getD last h 0) 0 e₁
           ∙ getD-set-other r h at (getD first h 0) 0 e₀
 
       first-here : getD r₃ h 0 ≡ getD first h 0
       first-here =
-          getD-set-other r₂ (48 + h) h (getD turn h 0) 0 (λ e. omega arith) ∙ getD-set-other r₁ (24 + h) h (getD last h 0) 0 (λ e. omega arith)
+          getD-set-other r₂ (turnColumn + h) h (getD turn h 0) 0 (λ e. omega arith) ∙ getD-set-other r₁ (lastColumn + h) h (getD last h 0) 0 (λ e. omega arith)
           ∙ getD-set-same r h (getD first h 0) 0 (omega (arith, j .size))
 
-      last-here : getD r₃ (24 + h) 0 ≡ getD last h 0
+      last-here : getD r₃ (lastColumn + h) 0 ≡ getD last h 0
       last-here =
-          getD-set-other r₂ (48 + h) (24 + h) (getD turn h 0) 0 (λ e. omega arith)
-          ∙ getD-set-same r₁ (24 + h) (getD last h 0) 0 (omega (arith, size₁))
+          getD-set-other r₂ (turnColumn + h) (lastColumn + h) (getD turn h 0) 0 (λ e. omega arith)
+          ∙ getD-set-same r₁ (lastColumn + h) (getD last h 0) 0 (omega (arith, size₁))
 
-      turn-here : getD r₃ (48 + h) 0 ≡ getD turn h 0
-      turn-here = getD-set-same r₂ (48 + h) (getD turn h 0) 0 (omega (arith, size₂))
+      turn-here : getD r₃ (turnColumn + h) 0 ≡ getD turn h 0
+      turn-here = getD-set-same r₂ (turnColumn + h) (getD turn h 0) 0 (omega (arith, size₂))
 
   -- a column of the list is that column
-  column-is : (r column : List ℕ) (from : ℕ) → length r ≡ 72 → from ≤ 48 → length column ≡ 24 →
-      ((k : ℕ) → k < 24 → getD r (from + k) 0 ≡ getD column k 0) → take 24 (drop from r) ≡ column
+  column-is : (r column : List ℕ) (from : ℕ) → length r ≡ hourListSize → from ≤ turnColumn → length column ≡ dayHours →
+      ((k : ℕ) → k < dayHours → getD r (from + k) 0 ≡ getD column k 0) → take dayHours (drop from r) ≡ column
   column-is r column from size inside full is =
-      let e : length (take 24 (drop from r)) ≡ 24 = simp (length-take, length-drop) (omega arith) in
-      ext-getD 0 (take 24 (drop from r)) column (e ∙ sym full) (λ k a.
-      let b : k < 24 = omega arith in
-      getD-take 24 (drop from r) k 0 b ∙ getD-drop from r k 0 ∙ is k b)
+      let e : length (take dayHours (drop from r)) ≡ dayHours = simp (length-take, length-drop) (omega arith) in
+      ext-getD 0 (take dayHours (drop from r)) column (e ∙ sym full) (λ k a.
+      let b : k < dayHours = omega arith in
+      getD-take dayHours (drop from r) k 0 b ∙ getD-drop from r k 0 ∙ is k b)
 
-  pub joined-all : (h : ℕ) (r : List ℕ) → JoinedTo h r → 24 ≤ h → length first ≡ 24 → length last ≡ 24 → length turn ≡ 24 →
-      (firstOf r ≡ first) × (lastOf r ≡ last) × (turnOf r ≡ turn)
+  pub joined-all : (h : ℕ) (r : List ℕ) → JoinedTo h r → dayHours ≤ h → length first ≡ dayHours → length last ≡ dayHours → length turn ≡ dayHours →
+      (clearsFirst r ≡ first) × (clearsLast r ≡ last) × (gapsTurn r ≡ turn)
   joined-all h r j k f l t = (
     column-is r first 0 (j .size) (omega arith) f (λ i a. let z : 0 + i ≡ i = omega arith in rw z (j .firsts i (omega arith))),
-    column-is r last 24 (j .size) (omega arith) l (λ i a. j .lasts i (omega arith)),
-    column-is r turn 48 (j .size) (omega arith) t (λ i a. j .turns i (omega arith)),
+    column-is r last dayHours (j .size) (omega arith) l (λ i a. j .lasts i (omega arith)),
+    column-is r turn turnColumn (j .size) (omega arith) t (λ i a. j .turns i (omega arith)),
   )
 
 -- THE SIX COLUMNS COPIED into the whole list
 pub record WidenedTo (columns : List ℕ) (k : ℕ) (r : List ℕ) : Type 0 where
-  pub inside : k ≤ 192
-  pub size : length r ≡ 1024
+  pub inside : k ≤ aheadColumn
+  pub size : length r ≡ blockListSize
   pub same : (i : ℕ) → i < k → getD r i 0 ≡ getD columns i 0
   pub none : (i : ℕ) → k ≤ i → getD r i 0 ≡ 0
 
-pub widened-start : (columns : List ℕ) → WidenedTo columns 0 (replicate 1024 0)
-widened-start columns = record { inside = omega arith; size = refl; same = λ i a. absurd (omega arith); none = λ i a. zeros 1024 i }
+pub widened-start : (columns : List ℕ) → WidenedTo columns 0 (replicate blockListSize 0)
+widened-start columns = record { inside = omega arith; size = refl; same = λ i a. absurd (omega arith); none = λ i a. zeros blockListSize i }
 
-pub widened-next : (columns : List ℕ) (k : ℕ) (r : List ℕ) → WidenedTo columns k r → k < 192 → WidenedTo columns (k + 1) (set r k (getD columns k 0))
+pub widened-next : (columns : List ℕ) (k : ℕ) (r : List ℕ) → WidenedTo columns k r → k < aheadColumn → WidenedTo columns (k + 1) (set r k (getD columns k 0))
 widened-next columns k r w below = record {
   inside = omega arith;
   size = rw length-set (w .size);
@@ -127,34 +128,34 @@ widened-next columns k r w below = record {
   none = λ i a. getD-set-other r k i (getD columns k 0) 0 (λ e. omega arith) ∙ w .none i (omega arith);
 }
 
-pub widened-all : (columns : List ℕ) (k : ℕ) (r : List ℕ) → WidenedTo columns k r → 192 ≤ k → Widened columns r
+pub widened-all : (columns : List ℕ) (k : ℕ) (r : List ℕ) → WidenedTo columns k r → aheadColumn ≤ k → Widened columns r
 widened-all columns k r w all = record { size = w .size; same = λ i a. w .same i (omega arith); none = λ i a. w .none i (omega (arith, w .inside)) }
 
 -- THE ROWS, number after number
 module _ (blocks : List ℕ) where
   -- what stands at place k of the rows
   abbrev tradeAt : ℕ → ℕ
-  tradeAt k = when (holdsHour (hoursAt blocks (k / 24)) (suc (k % 24))) (quantityAt blocks (k / 24))
+  tradeAt k = when (holdsHour (hoursAt blocks (k / dayHours)) (suc (k % dayHours))) (quantityAt blocks (k / dayHours))
 
   pub record RowsDone (count k : ℕ) (r : List ℕ) : Type 0 where
-    pub inside : k ≤ 24 * count
-    pub size : length r ≡ 1024
-    pub same : (i : ℕ) → i < 256 → getD r i 0 ≡ getD blocks i 0
-    pub done : (i : ℕ) → i < k → getD r (256 + i) 0 ≡ tradeAt i
-    pub fits : (i : ℕ) → 256 ≤ i → getD r i 0 ≤ 50
+    pub inside : k ≤ dayHours * count
+    pub size : length r ≡ blockListSize
+    pub same : (i : ℕ) → i < blockRows → getD r i 0 ≡ getD blocks i 0
+    pub done : (i : ℕ) → i < k → getD r (blockRows + i) 0 ≡ tradeAt i
+    pub fits : (i : ℕ) → blockRows ≤ i → getD r i 0 ≤ mostQuantity
 
   -- it is at most 50, and comes of a bit
-  trade-is : (k : ℕ) → hoursAt blocks (k / 24) / 2 ^ (k % 24) % 2 * quantityAt blocks (k / 24) ≡ tradeAt k
+  trade-is : (k : ℕ) → hoursAt blocks (k / dayHours) / 2 ^ (k % dayHours) % 2 * quantityAt blocks (k / dayHours) ≡ tradeAt k
   trade-is k =
-      rw (hour-bit (hoursAt blocks (k / 24)) (k % 24)) (bit-times (hoursAt blocks (k / 24) / 2 ^ (k % 24)) (quantityAt blocks (k / 24)))
+      rw (hour-bit (hoursAt blocks (k / dayHours)) (k % dayHours)) (bit-times (hoursAt blocks (k / dayHours) / 2 ^ (k % dayHours)) (quantityAt blocks (k / dayHours)))
 
-  pub trade-small : (count k : ℕ) → RowsEmpty blocks → count ≤ 32 → k < 24 * count →
-      hoursAt blocks (k / 24) / 2 ^ (k % 24) % 2 * quantityAt blocks (k / 24) ≤ 50
+  pub trade-small : (count k : ℕ) → RowsEmpty blocks → count ≤ mostBlocks → k < dayHours * count →
+      hoursAt blocks (k / dayHours) / 2 ^ (k % dayHours) % 2 * quantityAt blocks (k / dayHours) ≤ mostQuantity
   trade-small count k empty few below =
-      let small = empty .small (k / 24) (omega arith) in
-      omega (arith, bit-times-le (hoursAt blocks (k / 24) / 2 ^ (k % 24)) (quantityAt blocks (k / 24)))
+      let small = empty .small (k / dayHours) (omega arith) in
+      omega (arith, bit-times-le (hoursAt blocks (k / dayHours) / 2 ^ (k % dayHours)) (quantityAt blocks (k / dayHours)))
 
-  pub rows-begun : (count : ℕ) → length blocks ≡ 1024 → RowsEmpty blocks → RowsDone count 0 blocks
+  pub rows-begun : (count : ℕ) → length blocks ≡ blockListSize → RowsEmpty blocks → RowsDone count 0 blocks
   rows-begun count size empty = record {
     inside = omega arith;
     size = size;
@@ -163,38 +164,38 @@ module _ (blocks : List ℕ) where
     fits = λ i a. omega (arith, empty .none i a);
   }
 
-  pub rows-more : (count k : ℕ) (r : List ℕ) → RowsDone count k r → RowsEmpty blocks → count ≤ 32 → k < 24 * count →
-      RowsDone count (k + 1) (set r (256 + k) (hoursAt blocks (k / 24) / 2 ^ (k % 24) % 2 * quantityAt blocks (k / 24)))
+  pub rows-more : (count k : ℕ) (r : List ℕ) → RowsDone count k r → RowsEmpty blocks → count ≤ mostBlocks → k < dayHours * count →
+      RowsDone count (k + 1) (set r (blockRows + k) (hoursAt blocks (k / dayHours) / 2 ^ (k % dayHours) % 2 * quantityAt blocks (k / dayHours)))
   rows-more count k r d empty few below = record {
     inside = omega arith;
     size = rw length-set (d .size);
-    same = λ i a. getD-set-other r (256 + k) i new 0 (λ e. omega arith) ∙ d .same i a;
-    done = λ i a. below-next (λ i. getD (set r (256 + k) new) (256 + i) 0 ≡ tradeAt i) k i
-        (λ b. getD-set-other r (256 + k) (256 + i) new 0 (λ e. omega arith) ∙ d .done i b) (here ∙ trade-is k) (rw add-one at a);
-    fits = λ i a. elim (decLe i (256 + k)) [
-      | yes x ↦ elim (decLe (256 + k) i) [
-        | yes y ↦ let e : i ≡ 256 + k = omega arith in rw (e, here) (trade-small count k empty few below)
-        | no y ↦ let z : i < 256 + k = lt-of-not-le y in rw (getD-set-other r (256 + k) i new 0 (λ e. omega arith)) (d .fits i a)
+    same = λ i a. getD-set-other r (blockRows + k) i new 0 (λ e. omega arith) ∙ d .same i a;
+    done = λ i a. below-next (λ i. getD (set r (blockRows + k) new) (blockRows + i) 0 ≡ tradeAt i) k i
+        (λ b. getD-set-other r (blockRows + k) (blockRows + i) new 0 (λ e. omega arith) ∙ d .done i b) (here ∙ trade-is k) (rw add-one at a);
+    fits = λ i a. elim (decLe i (blockRows + k)) [
+      | yes x ↦ elim (decLe (blockRows + k) i) [
+        | yes y ↦ let e : i ≡ blockRows + k = omega arith in rw (e, here) (trade-small count k empty few below)
+        | no y ↦ let z : i < blockRows + k = lt-of-not-le y in rw (getD-set-other r (blockRows + k) i new 0 (λ e. omega arith)) (d .fits i a)
       ]
-      | no x ↦ let z : 256 + k < i = lt-of-not-le x in rw (getD-set-other r (256 + k) i new 0 (λ e. omega arith)) (d .fits i a)
+      | no x ↦ let z : blockRows + k < i = lt-of-not-le x in rw (getD-set-other r (blockRows + k) i new 0 (λ e. omega arith)) (d .fits i a)
     ];
   }
     where
       new : ℕ
-      new = hoursAt blocks (k / 24) / 2 ^ (k % 24) % 2 * quantityAt blocks (k / 24)
+      new = hoursAt blocks (k / dayHours) / 2 ^ (k % dayHours) % 2 * quantityAt blocks (k / dayHours)
 
-      here : getD (set r (256 + k) new) (256 + k) 0 ≡ new
-      here = getD-set-same r (256 + k) new 0 (omega (arith, d .size))
+      here : getD (set r (blockRows + k) new) (blockRows + k) 0 ≡ new
+      here = getD-set-same r (blockRows + k) new 0 (omega (arith, d .size))
 
-  pub rows-whole : (count k : ℕ) (r : List ℕ) → RowsDone count k r → 24 * count ≤ k → RowsWritten count blocks r
+  pub rows-whole : (count k : ℕ) (r : List ℕ) → RowsDone count k r → dayHours * count ≤ k → RowsWritten count blocks r
   rows-whole count k r d all = record {
     size = d .size;
     same = d .same;
     row = λ j h a from to.
-        let place : 256 + 24 * j + (h - 1) ≡ 256 + (24 * j + (h - 1)) = omega arith in
-        let block : (24 * j + (h - 1)) / 24 ≡ j = omega arith in
-        let hour : suc ((24 * j + (h - 1)) % 24) ≡ h = omega arith in
-        let t = d .done (24 * j + (h - 1)) (omega arith) in
+        let place : blockRows + dayHours * j + (h - 1) ≡ blockRows + (dayHours * j + (h - 1)) = omega arith in
+        let block : (dayHours * j + (h - 1)) / dayHours ≡ j = omega arith in
+        let hour : suc ((dayHours * j + (h - 1)) % dayHours) ≡ h = omega arith in
+        let t = d .done (dayHours * j + (h - 1)) (omega arith) in
         rw place (rw (block, hour) at t);
     fits = d .fits;
   }
@@ -243,14 +244,14 @@ twin-next blocks i j found next ahead twins better nearer so k are is e =
 module _ (blocks : List ℕ) where
   pub record TwinsTo (count i : ℕ) (r : List ℕ) : Type 0 where
     pub inside : i ≤ count
-    pub size : length r ≡ 1024
-    pub columns : (k : ℕ) → k < 192 → getD r k 0 ≡ getD blocks k 0
-    pub rows : (k : ℕ) → 256 ≤ k → getD r k 0 ≡ getD blocks k 0
+    pub size : length r ≡ blockListSize
+    pub columns : (k : ℕ) → k < aheadColumn → getD r k 0 ≡ getD blocks k 0
+    pub rows : (k : ℕ) → blockRows ≤ k → getD r k 0 ≡ getD blocks k 0
     pub ahead : (j : ℕ) → j < i → TwinOf blocks j true (aheadAt r j)
     pub behind : (j : ℕ) → j < i → TwinOf blocks j false (behindAt r j)
-    pub none : (j : ℕ) → i ≤ j → j < 32 → (aheadAt r j ≡ 0) × (behindAt r j ≡ 0)
+    pub none : (j : ℕ) → i ≤ j → j < mostBlocks → (aheadAt r j ≡ 0) × (behindAt r j ≡ 0)
 
-  pub twins-start : (count : ℕ) → length blocks ≡ 1024 → TwinsEmpty blocks → TwinsTo count 0 blocks
+  pub twins-start : (count : ℕ) → length blocks ≡ blockListSize → TwinsEmpty blocks → TwinsTo count 0 blocks
   twins-start count size empty = record {
     inside = omega arith;
     size = size;
@@ -258,44 +259,44 @@ module _ (blocks : List ℕ) where
     rows = λ k a. refl;
     ahead = λ j a. absurd (omega arith);
     behind = λ j a. absurd (omega arith);
-    none = λ j a b. (empty (192 + j) (omega arith) (omega arith), empty (224 + j) (omega arith) (omega arith));
+    none = λ j a b. (empty (aheadColumn + j) (omega arith) (omega arith), empty (behindColumn + j) (omega arith) (omega arith));
   }
 
-  pub twins-next : (count i : ℕ) (r : List ℕ) (a b : ℕ) → TwinsTo count i r → count ≤ 32 → i < count → TwinOf blocks i true a → TwinOf blocks i false b →
-      TwinsTo count (i + 1) (set (set r (192 + i) a) (224 + i) b)
+  pub twins-next : (count i : ℕ) (r : List ℕ) (a b : ℕ) → TwinsTo count i r → count ≤ mostBlocks → i < count → TwinOf blocks i true a → TwinOf blocks i false b →
+      TwinsTo count (i + 1) (set (set r (aheadColumn + i) a) (behindColumn + i) b)
   twins-next count i r a b t few below fa fb = record {
     inside = omega arith;
     size = rw length-set size₁;
     columns = λ k c. other k (λ e. omega arith) (λ e. omega arith) ∙ t .columns k c;
     rows = λ k c. other k (λ e. omega arith) (λ e. omega arith) ∙ t .rows k c;
     ahead = λ j c. below-next (λ j. TwinOf blocks j true (aheadAt r₂ j)) i j
-        (λ d. rw (other (192 + j) (λ e. omega arith) (λ e. omega arith)) (t .ahead j d)) (rw ahead-here fa) (rw add-one at c);
+        (λ d. rw (other (aheadColumn + j) (λ e. omega arith) (λ e. omega arith)) (t .ahead j d)) (rw ahead-here fa) (rw add-one at c);
     behind = λ j c. below-next (λ j. TwinOf blocks j false (behindAt r₂ j)) i j
-        (λ d. rw (other (224 + j) (λ e. omega arith) (λ e. omega arith)) (t .behind j d)) (rw behind-here fb) (rw add-one at c);
+        (λ d. rw (other (behindColumn + j) (λ e. omega arith) (λ e. omega arith)) (t .behind j d)) (rw behind-here fb) (rw add-one at c);
     none = λ j c d.
         let n = t .none j (omega arith) d in (
-          other (192 + j) (λ e. omega arith) (λ e. omega arith) ∙ n .0,
-          other (224 + j) (λ e. omega arith) (λ e. omega arith) ∙ n .1,
+          other (aheadColumn + j) (λ e. omega arith) (λ e. omega arith) ∙ n .0,
+          other (behindColumn + j) (λ e. omega arith) (λ e. omega arith) ∙ n .1,
         );
   }
     where
       r₁ : List ℕ
-      r₁ = set r (192 + i) a
+      r₁ = set r (aheadColumn + i) a
 
       r₂ : List ℕ
-      r₂ = set r₁ (224 + i) b
+      r₂ = set r₁ (behindColumn + i) b
 
-      size₁ : length r₁ ≡ 1024
-      size₁ = length-set r (192 + i) a ∙ t .size
+      size₁ : length r₁ ≡ blockListSize
+      size₁ = length-set r (aheadColumn + i) a ∙ t .size
 
-      other : (at : ℕ) → (at ≡ 192 + i → ⊥) → (at ≡ 224 + i → ⊥) → getD r₂ at 0 ≡ getD r at 0
-      other at e₀ e₁ = getD-set-other r₁ (224 + i) at b 0 e₁ ∙ getD-set-other r (192 + i) at a 0 e₀
+      other : (at : ℕ) → (at ≡ aheadColumn + i → ⊥) → (at ≡ behindColumn + i → ⊥) → getD r₂ at 0 ≡ getD r at 0
+      other at e₀ e₁ = getD-set-other r₁ (behindColumn + i) at b 0 e₁ ∙ getD-set-other r (aheadColumn + i) at a 0 e₀
 
       ahead-here : aheadAt r₂ i ≡ a
-      ahead-here = getD-set-other r₁ (224 + i) (192 + i) b 0 (λ e. omega arith) ∙ getD-set-same r (192 + i) a 0 (omega (arith, t .size))
+      ahead-here = getD-set-other r₁ (behindColumn + i) (aheadColumn + i) b 0 (λ e. omega arith) ∙ getD-set-same r (aheadColumn + i) a 0 (omega (arith, t .size))
 
       behind-here : behindAt r₂ i ≡ b
-      behind-here = getD-set-same r₁ (224 + i) b 0 (omega (arith, size₁))
+      behind-here = getD-set-same r₁ (behindColumn + i) b 0 (omega (arith, size₁))
 
   pub twins-all : (count i : ℕ) (r : List ℕ) → TwinsTo count i r → count ≤ i → TwinsWritten count blocks r
   twins-all count i r t all = record {
@@ -327,49 +328,49 @@ no-worse-false side limit other = at (sideFor side)
 -- THE WHOLE LIST: the columns, rows and twins of the first count blocks, all said of it alone
 pub record Completed (sides hours prices quantities root : List ℕ) (count : ℕ) (blocks : List ℕ) : Type 0 where
   pub columns : (j : ℕ) → j < count → Written sides hours prices quantities root blocks j
-  pub row : (j h : ℕ) → j < count → 1 ≤ h → h ≤ 24 → rowAt blocks j h ≡ when (holdsHour (hoursAt blocks j) h) (quantityAt blocks j)
+  pub row : (j h : ℕ) → j < count → 1 ≤ h → h ≤ dayHours → rowAt blocks j h ≡ when (holdsHour (hoursAt blocks j) h) (quantityAt blocks j)
   pub ahead : (j : ℕ) → j < count → TwinOf blocks j true (aheadAt blocks j)
   pub behind : (j : ℕ) → j < count → TwinOf blocks j false (behindAt blocks j)
 
 -- what is said of a list's six columns is said of one with the same six
-module _ (before blocks : List ℕ) (same : (k : ℕ) → k < 192 → getD blocks k 0 ≡ getD before k 0) where
-  written-carried : (sides hours prices quantities root : List ℕ) (j : ℕ) → j < 32 → Written sides hours prices quantities root before j →
+module _ (before blocks : List ℕ) (same : (k : ℕ) → k < aheadColumn → getD blocks k 0 ≡ getD before k 0) where
+  written-carried : (sides hours prices quantities root : List ℕ) (j : ℕ) → j < mostBlocks → Written sides hours prices quantities root before j →
       Written sides hours prices quantities root blocks j
   written-carried sides hours prices quantities root j k w = record {
     sideIs = same j (omega arith) ∙ w .sideIs;
-    hoursIs = same (32 + j) (omega arith) ∙ w .hoursIs;
-    quantityIs = same (64 + j) (omega arith) ∙ w .quantityIs;
-    limitIs = same (96 + j) (omega arith) ∙ w .limitIs;
-    againstIs = same (128 + j) (omega arith) ∙ w .againstIs;
-    gainIs = same (160 + j) (omega arith) ∙ w .gainIs;
+    hoursIs = same (hoursColumn + j) (omega arith) ∙ w .hoursIs;
+    quantityIs = same (quantityColumn + j) (omega arith) ∙ w .quantityIs;
+    limitIs = same (limitColumn + j) (omega arith) ∙ w .limitIs;
+    againstIs = same (againstColumn + j) (omega arith) ∙ w .againstIs;
+    gainIs = same (gainColumn + j) (omega arith) ∙ w .gainIs;
   }
 
-  twins-carried : (a b : ℕ) → a < 32 → b < 32 → TwinsAt before a b → TwinsAt blocks a b
+  twins-carried : (a b : ℕ) → a < mostBlocks → b < mostBlocks → TwinsAt before a b → TwinsAt blocks a b
   twins-carried a b i j t = record {
     sameSide = same a (omega arith) ∙ t .sameSide ∙ sym (same b (omega arith));
-    sameHours = same (32 + a) (omega arith) ∙ t .sameHours ∙ sym (same (32 + b) (omega arith));
-    sameQuantity = same (64 + a) (omega arith) ∙ t .sameQuantity ∙ sym (same (64 + b) (omega arith));
+    sameHours = same (hoursColumn + a) (omega arith) ∙ t .sameHours ∙ sym (same (hoursColumn + b) (omega arith));
+    sameQuantity = same (quantityColumn + a) (omega arith) ∙ t .sameQuantity ∙ sym (same (quantityColumn + b) (omega arith));
   }
 
-  twin-carried : (i : ℕ) (ahead : Bool) (found : ℕ) → i < 32 → TwinOf before i ahead found → TwinOf blocks i ahead found
+  twin-carried : (i : ℕ) (ahead : Bool) (found : ℕ) → i < mostBlocks → TwinOf before i ahead found → TwinOf blocks i ahead found
   twin-carried i ahead found k of a e =
       let t = of a e in
       let b = t .0 in (
         b,
         twins-carried a i (omega arith) k (t .1),
-        rw (same i (omega arith), same (96 + a) (omega arith), same (96 + i) (omega arith)) (t .2),
-        rw (same (64 + i) (omega arith)) (t .3),
+        rw (same i (omega arith), same (limitColumn + a) (omega arith), same (limitColumn + i) (omega arith)) (t .2),
+        rw (same (quantityColumn + i) (omega arith)) (t .3),
       )
 
 -- the number of an earlier twin fits
-twin-fits : (blocks : List ℕ) (i : ℕ) (ahead : Bool) (found : ℕ) → i < 32 → TwinOf blocks i ahead found → found ≤ 32
+twin-fits : (blocks : List ℕ) (i : ℕ) (ahead : Bool) (found : ℕ) → i < mostBlocks → TwinOf blocks i ahead found → found ≤ mostBlocks
 twin-fits blocks i ahead zero k of = omega arith
 twin-fits blocks i ahead (suc a) k of = omega (arith, of a refl .0)
 
 -- the list as it grows: the columns, wide; with its rows; with its twins
-module _ (count : ℕ) (columns wide traded blocks : List ℕ) (few : count ≤ 32) (widened : Widened columns wide) (rows : RowsWritten count wide traded)
+module _ (count : ℕ) (columns wide traded blocks : List ℕ) (few : count ≤ mostBlocks) (widened : Widened columns wide) (rows : RowsWritten count wide traded)
     (twins : TwinsWritten count traded blocks) where
-  same-columns : (k : ℕ) → k < 192 → getD blocks k 0 ≡ getD columns k 0
+  same-columns : (k : ℕ) → k < aheadColumn → getD blocks k 0 ≡ getD columns k 0
   same-columns k a = twins .columns k a ∙ rows .same k (omega arith) ∙ widened .same k a
 
   pub completed : (sides hours prices quantities root : List ℕ) → ((j : ℕ) → j < count → Written sides hours prices quantities root columns j) →
@@ -377,9 +378,9 @@ module _ (count : ℕ) (columns wide traded blocks : List ℕ) (few : count ≤ 
   completed sides hours prices quantities root w = record {
     columns = λ j k. written-carried columns blocks same-columns sides hours prices quantities root j (omega arith) (w j k);
     row = λ j h k from to.
-        let there = twins .rows (256 + 24 * j + (h - 1)) (omega arith) ∙ rows .row j h k from to in
-        let x : hoursAt blocks j ≡ hoursAt wide j = twins .columns (32 + j) (omega arith) ∙ rows .same (32 + j) (omega arith) in
-        let q : quantityAt blocks j ≡ quantityAt wide j = twins .columns (64 + j) (omega arith) ∙ rows .same (64 + j) (omega arith) in
+        let there = twins .rows (blockRows + dayHours * j + (h - 1)) (omega arith) ∙ rows .row j h k from to in
+        let x : hoursAt blocks j ≡ hoursAt wide j = twins .columns (hoursColumn + j) (omega arith) ∙ rows .same (hoursColumn + j) (omega arith) in
+        let q : quantityAt blocks j ≡ quantityAt wide j = twins .columns (quantityColumn + j) (omega arith) ∙ rows .same (quantityColumn + j) (omega arith) in
         rw (x, q) there;
     ahead = λ j k. twin-carried traded blocks (twins .columns) j true (aheadAt blocks j) (omega arith) (twins .ahead j k);
     behind = λ j k. twin-carried traded blocks (twins .columns) j false (behindAt blocks j) (omega arith) (twins .behind j k);
@@ -388,7 +389,7 @@ module _ (count : ℕ) (columns wide traded blocks : List ℕ) (few : count ≤ 
   pub blocks-sized : BlocksSized blocks
   blocks-sized = record {
     columns = twins .size;
-    rowsFit = λ i h. omega (arith, twins .rows (256 + 24 * i + (h - 1)) (omega arith), rows .fits (256 + 24 * i + (h - 1)) (omega arith));
+    rowsFit = λ i h. omega (arith, twins .rows (blockRows + dayHours * i + (h - 1)) (omega arith), rows .fits (blockRows + dayHours * i + (h - 1)) (omega arith));
     twinsFit = λ i k. elim (decLe count i) [
       | yes a ↦ let n = twins .none i a k in (omega (arith, n .0), omega (arith, n .1))
       | no a ↦
@@ -398,9 +399,9 @@ module _ (count : ℕ) (columns wide traded blocks : List ℕ) (few : count ≤ 
   }
 
 -- what each step is given by the one before
-pub rows-empty : (columns wide : List ℕ) → Widened columns wide → ((i : ℕ) → i < 32 → quantityAt columns i ≤ 50) → RowsEmpty wide
+pub rows-empty : (columns wide : List ℕ) → Widened columns wide → ((i : ℕ) → i < mostBlocks → quantityAt columns i ≤ mostQuantity) → RowsEmpty wide
 rows-empty columns wide w small =
-    record { small = λ i k. omega (arith, w .same (64 + i) (omega arith), small i k); none = λ k a. w .none k (omega arith) }
+    record { small = λ i k. omega (arith, w .same (quantityColumn + i) (omega arith), small i k); none = λ k a. w .none k (omega arith) }
 
 pub twins-empty : (columns wide traded : List ℕ) (count : ℕ) → Widened columns wide → RowsWritten count wide traded → TwinsEmpty traded
 twins-empty columns wide traded count w rows k a b = rows .same k b ∙ w .none k a

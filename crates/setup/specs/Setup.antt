@@ -15,6 +15,7 @@ use Rattle.tables.specs.Tables.{PriceTable, AllOf, ClearRange, GapTable}
 use Rattle.rules.specs.Orders.{maxPrice}
 use Rattle.search.specs.Layout.{dayHours, mostBlocks, mostQuantity, mostSteps, lastPlace, rowSize, hoursColumn, quantityColumn, limitColumn, againstColumn, gainColumn, aheadColumn, blockRows, blockListSize}
 use Rattle.search.specs.Search.{Small, FirstSmall, sideAt, hoursAt, quantityAt, limitAt, againstAt, gainAt, aheadAt, behindAt, rowAt, sumOfHours}
+use Rattle.search.specs.Tables.{Tables}
 use Rattle.search.specs.Meaning.{Known, Turning}
 
 -- WHAT SAFETY ASKS of the columns
@@ -41,48 +42,48 @@ pub record BlocksHeld (count : ℕ) (prices quantities : List ℕ) : Type 0 wher
   pub quantitiesFit : FirstSmall count mostQuantity quantities
 
 -- PARTS: the numbers of a column from a up to e; those of hour h + 1; and that hour's row of a table.
-abbrev pub between : ℕ → ℕ → List ℕ → List ℕ
-between a e column = take (e - a) (drop a column)
+abbrev pub fromTo : ℕ → ℕ → List ℕ → List ℕ
+fromTo a e column = take (e - a) (drop a column)
 
-abbrev pub partOf : List ℕ → ℕ → List ℕ → List ℕ
-partOf ends h column = between (getD ends h 0) (getD ends (h + 1) 0) column
+abbrev pub hourPart : List ℕ → ℕ → List ℕ → List ℕ
+hourPart ends h column = fromTo (getD ends h 0) (getD ends (h + 1) 0) column
 
-abbrev pub rowOf : List ℕ → ℕ → List ℕ
-rowOf table h = take rowSize (drop (h * rowSize) table)
+abbrev pub tableRow : List ℕ → ℕ → List ℕ
+tableRow table h = take rowSize (drop (h * rowSize) table)
 
 -- THE TABLES
 -- A row is the price table of the steps from a up to e.
 abbrev pub TableOf : (sides prices quantities : List ℕ) (a e off : ℕ) (row : List ℕ) → Type 0
-TableOf sides prices quantities a e off row = PriceTable (between a e sides) (between a e prices) (between a e quantities) off row
+TableOf sides prices quantities a e off row = PriceTable (fromTo a e sides) (fromTo a e prices) (fromTo a e quantities) off row
 
 -- The row of hour h + 1 is its price table.
-abbrev pub RowIs : (sides prices quantities ends off low : List ℕ) → ℕ → Type 0
-RowIs sides prices quantities ends off low h =
-    PriceTable (partOf ends h sides) (partOf ends h prices) (partOf ends h quantities) (getD off h 0) (rowOf low h)
+abbrev pub RowIs : (sides prices quantities ends off unitPrices : List ℕ) → ℕ → Type 0
+RowIs sides prices quantities ends off unitPrices h =
+    PriceTable (hourPart ends h sides) (hourPart ends h prices) (hourPart ends h quantities) (getD off h 0) (tableRow unitPrices h)
 
-abbrev pub RowsAre : (sides prices quantities ends off low : List ℕ) → Type 0
-RowsAre sides prices quantities ends off low = (h : ℕ) → h < dayHours → RowIs sides prices quantities ends off low h
+abbrev pub RowsAre : (sides prices quantities ends off unitPrices : List ℕ) → Type 0
+RowsAre sides prices quantities ends off unitPrices = (h : ℕ) → h < dayHours → RowIs sides prices quantities ends off unitPrices h
 
 -- The places at which an hour clears, of those up to most, and its gaps there at a price, the least at turn.
-pub record Ranged (sides prices quantities : List ℕ) (off most price first last turn : ℕ) (low gap : List ℕ) : Type 0 where
+pub record Ranged (sides prices quantities : List ℕ) (off most price first last turn : ℕ) (unitPrices gap : List ℕ) : Type 0 where
   pub bought : ℕ
   pub sold : ℕ
   pub all : AllOf sides prices quantities bought sold
   pub range : ClearRange bought sold off most first last
-  pub gaps : GapTable low price first last turn gap
+  pub gaps : GapTable unitPrices price first last turn gap
 
-abbrev pub RangedOf : (sides prices quantities : List ℕ) (a e off most price first last turn : ℕ) (low gap : List ℕ) → Type 0
-RangedOf sides prices quantities a e off most price first last turn low gap =
-    Ranged (between a e sides) (between a e prices) (between a e quantities) off most price first last turn low gap
+abbrev pub RangedOf : (sides prices quantities : List ℕ) (a e off most price first last turn : ℕ) (unitPrices gap : List ℕ) → Type 0
+RangedOf sides prices quantities a e off most price first last turn unitPrices gap =
+    Ranged (fromTo a e sides) (fromTo a e prices) (fromTo a e quantities) off most price first last turn unitPrices gap
 
-abbrev pub RangedAt : (sides prices quantities ends off most root low gap first last turn : List ℕ) → ℕ → Type 0
-RangedAt sides prices quantities ends off most root low gap first last turn h =
-    Ranged (partOf ends h sides) (partOf ends h prices) (partOf ends h quantities) (getD off h 0) (getD most h 0) (getD root h 0) (getD first h 0)
-    (getD last h 0) (getD turn h 0) (rowOf low h) (rowOf gap h)
+abbrev pub RangedAt : (sides prices quantities ends off most root unitPrices gap first last turn : List ℕ) → ℕ → Type 0
+RangedAt sides prices quantities ends off most root unitPrices gap first last turn h =
+    Ranged (hourPart ends h sides) (hourPart ends h prices) (hourPart ends h quantities) (getD off h 0) (getD most h 0) (getD root h 0) (getD first h 0)
+    (getD last h 0) (getD turn h 0) (tableRow unitPrices h) (tableRow gap h)
 
-abbrev pub RangesAre : (sides prices quantities ends off most root low gap first last turn : List ℕ) → Type 0
-RangesAre sides prices quantities ends off most root low gap first last turn =
-    (h : ℕ) → h < dayHours → RangedAt sides prices quantities ends off most root low gap first last turn h
+abbrev pub RangesAre : (sides prices quantities ends off most root unitPrices gap first last turn : List ℕ) → Type 0
+RangesAre sides prices quantities ends off most root unitPrices gap first last turn =
+    (h : ℕ) → h < dayHours → RangedAt sides prices quantities ends off most root unitPrices gap first last turn h
 
 -- THE BLOCKS
 -- The sum of a number of each of the first n places.
@@ -91,14 +92,14 @@ sumBelow zero f = 0
 sumBelow (suc n) f = sumBelow n f + f n
 
 -- What the buy blocks of the columns buy in hour h; where `all` is true, with what the sell blocks sell.
-abbrev pub tradedIn : (count : ℕ) (sides hours quantities : List ℕ) (all : Bool) (h : ℕ) → ℕ
-tradedIn count sides hours quantities all h =
+abbrev pub blocksTrade : (count : ℕ) (sides hours quantities : List ℕ) (all : Bool) (h : ℕ) → ℕ
+blocksTrade count sides hours quantities all h =
     sumBelow count (λ i. when (holdsHour (getD hours i 0) h) (bySide (sideFor (getD sides i 0)) (getD quantities i 0) (cond all (getD quantities i 0) 0)))
 
 -- A column has that sum for each hour; it is a place.
 pub record TradedBy (count : ℕ) (sides hours quantities : List ℕ) (all : Bool) (column : List ℕ) : Type 0 where
   pub small : Small lastPlace column
-  pub is : (h : ℕ) → 1 ≤ h → h ≤ dayHours → getD column (h - 1) 0 ≡ tradedIn count sides hours quantities all h
+  pub is : (h : ℕ) → 1 ≤ h → h ≤ dayHours → getD column (h - 1) 0 ≡ blocksTrade count sides hours quantities all h
 
 -- The columns with block i written.
 unfoldable pub written : (columns : List ℕ) (i side hours quantity limit sum : ℕ) → List ℕ
@@ -168,14 +169,13 @@ pub record TwinsWritten (count : ℕ) (before blocks : List ℕ) : Type 0 where
   pub none : (i : ℕ) → count ≤ i → i < mostBlocks → (aheadAt blocks i ≡ 0) × (behindAt blocks i ≡ 0)
 
 -- WHAT IS READY: the day of an accepted book behind the tables, at some prices.
-pub record Ready (b low gap first last turn columns : List ℕ) (count : ℕ) : Type 0 where
+pub record Ready (b : List ℕ) (t : Tables) : Type 0 where
   pub p : ℕ → ℕ
   pub rest : ℕ → ℕ
-  pub known : Known (dayFrom b) p rest low gap first last columns count
-  pub turning : Turning gap first last turn
+  pub known : Known (dayFrom b) p rest t
+  pub turning : Turning t
 
-abbrev pub ReadyFor : (sides prices quantities ends : List ℕ) (count : ℕ) (records blockSides hours blockPrices blockQuantities : List ℕ)
-    (low gap first last turn columns : List ℕ) → Type 0
-ReadyFor sides prices quantities ends count records blockSides hours blockPrices blockQuantities low gap first last turn columns =
+abbrev pub ReadyFor : (sides prices quantities ends : List ℕ) (records blockSides hours blockPrices blockQuantities : List ℕ) (t : Tables) → Type 0
+ReadyFor sides prices quantities ends records blockSides hours blockPrices blockQuantities t =
     (b stepRecords : List ℕ) → Accepted b → StepColumns b ends stepRecords sides prices quantities →
-    BlockColumns mostBlocks b count records blockSides hours blockPrices blockQuantities → Ready b low gap first last turn columns count
+    BlockColumns mostBlocks b (t .count) records blockSides hours blockPrices blockQuantities → Ready b t

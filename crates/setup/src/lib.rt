@@ -2,7 +2,7 @@
 ghost use mathlib.Core.Path.{_≡_};
 ghost use lib.ListN.{length};
 ghost use Rattle.search.specs.Layout.{tableSize};
-ghost use Rattle.search.specs.Search.{firstOf, lastOf, turnOf};
+ghost use Rattle.search.specs.Tables.{tablesOf};
 ghost use Rattle.search.specs.Meaning.{Sized};
 ghost use Rattle.setup.specs.Setup.{StepsHeld, BlocksHeld, ReadyFor};
 use crate::blocks::block_columns;
@@ -29,23 +29,23 @@ pub struct Prepared {
     pub columns: [u32; BLOCK_LIST],
 }
 
-// All that the search is given, from the columns of a book's steps and blocks; low and gap are its two tables, a row of places for each hour.
+// All that the search is given, from the columns of a book's steps and blocks; unit_prices and gap are its two tables, a row of places for each hour.
 pub fn prepare(
     sides: &[u8],
     prices: &[u32],
     quantities: &[u32],
     ends: [u16; HOURS + 1],
     blocks: Blocks,
-    low: &mut [u32],
+    unit_prices: &mut [u32],
     gap: &mut [u32],
 ) -> Prepared
     requires steps { ⌜ StepsHeld (now sides) (now prices) (now quantities) ends ⌝ }
     requires blocks { ⌜ BlocksHeld (blocks .count) (blocks .prices) (blocks .quantities) ⌝ }
-    requires tables { ⌜ (length (now low) ≡ tableSize) × (length (now gap) ≡ tableSize) ⌝ }
-    ensures sized { λ r. ⌜ Sized (now (low .exit)) (now (gap .exit)) (firstOf (r .hours)) (lastOf (r .hours)) (r .columns) ⌝ }
+    requires tables { ⌜ (length (now «unit_prices») ≡ tableSize) × (length (now gap) ≡ tableSize) ⌝ }
+    ensures sized { λ r. ⌜ Sized (tablesOf (now («unit_prices» .exit)) (now (gap .exit)) (r .hours) (r .columns) (blocks .count)) ⌝ }
     ensures ready { λ r. ⌜ ReadyFor (now (sides .entry)) (now (prices .entry)) (now (quantities .entry)) ends
-        (blocks .count) (blocks .records) (blocks .sides) (blocks .hours) (blocks .prices) (blocks .quantities)
-        (now (low .exit)) (now (gap .exit)) (firstOf (r .hours)) (lastOf (r .hours)) (turnOf (r .hours)) (r .columns) ⌝ }
+        (blocks .records) (blocks .sides) (blocks .hours) (blocks .prices) (blocks .quantities)
+        (tablesOf (now («unit_prices» .exit)) (now (gap .exit)) (r .hours) (r .columns) (blocks .count)) ⌝ }
 {
     let count = blocks.count;
     let block_sides = blocks.sides;
@@ -54,9 +54,19 @@ pub fn prepare(
     let amounts = blocks.quantities;
     let off = traded_by_hour(count, block_sides, hours, amounts, false);
     let most = traded_by_hour(count, block_sides, hours, amounts, true);
-    fill_tables(sides, prices, quantities, ends, off, low);
-    let root = root_prices(low, off, count, block_sides, hours, limits, amounts);
-    let ranges = fill_ranges(sides, prices, quantities, ends, off, most, root, low, gap);
+    fill_tables(sides, prices, quantities, ends, off, unit_prices);
+    let root = root_prices(unit_prices, off, count, block_sides, hours, limits, amounts);
+    let ranges = fill_ranges(
+        sides,
+        prices,
+        quantities,
+        ends,
+        off,
+        most,
+        root,
+        unit_prices,
+        gap,
+    );
     let columns = block_columns(count, block_sides, hours, limits, amounts, root);
     let first = ranges.first;
     let last = ranges.last;

@@ -4,7 +4,7 @@ ghost use Prim.Native.Nat.{ℕ, _≤_, _<_};
 ghost use lib.ListN.{length, getD};
 ghost use Rattle.rules.specs.Orders.{maxPrice};
 ghost use Rattle.search.specs.Layout.{dayHours, lastPlace, rowSize, tableSize};
-ghost use Rattle.search.specs.Search.{Small, firstOf, lastOf, turnOf};
+ghost use Rattle.search.specs.Search.{Small, clearsFirst, clearsLast, gapsTurn};
 ghost use Rattle.setup.specs.Setup.{StepsHeld, PartHeld, TableOf, RowsAre, RangedOf, RangesAre};
 use search::layout::HOUR_LIST;
 use search::layout::HOURS;
@@ -53,10 +53,10 @@ pub fn fill_tables(
     quantities: &[u32],
     ends: [u16; HOURS + 1],
     off: [u32; HOURS],
-    low: &mut [u32],
+    unit_prices: &mut [u32],
 )
-    requires { ⌜ StepsHeld (now sides) (now prices) (now quantities) ends × Small lastPlace off × (length (now low) ≡ tableSize) ⌝ }
-    ensures { λ _. ⌜ RowsAre (now (sides .entry)) (now (prices .entry)) (now (quantities .entry)) ends off (now (low .exit)) ⌝ }
+    requires { ⌜ StepsHeld (now sides) (now prices) (now quantities) ends × Small lastPlace off × (length (now «unit_prices») ≡ tableSize) ⌝ }
+    ensures { λ _. ⌜ RowsAre (now (sides .entry)) (now (prices .entry)) (now (quantities .entry)) ends off (now («unit_prices» .exit)) ⌝ }
 {
     let mut h: usize = 0;
     while h < HOURS {
@@ -69,7 +69,7 @@ pub fn fill_tables(
             ends[h] as usize,
             ends[h + 1] as usize,
             off[h],
-            &mut low[from..to],
+            &mut unit_prices[from..to],
         );
         h += 1;
     }
@@ -114,15 +114,15 @@ pub fn fill_ranges(
     off: [u32; HOURS],
     most: [u32; HOURS],
     root: [u32; HOURS],
-    low: &[u32],
+    unit_prices: &[u32],
     gap: &mut [u32],
 ) -> Ranges
     requires held { ⌜ StepsHeld (now sides) (now prices) (now quantities) ends × Small lastPlace most × Small maxPrice root × (length (now gap) ≡ tableSize) ⌝ }
     requires within { ⌜ ((h : ℕ) → h < dayHours → getD off h 0 ≤ getD most h 0) ⌝ }
-    requires tables { ⌜ (length (now low) ≡ tableSize) × RowsAre (now sides) (now prices) (now quantities) ends off (now low) ⌝ }
+    requires tables { ⌜ (length (now «unit_prices») ≡ tableSize) × RowsAre (now sides) (now prices) (now quantities) ends off (now «unit_prices») ⌝ }
     ensures small { λ r. ⌜ (length (r .first) ≡ dayHours) × (length (r .last) ≡ dayHours) × (length (r .turn) ≡ dayHours) × Small lastPlace (r .last) ⌝ }
     ensures ranges { λ r. ⌜ RangesAre (now (sides .entry)) (now (prices .entry)) (now (quantities .entry)) ends off most root
-        (now (low .entry)) (now (gap .exit)) (r .first) (r .last) (r .turn) ⌝ }
+        (now («unit_prices» .entry)) (now (gap .exit)) (r .first) (r .last) (r .turn) ⌝ }
 {
     let mut first = [0; HOURS];
     let mut last = [0; HOURS];
@@ -140,7 +140,7 @@ pub fn fill_ranges(
             off[h],
             most[h],
             root[h],
-            &low[from..to],
+            &unit_prices[from..to],
             &mut gap[from..to],
         );
         first[h] = range.first as u32;
@@ -153,7 +153,7 @@ pub fn fill_ranges(
 
 // The hours' three columns in one list.
 pub fn joined(first: [u32; HOURS], last: [u32; HOURS], turn: [u32; HOURS]) -> [u32; HOUR_LIST]
-    ensures { λ r. ⌜ (firstOf r ≡ first) × (lastOf r ≡ last) × (turnOf r ≡ turn) ⌝ }
+    ensures { λ r. ⌜ (clearsFirst r ≡ first) × (clearsLast r ≡ last) × (gapsTurn r ≡ turn) ⌝ }
 {
     let mut r = [0; HOUR_LIST];
     let mut h: usize = 0;

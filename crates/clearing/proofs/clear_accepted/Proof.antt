@@ -119,7 +119,7 @@ find-requires : tie.Need-find-requires
 find-requires c κs =
     let m = prepared (c .before .before .before .before .before) in
     let f = stepped (blocked m) in
-    (m .prepare .ensures .0, search needs, size-ends f, steps-in f, blocked m .blocks-of .ensures .few)
+    (m .prepare .ensures .0, search needs, size-ends f, steps-in f)
 
 slice-aggregate-publish : tie.Need-slice-aggregate-publish
 slice-aggregate-publish c = sym (size-sides (stepped (blocked (prepared (found (c .before))))))

@@ -3,6 +3,7 @@ use Prim.Native.Nat.{_-_, _<_}
 use mathlib.Core.Path.{_≡_, refl}
 use native.Mathlib.Omega.{arith}
 use lib.ListN.{length, getD, length-set}
+use Rattle.search.specs.Layout.{mostBlocks, mostLimit}
 use Rattle.search.specs.Search.{Small}
 use Rattle.search.proofs.LeafLaws.{zeros}
 use Rattle.roots.proofs.SizeLaws.{limit-fits}
@@ -15,13 +16,13 @@ use Rattle.roots.proofs.limits_of.Lts as lts
 use Rattle.records.proofs.hour_count.Reads as hour-count-reads
 
 abbrev Inv-loop : tie.InvT-loop
-Inv-loop count hours prices limits₀ i₀ limits i = (length limits ≡ 32) × Small 7200000 limits
+Inv-loop count hours prices limits₀ i₀ limits i = (length limits ≡ mostBlocks) × Small mostLimit limits
 
 abbrev μ-loop : tie.MeasureT-loop
 μ-loop count hours prices limits₀ i₀ limits i = count - i
 
 loop-holds : tie.Need-loop-holds Inv-loop μ-loop
-loop-holds c = (refl, λ i. omega (arith, zeros 32 i))
+loop-holds c = (refl, λ i. omega (arith, zeros mostBlocks i))
 
 mul-limits : tie.Need-mul-limits Inv-loop μ-loop
 mul-limits c = search needs
@@ -64,7 +65,7 @@ loop-again c =
     let k = c .before .loop-test .taken in
     let inside : v .i < length (v .limits) = omega (arith, v .inv .0, k, s .pre .0) in
     let fits = limit-fits (getD (s .args .t3) (v .i) 0) (getD (s .args .t2) (v .i) 0) (s .pre .1 (v .i) k) in
-    (rw length-set (v .inv .0), set-small 7200000 (v .limits) (v .i) _ inside (rw (c .hour-count .ensures) fits) (v .inv .1))
+    (rw length-set (v .inv .0), set-small mostLimit (v .limits) (v .i) _ inside (rw (c .hour-count .ensures) fits) (v .inv .1))
 
 returns : tie.Need-returns Inv-loop μ-loop
 returns c = c .before .loop .inv .1

@@ -2,6 +2,8 @@
 use Prim.Native.Nat.{_-_, _*_, _≤_}
 use mathlib.Core.Logic.{⊎-elim}
 use native.Mathlib.Omega.{arith}
+use Rattle.search.specs.Layout.{lastPlace}
+use Rattle.rules.specs.Orders.{maxPrice}
 use Rattle.search.specs.Search.{Small}
 use borrow.Author.Needs.{needs}
 use Rattle.roots.proofs.root_prices.Statement.{statement}
@@ -14,10 +16,10 @@ use Rattle.roots.proofs.limits_of.Reads as limits-of-reads
 use Rattle.roots.proofs.moves.moved_on.Reads as moved-on-reads
 
 abbrev Inv-loop : tie.InvT-loop
-Inv-loop low off count sides hours quantities limits best₀ least₀ trail₀ n₀ best least trail n = (1 ≤ n) × (n ≤ 63) × Small 300000 best × Small 300000 (trail .prices) × Small (n * 1600) (trail .sum)
+Inv-loop unitPrices off count sides hours quantities limits best₀ least₀ trail₀ n₀ best least trail n = (1 ≤ n) × (n ≤ 63) × Small maxPrice best × Small maxPrice (trail .prices) × Small (n * lastPlace) (trail .sum)
 
 abbrev μ-loop : tie.MeasureT-loop
-μ-loop low off count sides hours quantities limits best₀ least₀ trail₀ n₀ best least trail n = 63 - n
+μ-loop unitPrices off count sides hours quantities limits best₀ least₀ trail₀ n₀ best least trail n = 63 - n
 
 limits-of-requires : tie.Need-limits-of-requires Inv-loop μ-loop
 limits-of-requires c κs =

@@ -56,7 +56,7 @@ explore-returns-2 t c =
     let none = c .before in
     let s = start t (none .before .before) in
     let e : s .args .count - s .args .left ≡ s .args .count = omega (arith, none .if2 .taken) in
-    explored-decided (none .if2 .taken) (rw e at (s .pre .1 .6 .setFits)) (c .decide .ensures)
+    explored-decided (none .if2 .taken) (rw e at (s .pre .1 .5 .setFits)) (c .decide .ensures)
 
 explore-sub-at : (t : ℕ) → explore-lts.Need-sub-at (claims-explore t) (explore-at t) explore.Post
 explore-sub-at t c = search needs
@@ -82,8 +82,8 @@ explore-explore-requires t c κs =
     let j = judged t l in
     let s = start t j in
     let k = l .before .before .if2 .left in
-    let e : s .args .count - s .args .left + 1 ≡ s .args .count - (s .args .left - 1) = omega (arith, s .pre .1 .5) in
-    (omega (arith, s .pre .0), (s .pre .1 .0, s .pre .1 .1, s .pre .1 .2, s .pre .1 .3, s .pre .1 .4, omega (arith, s .pre .1 .5), rw e at (l .leave .ensures .0)))
+    let e : s .args .count - s .args .left + 1 ≡ s .args .count - (s .args .left - 1) = omega (arith, s .pre .1 .4) in
+    (omega (arith, s .pre .0), (s .pre .1 .0, s .pre .1 .1, s .pre .1 .2, s .pre .1 .3, omega (arith, s .pre .1 .4), rw e at (l .leave .ensures .0)))
 
 explore-returns-3 : (t : ℕ) → explore-lts.Need-returns-3 (claims-explore t) (explore-at t) explore.Post
 explore-returns-3 t c =
@@ -93,7 +93,7 @@ explore-returns-3 t c =
     let s = start t j in
     let k = l .before .before .if2 .left in
     explored-judged (l .before .before .before .if1 .left) (j .judge .ensures)
-    (explored-left (omega arith) (s .pre .1 .5) (s .pre .1 .6 .setFits)
+    (explored-left (omega arith) (s .pre .1 .4) (s .pre .1 .5 .setFits)
     (rw (only .before .before .is-out .ensures, only .before .is-barred .ensures) at (only .if3 .taken)) (l .leave .ensures .1) (c .explore .ensures))
 
 explore-take-requires : (t : ℕ) → explore-lts.Need-take-requires (claims-explore t) (explore-at t) explore.Post
@@ -101,25 +101,25 @@ explore-take-requires t c κs =
     let l = left t c in
     let s = start t (judged t l) in
     let k = l .before .before .if2 .left in
-    (s .pre .1 .0 .blocksFit, omega (arith, s .pre .1 .4, s .pre .1 .5), s .pre .1 .6)
+    (s .pre .1 .0 .blocksFit, omega (arith, s .pre .1 .0 .few, s .pre .1 .4), s .pre .1 .5)
 
 explore-explore-requires-2 : (t : ℕ) → explore-lts.Need-explore-requires-2 (claims-explore t) (explore-at t) explore.Post
 explore-explore-requires-2 t c κs =
     let l = left t (c .before) in
     let s = start t (judged t l) in
     let k = l .before .before .if2 .left in
-    let e : s .args .count - s .args .left + 1 ≡ s .args .count - (s .args .left - 1) = omega (arith, s .pre .1 .5) in
-    (omega (arith, s .pre .0), (s .pre .1 .0, s .pre .1 .1, s .pre .1 .2, s .pre .1 .3, s .pre .1 .4, omega (arith, s .pre .1 .5), rw e at (c .take .ensures .0)))
+    let e : s .args .count - s .args .left + 1 ≡ s .args .count - (s .args .left - 1) = omega (arith, s .pre .1 .4) in
+    (omega (arith, s .pre .0), (s .pre .1 .0, s .pre .1 .1, s .pre .1 .2, s .pre .1 .3, omega (arith, s .pre .1 .4), rw e at (c .take .ensures .0)))
 
 explore-cast-is-due : (t : ℕ) → explore-lts.Need-cast-is-due (claims-explore t) (explore-at t) explore.Post
-explore-cast-is-due t c = omega (arith, start t (judged t (left t (c .before .before))) .pre .1 .4)
+explore-cast-is-due t c = omega (arith, start t (judged t (left t (c .before .before))) .pre .1 .0 .few)
 
 explore-is-due-requires : (t : ℕ) → explore-lts.Need-is-due-requires (claims-explore t) (explore-at t) explore.Post
 explore-is-due-requires t c κs =
     let l = left t (c .before .before) in
     let s = start t (judged t l) in
     let k = l .before .before .if2 .left in
-    (s .pre .1 .0 .blocksFit, omega (arith, s .pre .1 .4, s .pre .1 .5))
+    (s .pre .1 .0 .blocksFit, omega (arith, s .pre .1 .0 .few, s .pre .1 .4))
 
 explore-returns-4 : (t : ℕ) → explore-lts.Need-returns-4 (claims-explore t) (explore-at t) explore.Post
 explore-returns-4 t c =
@@ -129,7 +129,7 @@ explore-returns-4 t c =
     let s = start t j in
     let k = l .before .before .if2 .left in
     explored-judged (l .before .before .before .if1 .left) (j .judge .ensures)
-    (explored-taken (omega arith) (s .pre .1 .5) (s .pre .1 .6 .setFits)
+    (explored-taken (omega arith) (s .pre .1 .4) (s .pre .1 .5 .setFits)
     (sym (c .before .is-due .ensures) ∙ c .if4 .taken) (both .before .take .ensures .1) (both .explore2 .ensures))
 
 explore-explore-requires-3 : (t : ℕ) → explore-lts.Need-explore-requires-3 (claims-explore t) (explore-at t) explore.Post
@@ -138,8 +138,8 @@ explore-explore-requires-3 t c κs =
     let s = start t (judged t l) in
     let fits = l .leave .ensures .0 in
     let k = l .before .before .if2 .left in
-    let e : s .args .count - s .args .left + 1 ≡ s .args .count - (s .args .left - 1) = omega (arith, s .pre .1 .5) in
-    (omega (arith, s .pre .0), (s .pre .1 .0, s .pre .1 .1, s .pre .1 .2, s .pre .1 .3, s .pre .1 .4, omega (arith, s .pre .1 .5), rw e at fits))
+    let e : s .args .count - s .args .left + 1 ≡ s .args .count - (s .args .left - 1) = omega (arith, s .pre .1 .4) in
+    (omega (arith, s .pre .0), (s .pre .1 .0, s .pre .1 .1, s .pre .1 .2, s .pre .1 .3, omega (arith, s .pre .1 .4), rw e at fits))
 
 explore-returns-5 : (t : ℕ) → explore-lts.Need-returns-5 (claims-explore t) (explore-at t) explore.Post
 explore-returns-5 t c =
@@ -149,7 +149,7 @@ explore-returns-5 t c =
     let s = start t j in
     let k = l .before .before .if2 .left in
     explored-judged (l .before .before .before .if1 .left) (j .judge .ensures)
-    (explored-both (omega arith) (s .pre .1 .5) (s .pre .1 .6 .setFits)
+    (explored-both (omega arith) (s .pre .1 .4) (s .pre .1 .5 .setFits)
     (both .before .take .ensures .1) (l .leave .ensures .1) (both .explore2 .ensures) (c .explore3 .ensures))
 
 pub +explore-spec : {M : Type 1} → statement M

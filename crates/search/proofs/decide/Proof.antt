@@ -3,7 +3,8 @@ use mathlib.Core.Path.{_≡_, sym, _∙_}
 use lib.ListN.{length}
 use native.Mathlib.Omega.{arith}
 use borrow.Author.Tests.{not-true, not-false}
-use Rattle.search.specs.Search.{firstOf, lastOf}
+use Rattle.search.specs.Layout.{dayHours}
+use Rattle.search.specs.Search.{clearsFirst, clearsLast}
 use Rattle.search.proofs.LeafLaws.{places-small}
 use Rattle.search.proofs.BranchLaws.{decided-unclear, decided-worse, decided-broken, decided-better}
 use borrow.Author.Needs.{needs}
@@ -25,7 +26,7 @@ abbrev priced : tie.After-keeps-limits → tie.After-prices-at
 priced c = c .before .before .before
 
 -- an array of 24
-size : (s : tie.Start) → length (s .args .node .places) ≡ 24
+size : (s : tie.Start) → length (s .args .node .places) ≡ dayHours
 size s = search needs
 
 sub-gaps-at : tie.Need-sub-gaps-at
@@ -53,7 +54,7 @@ returns : tie.Need-returns
 returns c = decided-unclear (c .before .before .gaps-at .ensures) (not-true _ (c .if1 .taken))
 
 add-total : tie.Need-add-total
-add-total c = let g = gaps (c .before .before) in omega (arith, g .gaps-at .ensures .fits, start (g .before) .pre .5)
+add-total c = let g = gaps (c .before .before) in omega (arith, g .gaps-at .ensures .fits, start (g .before) .pre .4)
 
 returns-2 : tie.Need-returns-2
 returns-2 c =
@@ -64,9 +65,9 @@ prices-at-requires : tie.Need-prices-at-requires
 prices-at-requires c κs =
     let g = gaps (clear c) in
     let s = start (g .before) in (
-      s .pre .0 .lowRows,
-      s .pre .0 .lowFits,
-      places-small (firstOf (s .args .hours .now)) (lastOf (s .args .hours .now)) (s .args .node .places)
+      s .pre .0 .priceRows,
+      s .pre .0 .pricesFit,
+      places-small (clearsFirst (s .args .hours .now)) (clearsLast (s .args .hours .now)) (s .args .node .places)
           (g .gaps-at .ensures .inRange (not-false _ (clear c .if1 .left))) (s .pre .0 .lastFits) (size s),
     )
 
@@ -79,7 +80,7 @@ slice-aggregate-keeps-limits-2 c = search needs
 keeps-limits-requires : tie.Need-keeps-limits-requires
 keeps-limits-requires c κs =
     let s = start (gaps (clear (c .before .before .before)) .before) in
-    (s .pre .0 .blocksFit .columns, s .pre .4, search needs, search needs)
+    (s .pre .0 .blocksFit .columns, s .pre .0 .few, search needs, search needs)
 
 returns-3 : tie.Need-returns-3
 returns-3 c =
@@ -91,7 +92,7 @@ returns-3 c =
 set-trades-requires : tie.Need-set-trades-requires
 set-trades-requires c κs =
     let s = start (gaps (clear (priced (c .before) .before)) .before) in
-    (s .pre .0 .blocksFit, s .pre .4)
+    (s .pre .0 .blocksFit, s .pre .0 .few)
 
 traded-in-requires : tie.Need-traded-in-requires
 traded-in-requires c κs =

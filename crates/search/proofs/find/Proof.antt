@@ -1,17 +1,18 @@
 -- `search::find` meets its contract: a pass that finds a set has found the published one, and the last pass finds. Assumes nothing.
-use Prim.Native.Nat.{ℕ, _-_, _^_, _≤_, _<_}
+use Prim.Native.Nat.{ℕ, _-_, _*_, _^_, _≤_, _<_}
 use lib.ListN.{getD}
 use native.Mathlib.Omega.{arith}
+use Rattle.search.specs.Layout.{lastLimit}
 use Rattle.search.proofs.PassLaws.{root-fits, pass-is, pass-found}
 use borrow.Author.Needs.{needs}
 use Rattle.search.proofs.find.Statement.{statement}
 use Rattle.search.proofs.find.Tie as tie
 
 abbrev Inv-loop : tie.InvT-loop
-Inv-loop low gap hours blocks sides prices quantities ends count day root limit₀ limit = (1 ≤ limit) × (limit ≤ 1099511627776)
+Inv-loop low gap hours blocks sides prices quantities ends count day root limit₀ limit = (1 ≤ limit) × (limit ≤ (2 * lastLimit))
 
 abbrev μ-loop : tie.MeasureT-loop
-μ-loop low gap hours blocks sides prices quantities ends count day root limit₀ limit = 1099511627776 - limit
+μ-loop low gap hours blocks sides prices quantities ends count day root limit₀ limit = (2 * lastLimit) - limit
 
 -- the start behind the loop
 abbrev start : tie.At-loop Inv-loop μ-loop → tie.Start Inv-loop μ-loop
@@ -30,14 +31,14 @@ loop-holds c = (omega arith, omega arith)
 explore-requires : tie.Need-explore-requires Inv-loop μ-loop
 explore-requires c κs =
     let p = start (c .before) .pre in
-    (p .0, p .1, p .2, p .3, omega (arith, p .4), omega arith, root-fits _)
+    (p .0, p .1, p .2, p .3, omega arith, root-fits _)
 
 returns : tie.Need-returns Inv-loop μ-loop
 returns c =
     let found = c .before .before in
     let l = found .before .before in
     λ day p rest same known turning.
-    pass-is (start l .pre .4) (blocks-fit l) (gaps-fit l) known turning same (found .explore .ensures) (c .if1 .taken)
+    pass-is (start l .pre .0 .few) (blocks-fit l) (gaps-fit l) known turning same (found .explore .ensures) (c .if1 .taken)
 
 mul-limit : tie.Need-mul-limit Inv-loop μ-loop
 mul-limit c = search needs
@@ -51,14 +52,14 @@ loop-again c = (omega (arith, c .before .before .before .before .loop .inv), ome
 explore-requires-2 : tie.Need-explore-requires-2 Inv-loop μ-loop
 explore-requires-2 c κs =
     let p = start (c .before) .pre in
-    (p .0, p .1, p .2, p .3, omega (arith, p .4), omega arith, root-fits _)
+    (p .0, p .1, p .2, p .3, omega arith, root-fits _)
 
 returns-2 : tie.Need-returns-2 Inv-loop μ-loop
 returns-2 c =
     let l = c .before .before in
     λ day p rest same known turning.
-    pass-is (start l .pre .4) (blocks-fit l) (gaps-fit l) known turning same (c .explore2 .ensures)
-    (pass-found (start l .pre .4) (blocks-fit l) (gaps-fit l) known turning same (c .explore2 .ensures) (c .before .loop-test .left))
+    pass-is (start l .pre .0 .few) (blocks-fit l) (gaps-fit l) known turning same (c .explore2 .ensures)
+    (pass-found (start l .pre .0 .few) (blocks-fit l) (gaps-fit l) known turning same (c .explore2 .ensures) (c .before .loop-test .left))
 
 pub find-spec : {M : Type 1} → statement M
 find-spec =

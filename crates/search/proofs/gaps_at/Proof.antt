@@ -2,6 +2,7 @@
 use Prim.Native.Nat.{_+_, _-_, _*_}
 use lib.ListN.{getD}
 use native.Mathlib.Omega.{arith}
+use Rattle.search.specs.Layout.{dayHours, rowSize}
 use Rattle.search.proofs.LeafLaws.{GapsTo, gaps-start, gaps-next, place-fits, gaps-out, gaps-all}
 use borrow.Author.Needs.{needs}
 use Rattle.search.proofs.gaps_at.Statement.{statement}
@@ -11,7 +12,7 @@ abbrev Inv-loop : tie.InvT-loop
 Inv-loop gap first last places sum₀ h₀ sum h = GapsTo gap first last places h sum
 
 abbrev μ-loop : tie.MeasureT-loop
-μ-loop gap first last places sum₀ h₀ sum h = 24 - h
+μ-loop gap first last places sum₀ h₀ sum h = dayHours - h
 
 loop-holds : tie.Need-loop-holds Inv-loop μ-loop
 loop-holds c = gaps-start _ _ _ _
@@ -65,12 +66,12 @@ shared-slice-read-cell c =
     omega (arith, s .pre .0, place-fits (g .gap .now) (g .first .now) (g .last .now) (g .t4) (a .loop .h) (s .pre .3) (c .before .if1 .left))
 
 cast-sum : tie.Need-cast-sum Inv-loop μ-loop
-cast-sum c = omega (arith, c .shared-slice-known3 .given (c .before .before .before .before .before .loop .h * 1602 + getD (c .before .before .before .before .before .before .args .t4) (c .before .before .before .before .before .loop .h) 0))
+cast-sum c = omega (arith, c .shared-slice-known3 .given (c .before .before .before .before .before .loop .h * rowSize + getD (c .before .before .before .before .before .before .args .t4) (c .before .before .before .before .before .loop .h) 0))
 
 add-sum : tie.Need-add-sum Inv-loop μ-loop
 add-sum c =
     let a = c .before .before .before .before .before in
-    omega (arith, c .shared-slice-known3 .given (a .loop .h * 1602 + getD (a .before .args .t4) (a .loop .h) 0), a .loop .inv .fits, a .loop .inv .inside)
+    omega (arith, c .shared-slice-known3 .given (a .loop .h * rowSize + getD (a .before .args .t4) (a .loop .h) 0), a .loop .inv .fits, a .loop .inv .inside)
 
 add-h : tie.Need-add-h Inv-loop μ-loop
 add-h c = search needs
@@ -82,7 +83,7 @@ loop-again : tie.Need-loop-again Inv-loop μ-loop
 loop-again c =
     let a = c .before .before .before .before .before in
     gaps-next _ _ _ _ _ _ (a .loop .inv) (c .before .before .before .before .loop-test .taken) (c .before .if1 .left)
-    (omega (arith, c .shared-slice-known3 .given (a .loop .h * 1602 + getD (a .before .args .t4) (a .loop .h) 0)))
+    (omega (arith, c .shared-slice-known3 .given (a .loop .h * rowSize + getD (a .before .args .t4) (a .loop .h) 0)))
 
 returns-2 : tie.Need-returns-2 Inv-loop μ-loop
 returns-2 c = gaps-all _ _ _ _ _ _ (c .before .loop .inv) (c .loop-test .left)

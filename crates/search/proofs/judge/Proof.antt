@@ -3,7 +3,8 @@ use mathlib.Core.Path.{_≡_, sym, _∙_}
 use lib.ListN.{length, length-take, length-drop}
 use native.Mathlib.Omega.{arith}
 use borrow.Author.Tests.{not-true, not-false}
-use Rattle.search.specs.Search.{turnOf}
+use Rattle.search.specs.Layout.{dayHours}
+use Rattle.search.specs.Search.{gapsTurn}
 use Rattle.search.proofs.ReachLaws.{
   dropped-by-loss,
   dropped-unbalanced,
@@ -42,13 +43,13 @@ abbrev back : tie.After-prices-at2 → tie.Else3
 back c = balanced (bounded (c .before .before) .before)
 
 -- arrays of 24
-from-size : (f : tie.After-reach-at) → length (f .reach-at .result .from) ≡ 24
+from-size : (f : tie.After-reach-at) → length (f .reach-at .result .from) ≡ dayHours
 from-size f = search needs
 
-to-size : (f : tie.After-reach-at) → length (f .reach-at .result .to) ≡ 24
+to-size : (f : tie.After-reach-at) → length (f .reach-at .result .to) ≡ dayHours
 to-size f = search needs
 
-turn-size : (s : tie.Start) → length (turnOf (s .args .hours .now)) ≡ 24
+turn-size : (s : tie.Start) → length (gapsTurn (s .args .hours .now)) ≡ dayHours
 turn-size s = simp (length-take, length-drop) (omega (arith, s .pre .1))
 
 returns : tie.Need-returns
@@ -63,7 +64,7 @@ cast-at c = search needs
 is-forced-requires : tie.Need-is-forced-requires
 is-forced-requires c κs =
     let p = c .before .before .before .before .before .before .pre in
-    (p .0 .blocksFit, omega (arith, p .2), omega (arith, p .4 .lossFits, p .2))
+    (p .0 .blocksFit, omega (arith, p .0 .few), omega (arith, p .3 .lossFits, p .0 .few))
 
 returns-2 : tie.Need-returns-2
 returns-2 c = judged-as-it-was
@@ -71,7 +72,7 @@ returns-2 c = judged-as-it-was
 reach-at-requires : tie.Need-reach-at-requires
 reach-at-requires c κs =
     let p = start c .pre in
-    (p .0 .blocksFit, p .1, p .2, omega arith, omega (arith, p .4 .lossFits, p .2), p .4 .placesFit)
+    (p .0 .blocksFit, p .1, p .0 .few, omega arith, omega (arith, p .3 .lossFits, p .0 .few), p .3 .placesFit)
 
 returns-3 : tie.Need-returns-3
 returns-3 c =
@@ -96,7 +97,7 @@ least-gaps-requires c κs =
 add-if4 : tie.Need-add-if4
 add-if4 c =
     let p = start (reached (balanced (c .before .before)) .before) .pre in
-    omega (arith, c .before .least-gaps .ensures .1, p .4 .lossFits, p .2)
+    omega (arith, c .before .least-gaps .ensures .1, p .3 .lossFits, p .0 .few)
 
 returns-4 : tie.Need-returns-4
 returns-4 c =
@@ -109,13 +110,13 @@ prices-at-requires c κs =
     let b = balanced (bounded c .before) in
     let r = reached b in
     let p = start (r .before) .pre .0 in
-    (p .lowRows, p .lowFits, from-small (r .reach-at .ensures .reach) (p .lastFits) (not-false _ (b .if3 .left)) (from-size r))
+    (p .priceRows, p .pricesFit, from-small (r .reach-at .ensures .reach) (p .lastFits) (not-false _ (b .if3 .left)) (from-size r))
 
 prices-at-requires-2 : tie.Need-prices-at-requires-2
 prices-at-requires-2 c κs =
     let r = reached (balanced (bounded (c .before) .before)) in
     let p = start (r .before) .pre .0 in
-    (p .lowRows, p .lowFits, to-small (r .reach-at .ensures .reach) (p .lastFits) (to-size r))
+    (p .priceRows, p .pricesFit, to-small (r .reach-at .ensures .reach) (p .lastFits) (to-size r))
 
 slice-aggregate-keeps-limits : tie.Need-slice-aggregate-keeps-limits
 slice-aggregate-keeps-limits c = search needs
@@ -126,7 +127,7 @@ slice-aggregate-keeps-limits-2 c = search needs
 keeps-limits-requires : tie.Need-keeps-limits-requires
 keeps-limits-requires c κs =
     let p = start (reached (back (c .before .before)) .before) .pre in
-    (p .0 .blocksFit .columns, omega (arith, p .2), search needs, search needs)
+    (p .0 .blocksFit .columns, omega (arith, p .0 .few), search needs, search needs)
 
 returns-5 : tie.Need-returns-5
 returns-5 c =
@@ -146,7 +147,7 @@ slice-aggregate-ruled-out-2 c = search needs
 ruled-out-requires : tie.Need-ruled-out-requires
 ruled-out-requires c κs =
     let p = start (reached (back (priced (c .before .before .before))) .before) .pre in
-    (p .0 .blocksFit .columns, p .2, omega (arith, p .3), search needs, search needs)
+    (p .0 .blocksFit .columns, p .0 .few, omega (arith, p .2), search needs, search needs)
 
 returns-6 : tie.Need-returns-6
 returns-6 c =
@@ -155,7 +156,7 @@ returns-6 c =
     let r = reached b in
     let p = start (r .before) .pre in
     judged-open (r .reach-at .ensures .rest) (r .reach-at .ensures .reach) (prices .before .prices-at .ensures) (prices .prices-at2 .ensures)
-    (not-false _ (b .if3 .left)) (p .0 .lastFits) (p .3) (c .ruled-out .ensures)
+    (not-false _ (b .if3 .left)) (p .0 .lastFits) (p .2) (c .ruled-out .ensures)
 
 pub judge-spec : {M : Type 1} → statement M
 judge-spec =

@@ -3,6 +3,7 @@ use Prim.Native.Nat.{_≤_}
 use mathlib.Core.Path.{_≡_, refl, sym, _∙_}
 use native.Mathlib.Omega.{arith}
 use borrow.Author.Tests.{not-true, not-false}
+use Rattle.search.specs.Layout.{mostBlocks}
 use Rattle.search.specs.Search.{allKeep}
 use Rattle.search.proofs.LeafLaws.{keep-none, keep-fails, keep-passes, keep-skips}
 use borrow.Author.Needs.{needs}
@@ -10,7 +11,7 @@ use Rattle.search.proofs.keeps_limits.Statement.{statement}
 use Rattle.search.proofs.keeps_limits.Tie as tie
 
 abbrev Inv-loop : tie.InvT-loop
-Inv-loop blocks count set high low i₀ i = (i ≤ 32) × (allKeep blocks set high low count ≡ allKeep blocks set high low i)
+Inv-loop blocks count set high low i₀ i = (i ≤ mostBlocks) × (allKeep blocks set high low count ≡ allKeep blocks set high low i)
 
 abbrev μ-loop : tie.MeasureT-loop
 μ-loop blocks count set high low i₀ i = i

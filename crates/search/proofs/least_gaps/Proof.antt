@@ -2,6 +2,7 @@
 use Prim.Native.Nat.{_+_, _-_, _*_, _^_, _<_}
 use lib.ListN.{getD}
 use native.Mathlib.Omega.{arith}
+use Rattle.search.specs.Layout.{dayHours, rowSize}
 use Rattle.search.specs.Search.{larger}
 use Rattle.search.proofs.ReachLaws.{LeastTo, least-start, least-next, least-all, smaller-below}
 use borrow.Author.Needs.{needs}
@@ -12,12 +13,12 @@ abbrev Inv-loop : tie.InvT-loop
 Inv-loop gap turn from to sum₀ h₀ sum h = LeastTo gap turn from to h sum
 
 abbrev μ-loop : tie.MeasureT-loop
-μ-loop gap turn from to sum₀ h₀ sum h = 24 - h
+μ-loop gap turn from to sum₀ h₀ sum h = dayHours - h
 
 -- a number of the gap table
 gap-small : (c : tie.After-shared-slice-known4 Inv-loop μ-loop) →
-    getD (c .before .before .before .before .before .before .before .before .args .gap .now) (c .before .before .before .before .before .loop .h * 1602 + c .before .smaller .result) 0 < 2 ^ 32
-gap-small c = omega (arith, c .shared-slice-known4 .given (c .before .before .before .before .before .loop .h * 1602 + c .before .smaller .result))
+    getD (c .before .before .before .before .before .before .before .before .args .gap .now) (c .before .before .before .before .before .loop .h * rowSize + c .before .smaller .result) 0 < 2 ^ 32
+gap-small c = omega (arith, c .shared-slice-known4 .given (c .before .before .before .before .before .loop .h * rowSize + c .before .smaller .result))
 
 loop-holds : tie.Need-loop-holds Inv-loop μ-loop
 loop-holds c = least-start _ _ _ _

@@ -1,6 +1,7 @@
 -- `search::leave` meets its contract: the loss and the places of the node with the block left out. Assumes nothing.
 use Prim.Native.Nat.{_+_}
 use native.Mathlib.Omega.{arith}
+use Rattle.search.specs.Layout.{gainColumn}
 use Rattle.search.proofs.BranchLaws.{node-left}
 use borrow.Author.Needs.{needs}
 use Rattle.search.proofs.leave.Statement.{statement}
@@ -27,19 +28,19 @@ shared-slice-read-t9 : tie.Need-shared-slice-read-t9
 shared-slice-read-t9 c = search needs
 
 cast-t13 : tie.Need-cast-t13
-cast-t13 c = omega (arith, c .shared-slice-known3 .given (160 + c .before .before .before .before .before .args .at))
+cast-t13 c = omega (arith, c .shared-slice-known3 .given (gainColumn + c .before .before .before .before .before .args .at))
 
 add-t14 : tie.Need-add-t14
 add-t14 c =
     let a = c .before .before .before .before .before .before in
-    omega (arith, c .before .shared-slice-known3 .given (160 + a .args .at), a .pre .2 .lossFits, a .pre .1)
+    omega (arith, c .before .shared-slice-known3 .given (gainColumn + a .args .at), a .pre .2 .lossFits, a .pre .1)
 
 returns : tie.Need-returns
 returns c =
     let a = c .before .before .before .before .before .before in
     let m = c .before .before .moved-where .ensures in
     node-left _ _ _ _ (a .pre .0) (a .pre .2) (m .0)
-    (omega (arith, c .before .shared-slice-known3 .given (160 + a .args .at))) (m .1)
+    (omega (arith, c .before .shared-slice-known3 .given (gainColumn + a .args .at))) (m .1)
 
 pub leave-spec : {M : Type 1} → statement M
 leave-spec =

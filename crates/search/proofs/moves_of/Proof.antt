@@ -1,6 +1,7 @@
 -- `search::moves_of` meets its contract: it is the definition. Assumes nothing.
 use Prim.Native.Nat.{_+_}
 use native.Mathlib.Omega.{arith}
+use Rattle.search.specs.Layout.{againstColumn, gainColumn}
 use Rattle.search.proofs.ReachLaws.{moves-are}
 use borrow.Author.Needs.{needs}
 use Rattle.search.proofs.moves_of.Statement.{statement}
@@ -22,10 +23,10 @@ shared-slice-read-left-out : tie.Need-shared-slice-read-left-out
 shared-slice-read-left-out c = search needs
 
 cast-left-out : tie.Need-cast-left-out
-cast-left-out c = omega (arith, c .shared-slice-known2 .given (128 + c .before .before .args .i))
+cast-left-out c = omega (arith, c .shared-slice-known2 .given (againstColumn + c .before .before .args .i))
 
 add-left-out-2 : tie.Need-add-left-out-2
-add-left-out-2 c = omega (arith, c .shared-slice-known2 .given (128 + c .before .before .args .i), c .before .before .pre .2)
+add-left-out-2 c = omega (arith, c .shared-slice-known2 .given (againstColumn + c .before .before .args .i), c .before .before .pre .2)
 
 add-taken : tie.Need-add-taken
 add-taken c = search needs
@@ -37,10 +38,10 @@ shared-slice-read-taken : tie.Need-shared-slice-read-taken
 shared-slice-read-taken c = search needs
 
 cast-taken : tie.Need-cast-taken
-cast-taken c = omega (arith, c .shared-slice-known3 .given (160 + c .before .before .before .args .i))
+cast-taken c = omega (arith, c .shared-slice-known3 .given (gainColumn + c .before .before .before .args .i))
 
 add-taken-2 : tie.Need-add-taken-2
-add-taken-2 c = omega (arith, c .shared-slice-known3 .given (160 + c .before .before .before .args .i), c .before .before .before .pre .2)
+add-taken-2 c = omega (arith, c .shared-slice-known3 .given (gainColumn + c .before .before .before .args .i), c .before .before .before .pre .2)
 
 returns : tie.Need-returns
 returns c = moves-are _ _ _ _ _

@@ -2,6 +2,7 @@
 use Prim.Native.Nat.{_-_}
 use native.Mathlib.Omega.{arith}
 use lib.ListN.{getD}
+use Rattle.search.specs.Layout.{dayHours}
 use Rattle.search.proofs.HourColumnLaws.{bit-times-le, SummedTo, sum-start, sum-next, sum-all}
 use borrow.Author.Needs.{needs}
 use Rattle.search.proofs.price_sum.Statement.{statement}
@@ -11,7 +12,7 @@ abbrev Inv-loop : tie.InvT-loop
 Inv-loop prices hours sum₀ h₀ rest₀ sum h rest = SummedTo prices hours h rest sum
 
 abbrev μ-loop : tie.MeasureT-loop
-μ-loop prices hours sum₀ h₀ rest₀ sum h rest = 24 - h
+μ-loop prices hours sum₀ h₀ rest₀ sum h rest = dayHours - h
 
 loop-holds : tie.Need-loop-holds Inv-loop μ-loop
 loop-holds c = sum-start _ _

@@ -2,6 +2,7 @@
 use Prim.Native.Nat.{_+_, _-_, _*_}
 use lib.ListN.{getD}
 use native.Mathlib.Omega.{arith}
+use Rattle.search.specs.Layout.{dayHours, rowSize}
 use Rattle.search.proofs.LeafLaws.{PricesTo, prices-start, prices-next, prices-all}
 use borrow.Author.Needs.{needs}
 use Rattle.search.proofs.prices_at.Statement.{statement}
@@ -11,7 +12,7 @@ abbrev Inv-loop : tie.InvT-loop
 Inv-loop low places prices₀ h₀ prices h = PricesTo low places h prices
 
 abbrev μ-loop : tie.MeasureT-loop
-μ-loop low places prices₀ h₀ prices h = 24 - h
+μ-loop low places prices₀ h₀ prices h = dayHours - h
 
 loop-holds : tie.Need-loop-holds Inv-loop μ-loop
 loop-holds c = prices-start _ _
@@ -61,7 +62,7 @@ shared-slice-read-prices-2 c =
 add-prices-2 : tie.Need-add-prices-2 Inv-loop μ-loop
 add-prices-2 c =
     let a = c .before .before .before in
-    let at = a .loop .h * 1602 + getD (a .before .args .t2) (a .loop .h) 0 in
+    let at = a .loop .h * rowSize + getD (a .before .args .t2) (a .loop .h) 0 in
     omega (arith, a .before .pre .1 at, a .before .pre .1 (at + 1))
 
 mul-prices-3 : tie.Need-mul-prices-3 Inv-loop μ-loop

@@ -1,6 +1,7 @@
 -- `search::reach_of` meets its contract: the reach of the hours before this one. Assumes nothing.
 use Prim.Native.Nat.{_-_}
 use native.Mathlib.Omega.{arith}
+use Rattle.search.specs.Layout.{dayHours}
 use Rattle.search.proofs.ReachLaws.{ReachTo, reach-start, reach-next, reach-all}
 use borrow.Author.Needs.{needs}
 use Rattle.search.proofs.reach_of.Statement.{statement}
@@ -10,7 +11,7 @@ abbrev Inv-loop : tie.InvT-loop
 Inv-loop first last least free balances₀ from₀ to₀ h₀ balances from to h = ReachTo first last least free h balances from to
 
 abbrev μ-loop : tie.MeasureT-loop
-μ-loop first last least free balances₀ from₀ to₀ h₀ balances from to h = 24 - h
+μ-loop first last least free balances₀ from₀ to₀ h₀ balances from to h = dayHours - h
 
 loop-holds : tie.Need-loop-holds Inv-loop μ-loop
 loop-holds c = reach-start _ _ _ _

@@ -1,6 +1,7 @@
 -- `search::take` meets its contract: the set, the loss and the places of the node with the block taken. Assumes nothing.
 use Prim.Native.Nat.{_+_}
 use native.Mathlib.Omega.{arith}
+use Rattle.search.specs.Layout.{againstColumn}
 use Rattle.search.proofs.BranchLaws.{node-taken, set-room}
 use borrow.Author.Needs.{needs}
 use Rattle.search.proofs.take.Statement.{statement}
@@ -35,19 +36,19 @@ shared-slice-read-t14 : tie.Need-shared-slice-read-t14
 shared-slice-read-t14 c = search needs
 
 cast-t15 : tie.Need-cast-t15
-cast-t15 c = omega (arith, c .shared-slice-known3 .given (128 + c .before .before .before .before .before .before .before .args .at))
+cast-t15 c = omega (arith, c .shared-slice-known3 .given (againstColumn + c .before .before .before .before .before .before .before .args .at))
 
 add-t16 : tie.Need-add-t16
 add-t16 c =
     let a = c .before .before .before .before .before .before .before .before in
-    omega (arith, c .before .shared-slice-known3 .given (128 + a .args .at), a .pre .2 .lossFits, a .pre .1)
+    omega (arith, c .before .shared-slice-known3 .given (againstColumn + a .args .at), a .pre .2 .lossFits, a .pre .1)
 
 returns : tie.Need-returns
 returns c =
     let a = c .before .before .before .before .before .before .before .before in
     let m = c .before .before .before .before .moved-where .ensures in
     node-taken _ _ _ _ (a .pre .0) (a .pre .2) (m .0) _ (c .before .before .before .bit .ensures)
-    (omega (arith, c .before .shared-slice-known3 .given (128 + a .args .at))) (m .1)
+    (omega (arith, c .before .shared-slice-known3 .given (againstColumn + a .args .at))) (m .1)
 
 pub take-spec : {M : Type 1} → statement M
 take-spec =

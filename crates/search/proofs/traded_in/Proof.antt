@@ -1,6 +1,7 @@
 -- `search::traded_in` meets its contract: what is traded in the hours before h. Assumes nothing.
 use Prim.Native.Nat.{_+_, _-_}
 use native.Mathlib.Omega.{arith}
+use Rattle.search.specs.Layout.{dayHours}
 use Rattle.search.specs.Search.{stepsAt}
 use Rattle.search.proofs.StepLaws.{hour-part}
 use Rattle.search.proofs.TradedLaws.{TradedTo, traded-start, traded-next, traded-all, hour-of-columns}
@@ -15,7 +16,7 @@ abbrev Inv-loop : tie.InvT-loop
 Inv-loop sides prices quantities ends middles sales buys traded₀ h₀ traded h = TradedTo (stepsAt ends sides prices quantities) sales buys middles h traded
 
 abbrev μ-loop : tie.MeasureT-loop
-μ-loop sides prices quantities ends middles sales buys traded₀ h₀ traded h = 24 - h
+μ-loop sides prices quantities ends middles sales buys traded₀ h₀ traded h = dayHours - h
 
 loop-holds : tie.Need-loop-holds Inv-loop μ-loop
 loop-holds c = traded-start _ _ _ _

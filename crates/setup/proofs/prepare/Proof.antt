@@ -3,8 +3,10 @@ use Prim.Native.Nat.{ℕ}
 use mathlib.Core.List.{List}
 use mathlib.Core.Path.{_≡_, _∙_}
 use lib.ListN.{length}
+use Rattle.search.specs.Layout.{tableSize}
+use Rattle.rules.specs.Orders.{maxPrice}
 use Rattle.search.specs.Search.{Small}
-use Rattle.setup.proofs.SetupLaws.{low-small, set-up, ready}
+use Rattle.setup.proofs.SetupLaws.{prices-small, set-up, ready}
 use Rattle.setup.proofs.SetupTwinLaws.{completed, blocks-sized, rows-empty, twins-empty}
 use Rattle.setup.proofs.SetupBlockLaws.{bought-within}
 use borrow.Author.Needs.{needs}
@@ -18,16 +20,16 @@ opened t = t .before .before .before .before .before .before .before .before .be
 abbrev begun : tie.After-fill-tables → tie.Start
 begun f = f .before .before .before .before .before .before .before .before .before .before .before .before .before
 
-abbrev lowOf : tie.After-fill-tables → List ℕ
-lowOf f = f .fill-tables .last .1 .1 .1 .1 .1 .0
+abbrev unitPricesOf : tie.After-fill-tables → List ℕ
+unitPricesOf f = f .fill-tables .last .1 .1 .1 .1 .1 .0
 
-low-size : (f : tie.After-fill-tables) → length (lowOf f) ≡ 38448
-low-size f = f .fill-tables .kept .1 .1 .1 .1 .1 .0 ∙ begun f .pre .1 .1 .0
+prices-size : (f : tie.After-fill-tables) → length (unitPricesOf f) ≡ tableSize
+prices-size f = f .fill-tables .kept .1 .1 .1 .1 .1 .0 ∙ begun f .pre .1 .1 .0
 
-low-fits : (f : tie.After-fill-tables) → Small 300000 (lowOf f)
-low-fits f =
+prices-fit : (f : tie.After-fill-tables) → Small maxPrice (unitPricesOf f)
+prices-fit f =
     let a = begun f .args in
-    low-small (a .sides .now) (a .prices .now) (a .quantities .now) (a .ends) (f .before .before .before .traded-by-hour .result) (lowOf f) (low-size f) (f .fill-tables .ensures)
+    prices-small (a .sides .now) (a .prices .now) (a .quantities .now) (a .ends) (f .before .before .before .traded-by-hour .result) (unitPricesOf f) (prices-size f) (f .fill-tables .ensures)
 
 traded-by-hour-requires : tie.Need-traded-by-hour-requires
 traded-by-hour-requires c κs = search needs
@@ -44,7 +46,7 @@ root-prices-requires c κs =
     let after-traded-by-hour = f .before .before .before in
     let start = begun f in
     let held = start .pre .1 .0 in
-    ((low-size f, low-fits f, after-traded-by-hour .traded-by-hour .ensures .small), (held .few, held .pricesFit, held .quantitiesFit))
+    ((prices-size f, prices-fit f, after-traded-by-hour .traded-by-hour .ensures .small), (held .few, held .pricesFit, held .quantitiesFit))
 
 fill-ranges-requires : tie.Need-fill-ranges-requires
 fill-ranges-requires c κs =
@@ -55,7 +57,7 @@ fill-ranges-requires c κs =
     let bought = after-traded-by-hour .traded-by-hour .ensures in
     let traded = after-traded-by-hour2 .traded-by-hour2 .ensures in (
       (s .pre .0, traded .small, c .before .before .root-prices .ensures, s .pre .1 .1 .1),
-      (bought-within _ _ _ _ _ _ bought traded, (low-size f, f .fill-tables .ensures)),
+      (bought-within _ _ _ _ _ _ bought traded, (prices-size f, f .fill-tables .ensures)),
     )
 
 block-columns-requires : tie.Need-block-columns-requires
@@ -112,9 +114,9 @@ returns c =
     let gapSize = g .fill-ranges .kept .1 .1 .1 .1 .1 .1 .1 .1 .0 ∙ s .pre .1 .1 .1 in
     let t = g .fill-ranges .ensures .0 in
     rw (j .joined .ensures .0, j .joined .ensures .1, j .joined .ensures .2) (
-      set-up _ _ _ _ _ (low-size f) gapSize (t .0) (t .1) (t .3) (low-fits f) sized,
+      set-up _ (prices-size f) gapSize (t .0) (t .1) (t .3) (prices-fit f) sized few,
       ready _ _ _ _ _ _ _ _ _ _ (after-traded-by-hour .traded-by-hour .result) (after-traded-by-hour2 .traded-by-hour2 .result)
-          (after-root-prices .root-prices .result) (lowOf f) _ _ _ _ _ (low-size f) (after-traded-by-hour .traded-by-hour .ensures)
+          (after-root-prices .root-prices .result) (unitPricesOf f) _ _ _ _ _ (prices-size f) (after-traded-by-hour .traded-by-hour .ensures)
           (after-traded-by-hour2 .traded-by-hour2 .ensures) (f .fill-tables .ensures) (g .fill-ranges .ensures .1) all,
     )
 

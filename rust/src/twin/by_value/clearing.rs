@@ -8,6 +8,7 @@ use crate::twin::by_value::orders::steps_of;
 use crate::twin::by_value::records::record_count;
 use crate::twin::by_value::result::Clearing;
 use crate::twin::by_value::search::find;
+use crate::twin::by_value::search::layout::TABLE;
 use crate::twin::by_value::setup::prepare;
 
 mod publish; // the published set as the result
@@ -23,21 +24,21 @@ fn clear_accepted(book: &[u8], result: &mut [u8])
     let records = steps.records;
     let ends = steps.ends;
     let blocks = blocks_of(book);
-    let mut low = [0; 38448];
-    let mut gap = [0; 38448];
+    let mut unit_prices = [0; TABLE];
+    let mut gap = [0; TABLE];
     let prepared = prepare(
         &sides,
         &prices,
         &quantities,
         ends,
         blocks,
-        &mut low,
+        &mut unit_prices,
         &mut gap,
     );
     let hours = prepared.hours;
     let columns = prepared.columns;
     let best = find(
-        &low,
+        &unit_prices,
         &gap,
         &hours,
         &columns,

@@ -83,13 +83,13 @@ fn gaps_at(gap: &[u32], first: &[u32], last: &[u32], places: [u32; 24]) -> Gaps
 }
 
 // The price of each hour at its place.
-pub fn prices_at(low: &[u32], places: [u32; 24]) -> [u32; 24]
+pub fn prices_at(unit_prices: &[u32], places: [u32; 24]) -> [u32; 24]
 {
     let mut prices = [0; 24];
     let mut h: usize = 0;
     while h < 24 {
         let at = h * 1602 + (places[h] as usize);
-        prices[h] = (low[at] + low[at + 1]) / 2;
+        prices[h] = (unit_prices[at] + unit_prices[at + 1]) / 2;
         h += 1;
     }
     prices
@@ -228,7 +228,7 @@ fn traded_in(
 
 // All blocks are decided: the set becomes the best where it is lawful and loses less, with its day.
 fn decide(
-    low: &[u32],
+    unit_prices: &[u32],
     gap: &[u32],
     hours: &[u32],
     blocks: &[u32],
@@ -250,7 +250,7 @@ fn decide(
     if best.limit <= total {
         return best;
     }
-    let middles = prices_at(low, places);
+    let middles = prices_at(unit_prices, places);
     if !keeps_limits(blocks, count as usize, node.set, &middles, &middles) {
         return best;
     }
@@ -486,7 +486,7 @@ pub struct Judged {
 // longer balance, where the least gaps within reach come to as much, or where a taken block misses its limit at the best prices within reach. An undecided
 // block that misses its limit there is out.
 fn judge(
-    low: &[u32],
+    unit_prices: &[u32],
     gap: &[u32],
     hours: &[u32],
     blocks: &[u32],
@@ -520,8 +520,8 @@ fn judge(
     if limit <= node.loss + least_gaps(gap, &hours[48..72], from, to) {
         return drop;
     }
-    let high = prices_at(low, from);
-    let lowest = prices_at(low, to);
+    let high = prices_at(unit_prices, from);
+    let lowest = prices_at(unit_prices, to);
     if !keeps_limits(blocks, at, node.set, &high, &lowest) {
         return drop;
     }
@@ -554,7 +554,7 @@ fn is_due(blocks: &[u32], i: usize, set: u32) -> bool
 // Every way to decide the blocks that are left, each first taken and then left out; of twins, the one that is taken before the other first. A block that
 // is out is only left out. Each branch has its own node by value, so nothing is released.
 fn explore(
-    low: &[u32],
+    unit_prices: &[u32],
     gap: &[u32],
     hours: &[u32],
     blocks: &[u32],
@@ -571,14 +571,24 @@ fn explore(
 {
     crate::twin::count::node();
     let limit = best.limit;
-    let judged = judge(low, gap, hours, blocks, count, left, out, node, limit);
+    let judged = judge(
+        unit_prices,
+        gap,
+        hours,
+        blocks,
+        count,
+        left,
+        out,
+        node,
+        limit,
+    );
     if judged.dropped {
         crate::twin::count::cut();
         return best;
     }
     if left == 0 {
         return decide(
-            low,
+            unit_prices,
             gap,
             hours,
             blocks,
@@ -597,7 +607,7 @@ fn explore(
     let without = leave(blocks, at, node);
     if is_out(judged.out, 0) | is_barred(blocks, at as usize, node.set) {
         return explore(
-            low,
+            unit_prices,
             gap,
             hours,
             blocks,
@@ -614,7 +624,7 @@ fn explore(
     }
     let with = take(blocks, at, node);
     let taken = explore(
-        low,
+        unit_prices,
         gap,
         hours,
         blocks,
@@ -632,7 +642,7 @@ fn explore(
         return taken;
     }
     explore(
-        low,
+        unit_prices,
         gap,
         hours,
         blocks,
@@ -650,7 +660,7 @@ fn explore(
 
 // The published set: a pass with a small threshold first, doubled until a pass finds a set. A pass that finds one has found the published one.
 pub fn find(
-    low: &[u32],
+    unit_prices: &[u32],
     gap: &[u32],
     hours: &[u32],
     blocks: &[u32],
@@ -678,7 +688,7 @@ pub fn find(
             day: day,
         };
         let found = explore(
-            low,
+            unit_prices,
             gap,
             hours,
             blocks,
@@ -703,7 +713,7 @@ pub fn find(
         day: day,
     };
     explore(
-        low,
+        unit_prices,
         gap,
         hours,
         blocks,

@@ -25,14 +25,14 @@ pub struct Prepared {
     pub columns: [u32; BLOCK_LIST],
 }
 
-// All that the search is given, from the columns of a book's steps and blocks; low and gap are its two tables, a row of places for each hour.
+// All that the search is given, from the columns of a book's steps and blocks; unit_prices and gap are its two tables, a row of places for each hour.
 pub fn prepare(
     sides: &[u8],
     prices: &[u32],
     quantities: &[u32],
     ends: [u16; HOURS + 1],
     blocks: Blocks,
-    low: &mut [u32],
+    unit_prices: &mut [u32],
     gap: &mut [u32],
 ) -> Prepared
 {
@@ -43,9 +43,19 @@ pub fn prepare(
     let amounts = blocks.quantities;
     let off = traded_by_hour(count, block_sides, hours, amounts, false);
     let most = traded_by_hour(count, block_sides, hours, amounts, true);
-    fill_tables(sides, prices, quantities, ends, off, low);
-    let root = root_prices(low, off, count, block_sides, hours, limits, amounts);
-    let ranges = fill_ranges(sides, prices, quantities, ends, off, most, root, low, gap);
+    fill_tables(sides, prices, quantities, ends, off, unit_prices);
+    let root = root_prices(unit_prices, off, count, block_sides, hours, limits, amounts);
+    let ranges = fill_ranges(
+        sides,
+        prices,
+        quantities,
+        ends,
+        off,
+        most,
+        root,
+        unit_prices,
+        gap,
+    );
     let columns = block_columns(count, block_sides, hours, limits, amounts, root);
     let first = ranges.first;
     let last = ranges.last;

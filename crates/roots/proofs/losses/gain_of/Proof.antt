@@ -1,5 +1,6 @@
 -- `roots::gain_of` meets its contract: at most 50 times 7,200,000. Assumes nothing.
 use native.Mathlib.Omega.{arith}
+use Rattle.search.specs.Layout.{mostLimit}
 use Rattle.orders.specs.Columns.{sideFor}
 use Rattle.roots.proofs.SizeLaws.{side-le, product-fits}
 use borrow.Author.Needs.{needs}
@@ -23,7 +24,7 @@ mul-result : tie.Need-mul-result
 mul-result c =
     let s = c .before .before .before in
     let a = s .args in
-    let fits = side-le (sideFor (a .side)) (c .before .before .less .result) (c .before .less2 .result) 7200000
+    let fits = side-le (sideFor (a .side)) (c .before .before .less .result) (c .before .less2 .result) mostLimit
     (omega (arith, c .before .before .less .ensures, s .pre .1)) (omega (arith, c .before .less2 .ensures, s .pre .2)) in
     record { fits = omega (arith, product-fits (a .quantity) (c .by-side .result) (s .pre .0) (omega (arith, c .by-side .ensures, fits))) }
 
@@ -31,7 +32,7 @@ returns : tie.Need-returns
 returns c =
     let s = c .before .before .before in
     let a = s .args in
-    let fits = side-le (sideFor (a .side)) (c .before .before .less .result) (c .before .less2 .result) 7200000
+    let fits = side-le (sideFor (a .side)) (c .before .before .less .result) (c .before .less2 .result) mostLimit
     (omega (arith, c .before .before .less .ensures, s .pre .1)) (omega (arith, c .before .less2 .ensures, s .pre .2)) in
     product-fits (a .quantity) (c .by-side .result) (s .pre .0) (omega (arith, c .by-side .ensures, fits))
 

@@ -2,6 +2,7 @@
 use Prim.Native.Nat.{_-_, _*_, _≤_}
 use native.Mathlib.Omega.{arith}
 use borrow.Author.Needs.{needs}
+use Rattle.search.specs.Layout.{mostLimit, mostQuantity}
 use Rattle.roots.proofs.losses.gains_at.Statement.{statement}
 use Rattle.roots.proofs.losses.gains_at.Tie as tie
 use Rattle.roots.proofs.losses.gains_at.Reads as reads
@@ -10,7 +11,7 @@ use Rattle.search.proofs.price_sum.Reads as price-sum-reads
 use Rattle.roots.proofs.losses.gain_of.Reads as gain-of-reads
 
 abbrev Inv-loop : tie.InvT-loop
-Inv-loop count sides hours limits quantities root gains₀ i₀ gains i = (i ≤ count) × (gains ≤ i * 360000000)
+Inv-loop count sides hours limits quantities root gains₀ i₀ gains i = (i ≤ count) × (gains ≤ i * (mostQuantity * mostLimit))
 
 abbrev μ-loop : tie.MeasureT-loop
 μ-loop count sides hours limits quantities root gains₀ i₀ gains i = count - i

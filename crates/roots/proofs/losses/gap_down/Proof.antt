@@ -2,16 +2,18 @@
 use Prim.Native.Nat.{_+_, _*_, _≤_}
 use native.Mathlib.Omega.{arith}
 use borrow.Author.Needs.{needs}
+use Rattle.search.specs.Layout.{lastPlace, rowSize}
+use Rattle.rules.specs.Orders.{maxPrice}
 use Rattle.roots.proofs.losses.gap_down.Statement.{statement}
 use Rattle.roots.proofs.losses.gap_down.Tie as tie
 use Rattle.roots.proofs.losses.gap_down.Reads as reads
 use Rattle.roots.proofs.losses.gap_down.Lts as lts
 
 abbrev Inv-loop : tie.InvT-loop
-Inv-loop low row from price sum₀ i₀ sum i = (i ≤ 1600) × (sum + i * 300000 ≤ 1602 * 300000)
+Inv-loop unitPrices row from price sum₀ i₀ sum i = (i ≤ lastPlace) × (sum + i * maxPrice ≤ rowSize * maxPrice)
 
 abbrev μ-loop : tie.MeasureT-loop
-μ-loop low row from price sum₀ i₀ sum i = i
+μ-loop unitPrices row from price sum₀ i₀ sum i = i
 
 loop-holds : tie.Need-loop-holds Inv-loop μ-loop
 loop-holds c = (c .pre .2, omega (arith, c .pre .2))

@@ -2,16 +2,18 @@
 use Prim.Native.Nat.{_+_, _-_, _*_, _≤_}
 use native.Mathlib.Omega.{arith}
 use borrow.Author.Needs.{needs}
+use Rattle.search.specs.Layout.{rowSize}
+use Rattle.rules.specs.Orders.{maxPrice}
 use Rattle.roots.proofs.losses.gap_up.Statement.{statement}
 use Rattle.roots.proofs.losses.gap_up.Tie as tie
 use Rattle.roots.proofs.losses.gap_up.Reads as reads
 use Rattle.roots.proofs.losses.gap_up.Lts as lts
 
 abbrev Inv-loop : tie.InvT-loop
-Inv-loop low row from price sum₀ i₀ sum i = (i ≤ 1602) × (sum ≤ i * 300000)
+Inv-loop unitPrices row from price sum₀ i₀ sum i = (i ≤ rowSize) × (sum ≤ i * maxPrice)
 
 abbrev μ-loop : tie.MeasureT-loop
-μ-loop low row from price sum₀ i₀ sum i = 1602 - i
+μ-loop unitPrices row from price sum₀ i₀ sum i = rowSize - i
 
 add-i : tie.Need-add-i Inv-loop μ-loop
 add-i c = search needs

@@ -2,6 +2,8 @@
 use Prim.Native.Nat.{_-_, _*_, _≤_}
 use native.Mathlib.Omega.{arith}
 use borrow.Author.Needs.{needs}
+use Rattle.search.specs.Layout.{dayHours, rowSize}
+use Rattle.rules.specs.Orders.{maxPrice}
 use Rattle.roots.proofs.losses.gaps_from.Statement.{statement}
 use Rattle.roots.proofs.losses.gaps_from.Tie as tie
 use Rattle.roots.proofs.losses.gaps_from.Reads as reads
@@ -10,10 +12,10 @@ use Rattle.roots.proofs.losses.gap_down.Reads as gap-down-reads
 use Rattle.roots.proofs.losses.gap_up.Reads as gap-up-reads
 
 abbrev Inv-loop : tie.InvT-loop
-Inv-loop low off prices sum₀ h₀ sum h = (h ≤ 24) × (sum ≤ h * 961200000)
+Inv-loop unitPrices off prices sum₀ h₀ sum h = (h ≤ dayHours) × (sum ≤ h * (2 * (rowSize * maxPrice)))
 
 abbrev μ-loop : tie.MeasureT-loop
-μ-loop low off prices sum₀ h₀ sum h = 24 - h
+μ-loop unitPrices off prices sum₀ h₀ sum h = dayHours - h
 
 loop-holds : tie.Need-loop-holds Inv-loop μ-loop
 loop-holds c = (omega arith, omega arith)

@@ -3,6 +3,7 @@ use Prim.Native.Nat.{ℕ, _+_, _-_, _*_, _≤_}
 use native.Mathlib.Omega.{arith}
 use lib.ListN.{getD}
 use lib.Dec.{leb}
+use Rattle.search.specs.Layout.{mostQuantity}
 use Rattle.roots.proofs.SizeLaws.{chosen-le, moved-most}
 use borrow.Author.Needs.{needs}
 use Rattle.roots.proofs.moves.added_places.Statement.{statement}
@@ -14,7 +15,7 @@ use Rattle.search.proofs.price_sum.Reads as price-sum-reads
 use Rattle.roots.proofs.numbers.choose.Reads as choose-reads
 
 abbrev Inv-loop : tie.InvT-loop
-Inv-loop count hours limits quantities root places₀ i₀ places i = (i ≤ count) × ((j : ℕ) → getD places j 0 ≤ getD places₀ j 0 + i * 50)
+Inv-loop count hours limits quantities root places₀ i₀ places i = (i ≤ count) × ((j : ℕ) → getD places j 0 ≤ getD places₀ j 0 + i * mostQuantity)
 
 abbrev μ-loop : tie.MeasureT-loop
 μ-loop count hours limits quantities root places₀ i₀ places i = count - i
@@ -60,7 +61,7 @@ moved-requires c κs =
     let v = c .before .before .before .before .loop in
     let s = c .before .before .before .before .before in
     let few = s .pre .0 .1 (v .i) (c .before .before .before .loop-test .taken) in
-    let fits : c .choose .result ≤ 50 = rw (c .choose .ensures) (chosen-le (leb (getD (s .args .t4) (v .i) 0) (c .before .price-sum .result)) _ 50 few) in
+    let fits : c .choose .result ≤ mostQuantity = rw (c .choose .ensures) (chosen-le (leb (getD (s .args .t4) (v .i) 0) (c .before .price-sum .result)) _ mostQuantity few) in
     (λ j. omega (arith, v .inv .1 j, v .inv .0, s .pre .0 .0, s .pre .1 .0 j), omega (arith, fits))
 
 add-i : tie.Need-add-i Inv-loop μ-loop
@@ -75,7 +76,7 @@ loop-again c =
     let v = o .before .before .before .before .loop in
     let s = o .before .before .before .before .before in
     let k = o .before .before .before .loop-test .taken in
-    let fits : o .choose .result ≤ 50 = rw (o .choose .ensures) (chosen-le (leb (getD (s .args .t4) (v .i) 0) (o .before .price-sum .result)) _ 50 (s .pre .0 .1 (v .i) k)) in
+    let fits : o .choose .result ≤ mostQuantity = rw (o .choose .ensures) (chosen-le (leb (getD (s .args .t4) (v .i) 0) (o .before .price-sum .result)) _ mostQuantity (s .pre .0 .1 (v .i) k)) in
     let m = moved-most _ _ (v .places) (c .moved .result) (c .moved .ensures .0) (c .moved .ensures .1) in
     (omega (arith, k), λ j. omega (arith, m j, fits, v .inv .1 j))
 

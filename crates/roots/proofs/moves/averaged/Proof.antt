@@ -4,6 +4,7 @@ use mathlib.Core.Path.{_≡_, refl}
 use native.Mathlib.Omega.{arith}
 use native.Mathlib.Nat.{div-le-of-le-mul}
 use lib.ListN.{length, length-set}
+use Rattle.search.specs.Layout.{dayHours, lastPlace}
 use Rattle.search.specs.Search.{Small}
 use Rattle.search.proofs.LeafLaws.{zeros}
 use Rattle.roots.proofs.SizeLaws.{set-small}
@@ -14,13 +15,13 @@ use Rattle.roots.proofs.moves.averaged.Reads as reads
 use Rattle.roots.proofs.moves.averaged.Lts as lts
 
 abbrev Inv-loop : tie.InvT-loop
-Inv-loop n sum r₀ h₀ r h = (length r ≡ 24) × Small 1600 r
+Inv-loop n sum r₀ h₀ r h = (length r ≡ dayHours) × Small lastPlace r
 
 abbrev μ-loop : tie.MeasureT-loop
-μ-loop n sum r₀ h₀ r h = 24 - h
+μ-loop n sum r₀ h₀ r h = dayHours - h
 
 loop-holds : tie.Need-loop-holds Inv-loop μ-loop
-loop-holds c = (refl, λ i. omega (arith, zeros 24 i))
+loop-holds c = (refl, λ i. omega (arith, zeros dayHours i))
 
 mul-r : tie.Need-mul-r Inv-loop μ-loop
 mul-r c = search needs
@@ -48,7 +49,7 @@ loop-again c =
     let v = c .before .loop in
     let s = c .before .before in
     let k : v .h < length (v .r) = omega (arith, v .inv .0, c .loop-test .taken) in
-    (rw length-set (v .inv .0), set-small 1600 (v .r) (v .h) _ k (div-le-of-le-mul (s .args .n) (s .pre .1 (v .h))) (v .inv .1))
+    (rw length-set (v .inv .0), set-small lastPlace (v .r) (v .h) _ k (div-le-of-le-mul (s .args .n) (s .pre .1 (v .h))) (v .inv .1))
 
 returns : tie.Need-returns Inv-loop μ-loop
 returns c = c .before .loop .inv .1

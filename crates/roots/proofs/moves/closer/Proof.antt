@@ -3,6 +3,8 @@ use Prim.Native.Nat.{_-_, _<_}
 use mathlib.Core.Path.{_≡_, refl}
 use native.Mathlib.Omega.{arith}
 use lib.ListN.{length, length-set}
+use Rattle.search.specs.Layout.{dayHours}
+use Rattle.rules.specs.Orders.{maxPrice}
 use Rattle.search.specs.Search.{Small}
 use Rattle.search.proofs.LeafLaws.{zeros}
 use Rattle.roots.proofs.SizeLaws.{set-small}
@@ -14,13 +16,13 @@ use Rattle.roots.proofs.moves.closer.Lts as lts
 use Rattle.roots.proofs.moves.nearer.Reads as nearer-reads
 
 abbrev Inv-loop : tie.InvT-loop
-Inv-loop a b r₀ h₀ r h = (length r ≡ 24) × Small 300000 r
+Inv-loop a b r₀ h₀ r h = (length r ≡ dayHours) × Small maxPrice r
 
 abbrev μ-loop : tie.MeasureT-loop
-μ-loop a b r₀ h₀ r h = 24 - h
+μ-loop a b r₀ h₀ r h = dayHours - h
 
 loop-holds : tie.Need-loop-holds Inv-loop μ-loop
-loop-holds c = (refl, λ i. omega (arith, zeros 24 i))
+loop-holds c = (refl, λ i. omega (arith, zeros dayHours i))
 
 mul-nearer : tie.Need-mul-nearer Inv-loop μ-loop
 mul-nearer c = search needs
@@ -56,7 +58,7 @@ loop-again : tie.Need-loop-again Inv-loop μ-loop
 loop-again c =
     let v = c .before .before .loop in
     let k : v .h < length (v .r) = omega (arith, v .inv .0, c .before .loop-test .taken) in
-    (rw length-set (v .inv .0), set-small 300000 (v .r) (v .h) _ k (c .nearer .ensures) (v .inv .1))
+    (rw length-set (v .inv .0), set-small maxPrice (v .r) (v .h) _ k (c .nearer .ensures) (v .inv .1))
 
 returns : tie.Need-returns Inv-loop μ-loop
 returns c = c .before .loop .inv .1

@@ -1,6 +1,8 @@
 -- `roots::moved_on` meets its contract: each move ends at prices again, and the places so far add up to at most 1,600 for each. Assumes nothing.
 use Prim.Native.Nat.{_+_, _-_, _*_, _≤_}
 use native.Mathlib.Omega.{arith}
+use Rattle.search.specs.Layout.{lastPlace}
+use Rattle.rules.specs.Orders.{maxPrice}
 use Rattle.search.specs.Search.{Small}
 use borrow.Author.Needs.{needs}
 use Rattle.roots.proofs.moves.moved_on.Statement.{statement}
@@ -13,10 +15,10 @@ use Rattle.roots.proofs.moves.averaged.Reads as averaged-reads
 use Rattle.roots.proofs.moves.closer.Reads as closer-reads
 
 abbrev Inv-loop : tie.InvT-loop
-Inv-loop low count hours limits quantities n root₀ sum₀ k₀ root sum k = (1 ≤ k) × (k ≤ n + 7) × Small 300000 root × Small (k * 1600) sum
+Inv-loop unitPrices count hours limits quantities n root₀ sum₀ k₀ root sum k = (1 ≤ k) × (k ≤ n + 7) × Small maxPrice root × Small (k * lastPlace) sum
 
 abbrev μ-loop : tie.MeasureT-loop
-μ-loop low count hours limits quantities n root₀ sum₀ k₀ root sum k = n + 7 - k
+μ-loop unitPrices count hours limits quantities n root₀ sum₀ k₀ root sum k = n + 7 - k
 
 loop-holds : tie.Need-loop-holds Inv-loop μ-loop
 loop-holds c =

@@ -1,5 +1,6 @@
 -- `setup::with_block` meets its contract: the losses fit. Assumes nothing.
 use native.Mathlib.Omega.{arith}
+use Rattle.search.specs.Layout.{mostLimit}
 use Rattle.orders.specs.Columns.{sideFor}
 use Rattle.setup.specs.Setup.{written}
 use Rattle.roots.proofs.SizeLaws.{side-le, product-fits}
@@ -57,7 +58,7 @@ mul-r-5 : tie.Need-mul-r-5
 mul-r-5 c =
     let s = c .before .before .before in
     let a = s .args in
-    let fits = side-le (sideFor (a .side)) (c .before .before .less .result) (c .before .less2 .result) 7200000
+    let fits = side-le (sideFor (a .side)) (c .before .before .less .result) (c .before .less2 .result) mostLimit
     (omega (arith, c .before .before .less .ensures, s .pre .3)) (omega (arith, c .before .less2 .ensures, s .pre .2)) in
     record { fits = omega (arith, product-fits (a .quantity) (c .by-side .result) (s .pre .1) (omega (arith, c .by-side .ensures, fits))) }
 
@@ -78,7 +79,7 @@ mul-r-7 c =
     let b = c .before in
     let s = b .before .before .before in
     let a = s .args in
-    let fits = side-le (sideFor (a .side)) (b .before .less2 .result) (b .before .before .less .result) 7200000
+    let fits = side-le (sideFor (a .side)) (b .before .less2 .result) (b .before .before .less .result) mostLimit
     (omega (arith, b .before .less2 .ensures, s .pre .2)) (omega (arith, b .before .before .less .ensures, s .pre .3)) in
     record { fits = omega (arith, product-fits (a .quantity) (c .by-side2 .result) (s .pre .1) (omega (arith, c .by-side2 .ensures, fits))) }
 

@@ -2,17 +2,18 @@
 use Prim.Native.Nat.{_-_}
 use mathlib.Core.Path.{sym, _∙_}
 use native.Mathlib.Omega.{arith}
+use Rattle.search.specs.Layout.{dayHours}
 use Rattle.setup.proofs.SetupTableLaws.{part-held, part-length, row-wide, part-row, RangesTo, ranges-start, ranges-next, ranges-all}
 use borrow.Author.Needs.{needs}
 use Rattle.setup.proofs.rows.fill_ranges.Statement.{statement}
 use Rattle.setup.proofs.rows.fill_ranges.Tie as tie
 
 abbrev Inv-loop : tie.InvT-loop
-Inv-loop sides prices quantities low gap₀ ends off most root first₀ last₀ turn₀ h₀ gap first last turn h =
-    RangesTo sides prices quantities ends off most root low gap first last turn h
+Inv-loop sides prices quantities unitPrices gap₀ ends off most root first₀ last₀ turn₀ h₀ gap first last turn h =
+    RangesTo sides prices quantities ends off most root unitPrices gap first last turn h
 
 abbrev μ-loop : tie.MeasureT-loop
-μ-loop sides prices quantities low gap₀ ends off most root first₀ last₀ turn₀ h₀ gap first last turn h = 24 - h
+μ-loop sides prices quantities unitPrices gap₀ ends off most root first₀ last₀ turn₀ h₀ gap first last turn h = dayHours - h
 
 loop-holds : tie.Need-loop-holds Inv-loop μ-loop
 loop-holds c = ranges-start _ _ _ _ _ _ _ _ _ (c .before .before .before .before .before .pre .0 .3)
@@ -94,7 +95,7 @@ fill-hour-requires c κs =
     let q = s .pre .0 in
     let t = s .pre .1 .1 in (
       (part-held _ _ _ _ (q .0) (v .h) k, s .pre .1 .0 (v .h) k, q .1 (v .h), q .2 (v .h), part-length (v .gap) (v .h) (v .inv .size) k),
-      (part-length (s .args .low .now) (v .h) (t .0) k, rw (part-row (s .args .low .now) (v .h)) (t .1 (v .h) k)),
+      (part-length (s .args .unit-prices .now) (v .h) (t .0) k, rw (part-row (s .args .unit-prices .now) (v .h)) (t .1 (v .h) k)),
     )
 
 cast-first : tie.Need-cast-first Inv-loop μ-loop
@@ -141,7 +142,7 @@ loop-again c =
     let f = after-fill-hour .fill-hour in
     ranges-next _ _ _ _ _ _ _ _ _ _ _ _ _ (v .h) _ _ _ _ (v .inv) k
     (f .kept .1 .1 .1 .1 .1 .1 .1 .1 .1 .0 ∙ part-length (v .gap) (v .h) (v .inv .size) k) (row-wide (v .h))
-    (f .ensures .0 .1) (rw (part-row (start .args .low .now) (v .h)) at (f .ensures .1))
+    (f .ensures .0 .1) (rw (part-row (start .args .unit-prices .now) (v .h)) at (f .ensures .1))
 
 same-length : tie.Need-same-length Inv-loop μ-loop
 same-length c = c .before .loop .inv .size ∙ sym (c .before .before .before .before .before .before .before .pre .0 .3)

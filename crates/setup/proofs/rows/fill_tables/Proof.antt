@@ -2,6 +2,7 @@
 use Prim.Native.Nat.{_-_}
 use mathlib.Core.Path.{sym, _∙_}
 use native.Mathlib.Omega.{arith}
+use Rattle.search.specs.Layout.{dayHours}
 use Rattle.setup.proofs.SetupTableLaws.{part-held, part-length, row-wide, RowsTo, rows-start, rows-next, rows-all}
 use borrow.Author.Needs.{needs}
 use Rattle.setup.proofs.rows.fill_tables.Statement.{statement}
@@ -11,10 +12,10 @@ use Rattle.setup.proofs.rows.fill_tables.Lts as lts
 use Rattle.setup.proofs.rows.fill_row.Reads as fill-row-reads
 
 abbrev Inv-loop : tie.InvT-loop
-Inv-loop sides prices quantities low₀ ends off h₀ low h = RowsTo sides prices quantities ends off low h
+Inv-loop sides prices quantities unitPrices₀ ends off h₀ unitPrices h = RowsTo sides prices quantities ends off unitPrices h
 
 abbrev μ-loop : tie.MeasureT-loop
-μ-loop sides prices quantities low₀ ends off h₀ low h = 24 - h
+μ-loop sides prices quantities unitPrices₀ ends off h₀ unitPrices h = dayHours - h
 
 loop-holds : tie.Need-loop-holds Inv-loop μ-loop
 loop-holds c = rows-start _ _ _ _ _ _ (c .before .before .before .before .pre .2)
@@ -69,7 +70,7 @@ fill-row-requires c κs =
     let v = c .before .before .loop in
     let s = c .before .before .before .before .before .before .before in
     let k = c .before .loop-test .taken in
-    (part-held _ _ _ _ (s .pre .0) (v .h) k, s .pre .1 (v .h), part-length (v .low) (v .h) (v .inv .size) k)
+    (part-held _ _ _ _ (s .pre .0) (v .h) k, s .pre .1 (v .h), part-length (v .unit-prices) (v .h) (v .inv .size) k)
 
 add-h : tie.Need-add-h Inv-loop μ-loop
 add-h c = search needs
@@ -83,7 +84,7 @@ loop-again c =
     let k = c .before .before .before .before .loop-test .taken in
     let f = c .before .before .fill-row in
     rows-next _ _ _ _ _ _ (f .last .1 .1 .1 .1 .1 .1 .0) _ _ (v .inv) k
-    (f .kept .1 .1 .1 .1 .1 .1 .0 ∙ part-length (v .low) (v .h) (v .inv .size) k) (row-wide (v .h)) (f .ensures)
+    (f .kept .1 .1 .1 .1 .1 .1 .0 ∙ part-length (v .unit-prices) (v .h) (v .inv .size) k) (row-wide (v .h)) (f .ensures)
 
 same-length : tie.Need-same-length Inv-loop μ-loop
 same-length c = c .before .loop .inv .size ∙ sym (c .before .before .before .before .before .before .pre .2)

@@ -8,12 +8,12 @@ use crate::twin::by_value::search::layout::ROW;
 use crate::twin::by_value::search::price_sum;
 
 // What an hour at the place from loses at a price below its own: how far the prices of the places above stand over it.
-fn gap_up(low: &[u32], row: usize, from: usize, price: u32) -> u64
+fn gap_up(unit_prices: &[u32], row: usize, from: usize, price: u32) -> u64
 {
     let mut sum: u64 = 0;
     let mut i = from + 1;
     while i < ROW {
-        let cell = low[row + i];
+        let cell = unit_prices[row + i];
         if cell <= price {
             return sum;
         }
@@ -24,12 +24,12 @@ fn gap_up(low: &[u32], row: usize, from: usize, price: u32) -> u64
 }
 
 // What it loses at a price above its own: how far the prices of the places down from it stand under it.
-fn gap_down(low: &[u32], row: usize, from: usize, price: u32) -> u64
+fn gap_down(unit_prices: &[u32], row: usize, from: usize, price: u32) -> u64
 {
     let mut sum: u64 = 0;
     let mut i = from;
     while 0 < i {
-        let cell = low[row + i];
+        let cell = unit_prices[row + i];
         if price <= cell {
             return sum;
         }
@@ -40,15 +40,15 @@ fn gap_down(low: &[u32], row: usize, from: usize, price: u32) -> u64
 }
 
 // What the hours at the places off lose at the prices.
-fn gaps_from(low: &[u32], off: [u32; HOURS], prices: [u32; HOURS]) -> u64
+fn gaps_from(unit_prices: &[u32], off: [u32; HOURS], prices: [u32; HOURS]) -> u64
 {
     let mut sum: u64 = 0;
     let mut h: usize = 0;
     while h < HOURS {
         let row = h * ROW;
         let from = off[h] as usize;
-        let up = gap_up(low, row, from, prices[h]);
-        let down = gap_down(low, row, from, prices[h]);
+        let up = gap_up(unit_prices, row, from, prices[h]);
+        let down = gap_down(unit_prices, row, from, prices[h]);
         sum += up + down;
         h += 1;
     }
@@ -84,7 +84,7 @@ fn gains_at(
 
 // What the empty set loses at the prices root: what the blocks would gain, and what the hours lose at its places.
 pub fn empty_loss(
-    low: &[u32],
+    unit_prices: &[u32],
     off: [u32; HOURS],
     count: usize,
     sides: [u8; MOST_BLOCKS],
@@ -95,6 +95,6 @@ pub fn empty_loss(
 ) -> u64
 {
     let gains = gains_at(count, sides, hours, limits, quantities, root);
-    let gaps = gaps_from(low, off, root);
+    let gaps = gaps_from(unit_prices, off, root);
     gains + gaps
 }

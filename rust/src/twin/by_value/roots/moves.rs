@@ -78,7 +78,7 @@ pub struct Trail {
 
 // A round more, where n places are added up: each move goes towards the prices at the average of the places so far at which the blocks that gain are taken.
 pub fn moved_on(
-    low: &[u32],
+    unit_prices: &[u32],
     count: usize,
     hours: [u32; MOST_BLOCKS],
     limits: [u32; MOST_BLOCKS],
@@ -93,7 +93,7 @@ pub fn moved_on(
     while k < n + ROUND {
         let more = added_places(sum, count, hours, limits, quantities, root);
         let mean = averaged(more, k + 1);
-        let there = prices_at(low, mean);
+        let there = prices_at(unit_prices, mean);
         let next = closer(root, there);
         sum = more;
         root = next;

@@ -47,7 +47,7 @@ pub fn fill_tables(
     quantities: &[u32],
     ends: [u16; HOURS + 1],
     off: [u32; HOURS],
-    low: &mut [u32],
+    unit_prices: &mut [u32],
 )
 {
     let mut h: usize = 0;
@@ -61,7 +61,7 @@ pub fn fill_tables(
             ends[h] as usize,
             ends[h + 1] as usize,
             off[h],
-            &mut low[from..to],
+            &mut unit_prices[from..to],
         );
         h += 1;
     }
@@ -101,7 +101,7 @@ pub fn fill_ranges(
     off: [u32; HOURS],
     most: [u32; HOURS],
     root: [u32; HOURS],
-    low: &[u32],
+    unit_prices: &[u32],
     gap: &mut [u32],
 ) -> Ranges
 {
@@ -121,7 +121,7 @@ pub fn fill_ranges(
             off[h],
             most[h],
             root[h],
-            &low[from..to],
+            &unit_prices[from..to],
             &mut gap[from..to],
         );
         first[h] = range.first as u32;
