@@ -161,13 +161,15 @@ fn fill_hours(
     let mut cost: u64 = 0;
     let mut h: usize = 0;
     while h < 24 {
+        let from = ends[h] as usize;
+        let to = ends[h + 1] as usize;
         let trades = trades_of(bsides, bhours, bquantities, set, (h + 1) as u32);
         let sums = put_hour(
             &sides,
             &prices,
             &quantities,
-            ends[h] as usize,
-            ends[h + 1] as usize,
+            from,
+            to,
             trades.sales,
             trades.buys,
             middles[h],
@@ -245,14 +247,7 @@ fn publish_columns(
 }
 
 // The result of a book of so many records: its steps, its blocks, the published set and its day.
-pub fn publish(
-    count: usize,
-    steps: Steps,
-    blocks: Blocks,
-    set: u32,
-    day: Day,
-    result: &mut [u8],
-)
+pub fn publish(count: usize, steps: Steps, blocks: Blocks, set: u32, day: Day, result: &mut [u8])
     requires { ⌜ Publishable count steps blocks day (now result) ⌝ }
     ensures { λ _. ⌜ PublishedIn count steps blocks set day (now (result .exit)) ⌝ }
 {

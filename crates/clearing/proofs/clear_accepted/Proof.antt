@@ -17,7 +17,7 @@ abbrev start : tie.After-steps-of → tie.Start
 start c = c .before .before .before .before
 
 abbrev stepped : tie.After-blocks-of → tie.After-steps-of
-stepped c = c .before .before .before .before .before .before
+stepped c = c .before .before .before .before .before
 
 abbrev blocked : tie.After-prepare → tie.After-blocks-of
 blocked c = c .before .before .before .before .before .before
@@ -121,21 +121,9 @@ find-requires c κs =
     let f = stepped (blocked m) in
     (m .prepare .ensures .0, search needs, size-ends f, steps-in f)
 
-slice-aggregate-publish : tie.Need-slice-aggregate-publish
-slice-aggregate-publish c = sym (size-sides (stepped (blocked (prepared (found (c .before))))))
-
-slice-aggregate-publish-2 : tie.Need-slice-aggregate-publish-2
-slice-aggregate-publish-2 c = sym (size-prices (stepped (blocked (prepared (found (c .before .before))))))
-
-slice-aggregate-publish-3 : tie.Need-slice-aggregate-publish-3
-slice-aggregate-publish-3 c = sym (size-quantities (stepped (blocked (prepared (found (c .before .before .before))))))
-
-slice-aggregate-publish-4 : tie.Need-slice-aggregate-publish-4
-slice-aggregate-publish-4 c = sym (size-records (stepped (blocked (prepared (found (c .before .before .before .before))))))
-
 publish-requires : tie.Need-publish-requires
 publish-requires c κs =
-    let best = c .before .before .before .before .before in
+    let best = c .before in
     let m = prepared (found best) in
     let k = blocked m in
     let f = stepped k in
@@ -144,7 +132,7 @@ publish-requires c κs =
     let steps = columns-steps _ _ _ _ _ _ (f .steps-of .ensures) (s .pre .0) in
     let is = best .find .ensures _ (ready .p) (ready .rest) steps (ready .known) (ready .turning) in
     let e = f .before .record-count .ensures in
-    publishable _ (s .pre .0) _ _ _ _ _ (f .steps-of .ensures) _ _ _ _ (k .blocks-of .ensures) (is .2) e (omega (arith, s .pre .1, e))
+    publishable _ (s .pre .0) _ _ _ _ _ (k .blocks-of .ensures) (is .2) e (omega (arith, s .pre .1, e))
     (omega (arith, ends-in f, size-records f)) (steps-in f)
 
 same-length : tie.Need-same-length
@@ -152,7 +140,7 @@ same-length c = search needs
 
 returns : tie.Need-returns
 returns c =
-    let best = c .before .before .before .before .before .before .before .before in
+    let best = c .before .before .before .before in
     let m = prepared (found best) in
     let k = blocked m in
     let f = stepped k in
@@ -187,10 +175,6 @@ clear-accepted-spec =
     slice-aggregate-find-8
     cast-find
     find-requires
-    slice-aggregate-publish
-    slice-aggregate-publish-2
-    slice-aggregate-publish-3
-    slice-aggregate-publish-4
     publish-requires
     same-length
     returns)

@@ -12,18 +12,18 @@ use Rattle.clearing.proofs.publish.fill_hours.Statement.{statement}
 use Rattle.clearing.proofs.publish.fill_hours.Tie as tie
 
 abbrev Inv-loop : tie.InvT-loop
-Inv-loop steps bsides bhours bquantities set middles values₀ sides prices quantities ends value₀ cost₀ h₀ values value cost h =
+Inv-loop bsides bhours bquantities set values₀ middles sides prices quantities ends value₀ cost₀ h₀ values value cost h =
     (length values ≡ length values₀) × (h ≤ 24)
     × HoursDone ends (stepsAt ends sides prices quantities) (salesAt bsides bhours bquantities set) (buysAt bsides bhours bquantities set)
     (ofHour middles) h values value cost
 
 abbrev μ-loop : tie.MeasureT-loop
-μ-loop sides prices quantities bsides bhours bquantities set values₀ ends middles value₀ cost₀ h₀ values value cost h =
+μ-loop bsides bhours bquantities set values₀ middles sides prices quantities ends value₀ cost₀ h₀ values value cost h =
     24 - h
 
 loop-holds : tie.Need-loop-holds Inv-loop μ-loop
 loop-holds c =
-    let s = c .before .before .before .before .before .before .before in
+    let s = c .before .before .before .before .before .before .before .before in
     (refl, omega arith, hours-none _ _ _ _ _ _ _ _ (s .pre .0 .start))
 
 mul-from : tie.Need-mul-from Inv-loop μ-loop
@@ -56,6 +56,15 @@ cast-trades-of c = search needs
 trades-of-requires : tie.Need-trades-of-requires Inv-loop μ-loop
 trades-of-requires c κs = search needs
 
+slice-aggregate-put-hour : tie.Need-slice-aggregate-put-hour Inv-loop μ-loop
+slice-aggregate-put-hour c = search needs
+
+slice-aggregate-put-hour-2 : tie.Need-slice-aggregate-put-hour-2 Inv-loop μ-loop
+slice-aggregate-put-hour-2 c = search needs
+
+slice-aggregate-put-hour-3 : tie.Need-slice-aggregate-put-hour-3 Inv-loop μ-loop
+slice-aggregate-put-hour-3 c = search needs
+
 mul-put-hour : tie.Need-mul-put-hour Inv-loop μ-loop
 mul-put-hour c = search needs
 
@@ -64,10 +73,11 @@ array-read-put-hour c = search needs
 
 put-hour-requires : tie.Need-put-hour-requires Inv-loop μ-loop
 put-hour-requires c κs =
-    let v = c .before .before .before in
-    let h = c .before .before .loop-test .taken in
-    let s = v .before .before .before .before .before .before .before .before in
-    let t = trades-most _ _ _ _ _ _ _ (s .pre .1) (c .before .trades-of .ensures) in
+    let w = c .before .before .before .before in
+    let v = w .before .before in
+    let h = w .before .loop-test .taken in
+    let s = v .before .before .before .before .before .before .before .before .before in
+    let t = trades-most _ _ _ _ _ _ _ (s .pre .1) (w .trades-of .ensures) in
     let inside = hour-inside _ _ _ _ (v .loop .h) (s .pre .0) h in
     (hour-part _ _ _ _ (v .loop .h) (s .pre .0) h, omega (arith, s .pre .3, v .loop .inv .0), s .pre .2 (v .loop .h) h, t .0, t .1)
 
@@ -86,10 +96,10 @@ loop-less c = search needs
 loop-again : tie.Need-loop-again Inv-loop μ-loop
 loop-again c =
     let p = c .before .before .before .before in
-    let w = p .before .before in
+    let w = p .before .before .before .before .before in
     let v = w .before .before in
     let h = w .before .loop-test .taken in
-    let s = v .before .before .before .before .before .before .before .before in
+    let s = v .before .before .before .before .before .before .before .before .before in
     let t = trades-are _ _ _ _ _ _ _ (w .trades-of .ensures) in
     let one : v .loop .h + 1 - 1 ≡ v .loop .h = omega arith in (
       p .put-hour .ensures .sameLength ∙ v .loop .inv .0,
@@ -124,6 +134,9 @@ fill-hours-spec =
     add-trades-of
     cast-trades-of
     trades-of-requires
+    slice-aggregate-put-hour
+    slice-aggregate-put-hour-2
+    slice-aggregate-put-hour-3
     mul-put-hour
     array-read-put-hour
     put-hour-requires

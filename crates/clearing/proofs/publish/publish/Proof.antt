@@ -11,7 +11,7 @@ use Rattle.clearing.proofs.publish.publish.Tie as tie
 
 -- the start behind the blocks' arrays
 abbrev start : tie.After-bquantities → tie.Start
-start c = c .before .before .before .before .before .before .before .before .before .before
+start c = c .before .before .before .before .before .before
 
 -- the arrays have room for the blocks
 fronts : (s : tie.Start) →
@@ -67,7 +67,7 @@ publish-columns-requires : tie.Need-publish-columns-requires
 publish-columns-requires c κs =
     let s = start (c .before .before .before .before .before .before) in
     let f = fronts s in (
-      s .pre .steps,
+      s .pre .stepsFit,
       s .pre .inRecords,
       fronts-sized f (s .pre .blockQuantitiesFit),
       fronts-records f,

@@ -11,7 +11,7 @@ use Rattle.clearing.proofs.publish.publish_columns.Tie as tie
 
 -- THE STATES on the way: the start behind the hours, the hours behind the welfare
 abbrev start : tie.After-fill-hours → tie.Start
-start c = c .before .before .before .before .before .before .before .before .before .before .before .before .before .before
+start c = c .before .before .before .before .before .before .before .before .before .before .before .before
 
 abbrev filled : tie.After-less → tie.After-fill-hours
 filled c = c .before .before .before .before .before .before .before
@@ -24,9 +24,9 @@ traded-size : (s : tie.Start) → length (s .args .day .quantities) ≡ 24
 traded-size s = search needs
 
 -- the values have room for the steps
-room : (f : tie.After-fill-hours) → getD (start f .args .t6) 24 0 ≤ length (f .fill-hours .last .1 .1 .1 .1 .1 .1 .1 .1 .1 .0)
+room : (f : tie.After-fill-hours) → getD (start f .args .steps .ends) 24 0 ≤ length (f .fill-hours .last .1 .1 .1 .1 .1 .1 .0)
 room f =
-    let whole : length (f .fill-hours .last .1 .1 .1 .1 .1 .1 .1 .1 .1 .0) ≡ 2048 = f .fill-hours .kept .1 .1 .1 .1 .1 .1 .1 .1 .1 .0 ∙ refl in
+    let whole : length (f .fill-hours .last .1 .1 .1 .1 .1 .1 .0) ≡ 2048 = f .fill-hours .kept .1 .1 .1 .1 .1 .1 .0 ∙ refl in
     omega (arith, start f .pre .0 .fit)
 
 array-read-n : tie.Need-array-read-n
@@ -52,6 +52,9 @@ add-less-2 c = search needs
 
 less-requires : tie.Need-less-requires
 less-requires c κs = search needs
+
+array-share-prefix-records : tie.Need-array-share-prefix-records
+array-share-prefix-records c = start (filled c) .pre .1
 
 slice-aggregate-rows-of : tie.Need-slice-aggregate-rows-of
 slice-aggregate-rows-of c = sym (length-take-le _ _ (start (filled (c .before)) .pre .1))
@@ -102,6 +105,7 @@ publish-columns-spec =
     add-less
     add-less-2
     less-requires
+    array-share-prefix-records
     slice-aggregate-rows-of
     array-share-prefix-values
     slice-aggregate-rows-of-2
