@@ -45,7 +45,7 @@ use Rattle.rules.proofs.NeighbourLaws.{slack}
 use Rattle.rules.proofs.LossLaws.{lossOf, losses-taken, losses-left}
 use Rattle.rules.proofs.LossSearchLaws as by-loss
 use Rattle.rules.proofs.SearchLaws.{decided-next}
-use Rattle.rules.proofs.TwinLaws.{InTurn, turn-left, turn-taken}
+use Rattle.rules.proofs.TwinLaws.{InTurn, turn-left, turn-taken, block-at, passes-taken}
 use Rattle.rules.proofs.SetBits.{bits-at, bits-taken, bits-left, bits-room}
 use Rattle.rules.proofs.PlaceLaws.{
   place,
@@ -70,7 +70,7 @@ use Rattle.search.specs.Search.{
   sumOfHours,
   cell,
   ofHour,
-  InRange,
+  PlacesClear,
   GapsOf,
   PricesOf,
   sideAt,
@@ -79,14 +79,14 @@ use Rattle.search.specs.Search.{
   gainAt,
   aheadAt,
   behindAt,
-  rowAt,
+  rowQuantity,
   isBarred,
   isDue,
   isOut,
   keepsAt,
   allKeep,
   SetTrades,
-  TradedIn,
+  HoursTraded,
 }
 use Rattle.search.specs.Tables.{Tables}
 use Rattle.search.specs.Meaning.{
@@ -137,24 +137,13 @@ taken-le f (b ∷ l) (false ∷ s) = omega (arith, taken-le f l s)
 place-within : (l : List Block) (s : List Bool) (h : ℕ) → length s ≡ length l → place l s h ≤ overBlocks (sells h) l + overBlocks (buys h) l
 place-within l s h size = omega (arith, place-is l s h size, taken-le (sells h) l s)
 
--- what passes for each taken block by its number
-passes-taken : (t : Block → Bool) (other : Block) (l : List Block) (s : List Bool) →
-    ((j : ℕ) → j < length l → getD s j false ≡ true → t (getD l j other) ≡ true) → everyBlock t (taken l s) ≡ true
-passes-taken t other [] s f = refl
-passes-taken t other (b ∷ l) [] f = refl
-passes-taken t other (b ∷ l) (true ∷ s) f = rw (f 0 (omega arith) refl, passes-taken t other l s (λ j k e. f (suc j) (omega arith) e))
-passes-taken t other (b ∷ l) (false ∷ s) f = passes-taken t other l s (λ j k e. f (suc j) (omega arith) e)
-
--- the block at a number
-pub block-at : (l : List Block) (j : ℕ) (b : Block) (after : List Block) (other : Block) → drop j l ≡ b ∷ after → getD l j other ≡ b
-block-at [] zero b after other e = let z : _≡_ {A = ℕ} 0 1 = cc in absurd (omega arith)
-block-at [] (suc j) b after other e = let z : _≡_ {A = ℕ} 0 1 = cc in absurd (omega arith)
-block-at (x ∷ l) zero b after other e = cc
-block-at (x ∷ l) (suc j) b after other e = block-at l j b after other e
+-- no block: what stands past the last
+pub noBlock : Block
+noBlock = record { number = 0; side = buy; price = 0; quantity = 0; runs = λ h. false }
 
 -- ALL LIMITS, by the columns
 module _ (blocks : List ℕ) (set : ℕ) (high low : List ℕ) where
-  all-keep-at : (n j : ℕ) → allKeep blocks set high low n ≡ true → j < n → set / 2 ^ j % 2 ≡ 1 → keepsHere blocks set high low j ≡ true
+  pub all-keep-at : (n j : ℕ) → allKeep blocks set high low n ≡ true → j < n → set / 2 ^ j % 2 ≡ 1 → keepsHere blocks set high low j ≡ true
   unfolding allKeep
   all-keep-at zero j e k c = absurd (omega arith)
   all-keep-at (suc n) j e k c =
@@ -204,12 +193,12 @@ module _ {day : Day} {p rest : ℕ → ℕ} {tables : Tables} (known : Known day
   place-fits h a b = omega (arith, place-within (day .blocks) d h size, known .fits h a b)
 
   -- a lawful set's places are in range
-  lawful-in-range : lawful day d ≡ true → InRange (tables .first) (tables .last) (node .places)
+  lawful-in-range : lawful day d ≡ true → PlacesClear (tables .first) (tables .last) (node .places)
   lawful-in-range law h a b =
       rw (branch .placesAre h a b)
       (known .clearsOnly h (place (day .blocks) d h) a b (place-within (day .blocks) d h size) (lawful-clears day d size (known .prices) (known .hours) law h (counts (day .hours) h a b)))
 
-  module _ (inside : InRange (tables .first) (tables .last) (node .places)) where
+  module _ (inside : PlacesClear (tables .first) (tables .last) (node .places)) where
     clear-at : (h : ℕ) → 1 ≤ h → h ≤ dayHours → Clearable (hourAt day h (place (day .blocks) d h))
     clear-at h a b =
         let r = inside h a b in
@@ -258,26 +247,23 @@ module _ {day : Day} {p rest : ℕ → ℕ} {tables : Tables} (known : Known day
       bit-is : (j : ℕ) → j < tables .count → getD d j false ≡ eqb (node .set / 2 ^ j % 2) 1
       bit-is j k = rw (← (branch .setIs)) (bits-at (length d) (node .set) j (omega arith))
 
-      other : Block
-      other = record { number = 0; side = buy; price = 0; quantity = 0; runs = λ h. false }
-
       pub limits-kept : allKeep (tables .blocks) (node .set) prices prices (tables .count) ≡ true → lawful day d ≡ true
       unfolding allowed
       limits-kept e =
           lawful-by-places day d size (known .prices) (known .hours) refl (λ h c. clear-at h (c .first) (c .last))
-          (passes-taken _ other (day .blocks) d (λ j k t.
+          (passes-taken noBlock _ (day .blocks) d (λ j k t.
           let kc : j < tables .count = omega (arith, known .counted) in
           let s = known .shown j kc in
-          rw (block-at (day .blocks) j (s .block) _ other (s .next))
+          rw (block-at (day .blocks) j (s .block) _ noBlock (s .next))
           (keeps-same j s ∙ all-keep-at (tables .blocks) (node .set) prices prices (tables .count) j e kc (borrow.Author.Tests.eqb-true _ _ (sym (bit-is j kc) ∙ t)))))
 
       pub limits-broken : allKeep (tables .blocks) (node .set) prices prices (tables .count) ≡ false → lawful day d ≡ true → ⊥
       limits-broken e law =
           clash (all-keep (tables .blocks) (node .set) prices prices (tables .count) (λ j k c.
           let s = known .shown j k in
-          let t = taken-passes _ (day .blocks) d (lawful-limits day d size (known .prices) (known .hours) law) j other
+          let t = taken-passes _ (day .blocks) d (lawful-limits day d size (known .prices) (known .hours) law) j noBlock
           (omega (arith, known .counted)) (bit-is j k ∙ eq-eqb _ 1 c) in
-          sym (keeps-same j s) ∙ rw (block-at (day .blocks) j (s .block) _ other (s .next)) at t)) e
+          sym (keeps-same j s) ∙ rw (block-at (day .blocks) j (s .block) _ noBlock (s .next)) at t)) e
 
 -- WHAT COMES BACK
 module _ {day : Day} {p rest : ℕ → ℕ} {count left : ℕ} {d : List Bool} {best : Best} where
@@ -336,7 +322,7 @@ module _ {tables : Tables} {node : Node} {clears : Bool} {sum : ℕ}
 
       -- it is lawful and loses less
       pub decided-better : allKeep (tables .blocks) (node .set) prices prices (tables .count) ≡ true → node .loss + sum < best .limit →
-          {sales purchases quantities : List ℕ} → SetTrades (tables .blocks) (tables .count) (node .set) sales purchases → TradedIn steps sales purchases prices quantities →
+          {sales purchases quantities : List ℕ} → SetTrades (tables .blocks) (tables .count) (node .set) sales purchases → HoursTraded steps sales purchases prices quantities →
           Decided tables steps node best
           record { limit = node .loss + sum; set = node .set; day = record { prices = prices; quantities = quantities } }
       decided-better k less {sales} {purchases} {quantities} sets trades day p rest d same known branch whole room =
@@ -351,12 +337,12 @@ module _ {tables : Tables} {node : Node} {clears : Bool} {sum : ℕ}
 module _ (blocks : List ℕ) (at : ℕ) (node : Node) (moved : List ℕ) (sized : BlocksSized blocks)
     (fits : Fits at node) (size : length moved ≡ dayHours) where
   abbrev MovedBy : Bool → Type 0
-  MovedBy t = (h : ℕ) → 1 ≤ h → h ≤ dayHours → ofHour moved h ≡ ofHour (node .places) h + when t (rowAt blocks at h)
+  MovedBy t = (h : ℕ) → 1 ≤ h → h ≤ dayHours → ofHour moved h ≡ ofHour (node .places) h + when t (rowQuantity blocks at h)
 
   moved-fits : (t : Bool) → MovedBy t → Small ((at + 1) * mostAdded) moved
   moved-fits t m =
       places-grow at (node .places) moved size (fits .placesFit) (λ h a b.
-      omega (arith, m h a b, when-le t (rowAt blocks at h), sized .rowsFit at h))
+      omega (arith, m h a b, when-le t (rowQuantity blocks at h), sized .rowsFit at h))
 
   pub node-taken : (b : ℕ) → b ≡ 2 ^ at → againstAt blocks at < 2 ^ 32 → MovedBy (not (eqb (sideAt blocks at) 0)) →
       let r : Node = record { set = node .set + b; loss = node .loss + againstAt blocks at; places = moved } in Fits (at + 1) r × TakenTo blocks at node r

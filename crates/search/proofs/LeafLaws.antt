@@ -18,7 +18,7 @@ use Rattle.rules.specs.Day.{sumTo}
 use Rattle.orders.specs.Columns.{sideFor}
 use Rattle.rules.proofs.Tests.{clash}
 use Rattle.book.proofs.Laws.{or-left, or-right}
-use Rattle.search.specs.Search.{Small, cell, ofHour, InRange, GapsOf, PricesOf, sideAt, hoursAt, limitAt, rowAt, aheadAt, behindAt, againstAt, gainAt, isBarred, isDue, isForced, keepsAt, allKeep}
+use Rattle.search.specs.Search.{Small, cell, ofHour, PlacesClear, GapsOf, PricesOf, sideAt, hoursAt, limitAt, rowQuantity, aheadAt, behindAt, againstAt, gainAt, isBarred, isDue, isForced, keepsAt, allKeep}
 
 -- what holds below h and at h holds below h + 1
 pub below-next : (P : ℕ → Type 0) (h k : ℕ) → (k < h → P k) → P h → k < suc h → P k
@@ -35,12 +35,12 @@ side-sell (suc s) h = refl
 
 -- GAPS
 module _ (gap first last places : List ℕ) where
-  abbrev At : ℕ → Type 0
-  At k = (getD first k 0 ≤ getD places k 0) × (getD places k 0 ≤ getD last k 0)
+  abbrev ClearsAt : ℕ → Type 0
+  ClearsAt k = (getD first k 0 ≤ getD places k 0) × (getD places k 0 ≤ getD last k 0)
 
   pub record GapsTo (h sum : ℕ) : Type 0 where
     pub inside : h ≤ dayHours
-    pub ranges : (k : ℕ) → k < h → At k
+    pub ranges : (k : ℕ) → k < h → ClearsAt k
     pub is : sum ≡ sumTo h (λ k. cell gap k (ofHour places k))
     pub fits : sum ≤ h * 2 ^ 32
 
@@ -52,27 +52,27 @@ module _ (gap first last places : List ℕ) where
       getD gap (h * rowSize + getD places h 0) 0 < 2 ^ 32 → GapsTo (h + 1) (sum + getD gap (h * rowSize + getD places h 0) 0)
   unfolding sumTo
   gaps-next h sum g k t small =
-      let here : At h = (
+      let here : ClearsAt h = (
         ltb-false _ _ (or-left _ (ltb (getD last h 0) (getD places h 0)) t),
         ltb-false _ _ (or-right (ltb (getD places h 0) (getD first h 0)) _ t),
       ) in
       record {
         inside = omega arith;
-        ranges = λ j a. below-next At h j (g .ranges j) here (rw add-one at a);
+        ranges = λ j a. below-next ClearsAt h j (g .ranges j) here (rw add-one at a);
         is = rw (g .is, add-one, sub-one);
         fits = omega (arith, g .fits);
       }
 
-  pub place-fits : (h : ℕ) → Small lastPlace last → (ltb (getD places h 0) (getD first h 0) || ltb (getD last h 0) (getD places h 0)) ≡ false →
+  pub passed-fits : (h : ℕ) → Small lastPlace last → (ltb (getD places h 0) (getD first h 0) || ltb (getD last h 0) (getD places h 0)) ≡ false →
       getD places h 0 ≤ lastPlace
-  place-fits h small t = omega (arith, ltb-false (getD last h 0) (getD places h 0) (or-right (ltb (getD places h 0) (getD first h 0)) _ t), small h)
+  passed-fits h small t = omega (arith, ltb-false (getD last h 0) (getD places h 0) (or-right (ltb (getD places h 0) (getD first h 0)) _ t), small h)
 
   pub gaps-out : (h : ℕ) → h < dayHours → (ltb (getD places h 0) (getD first h 0) || ltb (getD last h 0) (getD places h 0)) ≡ true →
       GapsOf gap first last places false 0
   gaps-out h k t = record {
     inRange = λ e. let z : _≡_ {A = ℕ} 0 1 = cc in absurd (omega arith);
     notInRange = λ _ r.
-        let a : At h = rw sub-one at (r (suc h) (omega arith) (omega arith)) in
+        let a : ClearsAt h = rw sub-one at (r (suc h) (omega arith) (omega arith)) in
         clash t (rw (le-ltb _ _ (a .0), le-ltb _ _ (a .1)));
     sumIs = λ e. let z : _≡_ {A = ℕ} 0 1 = cc in absurd (omega arith);
     fits = omega arith;
@@ -165,7 +165,7 @@ module _ (blocks : List ℕ) (chosen : ℕ) (high low : List ℕ) where
     keep-skips c = rw (keep-more i k, ne-eqb _ 1 c)
 
 -- places in range are small
-pub places-small : (first last places : List ℕ) → InRange first last places → Small lastPlace last → length places ≡ dayHours → Small lastPlace places
+pub places-small : (first last places : List ℕ) → PlacesClear first last places → Small lastPlace last → length places ≡ dayHours → Small lastPlace places
 places-small first last places r small e i = at (native.Mathlib.Decide.decLe dayHours i)
   where
     at : Dec (dayHours ≤ i) → getD places i 0 ≤ lastPlace
@@ -218,8 +218,8 @@ module _ (places blocks : List ℕ) (i times : ℕ) where
       }
 
   pub row-all : (test : Bool) → times ≡ cond test 1 0 → (h : ℕ) (r : List ℕ) → RowTo h r → dayHours ≤ h → (k : ℕ) → 1 ≤ k → k ≤ dayHours →
-      getD r (k - 1) 0 ≡ getD places (k - 1) 0 + when test (rowAt blocks i k)
-  row-all test t h r g e k a b = g .done (k - 1) (omega (arith, g .inside)) ∙ rw (t, times-when test (rowAt blocks i k))
+      getD r (k - 1) 0 ≡ getD places (k - 1) 0 + when test (rowQuantity blocks i k)
+  row-all test t h r g e k a b = g .done (k - 1) (omega (arith, g .inside)) ∙ rw (t, times-when test (rowQuantity blocks i k))
 
 -- TWINS
 module _ (blocks : List ℕ) (i chosen : ℕ) where

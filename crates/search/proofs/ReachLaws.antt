@@ -26,6 +26,7 @@ use Rattle.rules.proofs.BoundLaws.{gain}
 use Rattle.rules.proofs.LossLaws.{against, losses, bound-with}
 use Rattle.rules.proofs.SetBits.{bits-at}
 use Rattle.rules.proofs.PlaceLaws.{place, place-none, place-split, pricesAt}
+use Rattle.rules.proofs.TwinLaws.{block-at}
 use Rattle.rules.proofs.LawCutLaws.{couldKeep, taken-could}
 use Rattle.search.specs.Search.{
   Small,
@@ -35,7 +36,7 @@ use Rattle.search.specs.Search.{
   PricesOf,
   sideAt,
   hoursAt,
-  rowAt,
+  rowQuantity,
   limitAt,
   againstAt,
   gainAt,
@@ -67,7 +68,7 @@ use Rattle.search.proofs.BranchLaws.{
   sumTo-in,
   sumTo-add,
   daySum-plain,
-  block-at,
+  noBlock,
   all-keep,
   price-at-table,
   lawful-place,
@@ -188,14 +189,14 @@ module _ {day : Day} {p rest : ℕ → ℕ} {tables : Tables} (known : Known day
   rest-within (suc n) i (true ∷ t) le e l f k =
       let s = known .shown i (omega arith) in
       let k′ : loss + (against (day .hours) p (s .block) + losses (day .hours) p (drop (suc i) (day .blocks)) t) < limit = rw (s .next) at k in
-      let one = taken-adds (tables .blocks) (isOut out (i - at)) loss limit i (rowAt (tables .blocks) i h) (first-not-out n i t f) (omega (arith, s .againstIs)) in
+      let one = taken-adds (tables .blocks) (isOut out (i - at)) loss limit i (rowQuantity (tables .blocks) i h) (first-not-out n i t f) (omega (arith, s .againstIs)) in
       let more = rest-within n (suc i) t (omega arith) (omega arith) (suc-inj l) (avoids-next n i true t le f) (omega arith) in
       let adds = sells-at s h hour-first hour-last in
       rw (s .next) (omega arith, omega arith)
   rest-within (suc n) i (false ∷ t) le e l f k =
       let s = known .shown i (omega arith) in
       let k′ : loss + (gain (day .hours) p (s .block) + losses (day .hours) p (drop (suc i) (day .blocks)) t) < limit = rw (s .next) at k in
-      let one = left-adds (tables .blocks) (isOut out (i - at)) loss limit i (rowAt (tables .blocks) i h) (omega (arith, s .gainIs)) in
+      let one = left-adds (tables .blocks) (isOut out (i - at)) loss limit i (rowQuantity (tables .blocks) i h) (omega (arith, s .gainIs)) in
       let more = rest-within n (suc i) t (omega arith) (omega arith) (suc-inj l) (avoids-next n i false t le f) (omega arith) in
       let adds = buys-at s h hour-first hour-last in
       rw (s .next) (omega arith, omega arith)
@@ -222,9 +223,6 @@ module _ {day : Day} {p rest : ℕ → ℕ} {tables : Tables} (known : Known day
   unfolding keepsAt couldKeep
   could-same =
       sym (same-could _ _ _ _ _ _ _ _ (s .sideIs) (sum-same to lowest priced-low to-fits) (sum-same from high priced-high from-fits) (s .limitIs))
-
-other : Block
-other = record { number = 0; side = buy; price = 0; quantity = 0; runs = λ h. false }
 
 -- a bound that holds where a number is below it holds
 unless : (limit n : ℕ) → (n < limit → limit ≤ n) → limit ≤ n
@@ -347,9 +345,9 @@ module _ {tables : Tables} {left out : ℕ} {node : Node} {limit : ℕ} where
           let s = known .shown j inside in
           let could = taken-could day (known .prices) (known .hours) (d ++ t) (whole ∙ sym (known .counted)) law (ofHour from) (ofHour to)
           record { from = λ h c. in-reach k h (c .first) (c .last) .0; to = λ h c. in-reach k h (c .first) (c .last) .1 }
-          j other (omega (arith, known .counted)) set-bit in
+          j noBlock (omega (arith, known .counted)) set-bit in
           could-same known ph pl (fits-in .0) (fits-in .1) s
-          ∙ rw (block-at (day .blocks) j (s .block) _ other (s .next)) at could
+          ∙ rw (block-at (day .blocks) j (s .block) _ noBlock (s .next)) at could
         where
           fits-in : ((h : ℕ) → 1 ≤ h → h ≤ dayHours → ofHour from h ≤ lastPlace) × ((h : ℕ) → 1 ≤ h → h ≤ dayHours → ofHour to h ≤ lastPlace)
           fits-in = (
@@ -463,10 +461,10 @@ module _ (blocks : List ℕ) (count at out loss limit : ℕ) (places : List ℕ)
       }
 
   one-more : (moves : ℕ → Bool) (h i : ℕ) → 0 < i → i ≤ count →
-      added moves h (i - 1) ≡ when (moves (i - 1)) (rowAt blocks (i - 1) h) + added moves h i
+      added moves h (i - 1) ≡ when (moves (i - 1)) (rowQuantity blocks (i - 1) h) + added moves h i
   one-more moves h i = added-more blocks moves h count i
 
-  pub rest-next : (i : ℕ) (least free more freer : List ℕ) → RestTo i least free → at < i → ((h : ℕ) → rowAt blocks (i - 1) h ≤ mostAdded) →
+  pub rest-next : (i : ℕ) (least free more freer : List ℕ) → RestTo i least free → at < i → ((h : ℕ) → rowQuantity blocks (i - 1) h ≤ mostAdded) →
       AddedTo blocks (i - 1) (mustFrom blocks at out loss limit (i - 1)) (mayFrom blocks at out loss limit (i - 1)) least free more freer → RestTo (i - 1) more freer
   rest-next i least free more freer r pos few added =
       let sm = added .moreSize in
@@ -484,9 +482,9 @@ module _ (blocks : List ℕ) (count at out loss limit : ℕ) (places : List ℕ)
             omega (arith, m h x y, r .leastIs h x y, one-more (mustFrom blocks at out loss limit) h i (omega arith) (r .to));
         freeIs = λ h x y. omega (arith, f h x y, r .freeIs h x y, one-more (mayFrom blocks at out loss limit) h i (omega arith) (r .to));
         leastFits = rw n₁ (places-grow (at + (count - i)) least more sm (r .leastFits) (λ h x y.
-            omega (arith, m h x y, when-le (mustFrom blocks at out loss limit (i - 1)) (rowAt blocks (i - 1) h), few h)));
+            omega (arith, m h x y, when-le (mustFrom blocks at out loss limit (i - 1)) (rowQuantity blocks (i - 1) h), few h)));
         freeFits = rw n₂ (places-grow (count - i) free freer sf (r .freeFits) (λ h x y.
-            omega (arith, f h x y, when-le (mayFrom blocks at out loss limit (i - 1)) (rowAt blocks (i - 1) h), few h)));
+            omega (arith, f h x y, when-le (mayFrom blocks at out loss limit (i - 1)) (rowQuantity blocks (i - 1) h), few h)));
       }
 
   pub rest-all : (i : ℕ) (least free : List ℕ) → RestTo i least free → i ≤ at → count ≤ mostBlocks → RestOf blocks count at out loss limit places least free
@@ -571,7 +569,7 @@ module _ (blocks : List ℕ) (count at out : ℕ) (high low : List ℕ) where
       let z : at - at + k ≡ k = omega arith in
       rw (e, z) at (v .is k (omega arith))
 
--- the hours one after the other
+-- the hours one after the noBlock
 module _ (gap turn from to : List ℕ) where
   pub record LeastTo (h sum : ℕ) : Type 0 where
     pub inside : h ≤ dayHours

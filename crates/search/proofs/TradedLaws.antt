@@ -23,7 +23,7 @@ use Rattle.rules.proofs.ChainLaws.{prices-in}
 use Rattle.rules.proofs.DayLaws.{all-clear}
 use Rattle.rules.proofs.SetBits.{bits-at}
 use Rattle.pricing.specs.Curves.{TradedAt}
-use Rattle.search.specs.Search.{Small, ofHour, sideAt, rowAt, addedIn, sellsIn, buysIn, SetTrades, TradedIn, StepsSized, stepsAt}
+use Rattle.search.specs.Search.{Small, ofHour, sideAt, rowQuantity, addedIn, sellsIn, buysIn, SetTrades, HoursTraded, StepsSized, stepsAt}
 use Rattle.search.specs.Tables.{Tables}
 use Rattle.search.specs.Meaning.{Shown, Known, StepsAre}
 use Rattle.search.proofs.LeafLaws.{zeros, below-next, places-grow}
@@ -44,10 +44,10 @@ buys-row zero t q = refl
 buys-row (suc side) t q = rw (ne-eqb (suc side) 0 (omega arith)) (when-zero t)
 
 module _ {day : Day} {p : ℕ → ℕ} {blocks : List ℕ} {j : ℕ} (s : Shown day p blocks j) (h : ℕ) (a : 1 ≤ h) (b : h ≤ dayHours) where
-  pub sells-at : sells h (s .block) ≡ when (not (eqb (sideAt blocks j) 0)) (rowAt blocks j h)
+  pub sells-at : sells h (s .block) ≡ when (not (eqb (sideAt blocks j) 0)) (rowQuantity blocks j h)
   sells-at = rw (s .sideIs, s .rowIs h a b) (sells-row (sideAt blocks j) (s .block .runs h) (s .block .quantity))
 
-  pub buys-at : buys h (s .block) ≡ when (eqb (sideAt blocks j) 0) (rowAt blocks j h)
+  pub buys-at : buys h (s .block) ≡ when (eqb (sideAt blocks j) 0) (rowQuantity blocks j h)
   buys-at = rw (s .sideIs, s .rowIs h a b) (buys-row (sideAt blocks j) (s .block .runs h) (s .block .quantity))
 
 -- A SET'S BLOCKS in an hour, by their rows
@@ -109,7 +109,7 @@ price-positive day prices hours chosen law h c =
 pub traded-are : {day : Day} {p rest : ℕ → ℕ} {tables : Tables} → Known day p rest tables →
     {steps : ℕ → List Step} → StepsAre day steps → {chosen : ℕ} {d : List Bool} → length d ≡ tables .count → decisions (length d) chosen ≡ d →
     lawful day d ≡ true → {sales purchases : List ℕ} (prices quantities : List ℕ) → SetTrades (tables .blocks) (tables .count) chosen sales purchases →
-    ((h : ℕ) → 1 ≤ h → h ≤ dayHours → ofHour prices h ≡ setPrices day (taken (day .blocks) d) h) → TradedIn steps sales purchases prices quantities →
+    ((h : ℕ) → 1 ≤ h → h ≤ dayHours → ofHour prices h ≡ setPrices day (taken (day .blocks) d) h) → HoursTraded steps sales purchases prices quantities →
     (h : ℕ) → 1 ≤ h → h ≤ dayHours → ofHour quantities h ≡ traded day (taken (day .blocks) d) h
 unfolding traded
 traded-are {day} known same {chosen} {d} size is law prices quantities sets priced trades h a b =
@@ -123,7 +123,7 @@ traded-are {day} known same {chosen} {d} size is law prices quantities sets pric
 -- THE LOOPS
 -- one block more from the last on
 pub added-more : (blocks : List ℕ) (moves : ℕ → Bool) (h count i : ℕ) → 0 < i → i ≤ count →
-    addedIn blocks moves h (count - (i - 1)) (i - 1) ≡ when (moves (i - 1)) (rowAt blocks (i - 1) h) + addedIn blocks moves h (count - i) i
+    addedIn blocks moves h (count - (i - 1)) (i - 1) ≡ when (moves (i - 1)) (rowQuantity blocks (i - 1) h) + addedIn blocks moves h (count - i) i
 unfolding addedIn
 added-more blocks moves h count i pos le =
     let e : count - (i - 1) ≡ suc (count - i) = omega arith in
@@ -156,7 +156,7 @@ module _ (steps : ℕ → List Step) (sales purchases prices : List ℕ) where
             (rw (getD-set-same quantities h v 0 inside) is) (rw add-one at a);
       }
 
-  pub traded-all : (h : ℕ) (quantities : List ℕ) → TradedTo h quantities → dayHours ≤ h → TradedIn steps sales purchases prices quantities
+  pub traded-all : (h : ℕ) (quantities : List ℕ) → TradedTo h quantities → dayHours ≤ h → HoursTraded steps sales purchases prices quantities
   traded-all h quantities t k j a b =
       let e : h ≡ dayHours = omega (arith, t .inside) in
       let one : suc (j - 1) ≡ j = omega arith in
@@ -194,15 +194,15 @@ module _ (blocks : List ℕ) (count chosen : ℕ) where
 
   -- a list with block i - 1 added where a test passes
   abbrev AddedBy : ℕ → Bool → List ℕ → List ℕ → Type 0
-  AddedBy i test l r = (length r ≡ dayHours) × ((h : ℕ) → 1 ≤ h → h ≤ dayHours → ofHour r h ≡ ofHour l h + when test (rowAt blocks (i - 1) h))
+  AddedBy i test l r = (length r ≡ dayHours) × ((h : ℕ) → 1 ≤ h → h ≤ dayHours → ofHour r h ≡ ofHour l h + when test (rowQuantity blocks (i - 1) h))
 
-  grown : (i : ℕ) (test : Bool) (l r : List ℕ) → 0 < i → i ≤ count → ((h : ℕ) → rowAt blocks (i - 1) h ≤ mostAdded) → AddedBy i test l r →
+  grown : (i : ℕ) (test : Bool) (l r : List ℕ) → 0 < i → i ≤ count → ((h : ℕ) → rowQuantity blocks (i - 1) h ≤ mostAdded) → AddedBy i test l r →
       Small ((count - i) * mostAdded) l → Small ((count - (i - 1)) * mostAdded) r
   grown i test l r pos le few added small =
       let n : count - (i - 1) ≡ count - i + 1 = omega arith in
-      rw n (places-grow (count - i) l r (added .0) small (λ h a b. omega (arith, added .1 h a b, when-le test (rowAt blocks (i - 1) h), few h)))
+      rw n (places-grow (count - i) l r (added .0) small (λ h a b. omega (arith, added .1 h a b, when-le test (rowQuantity blocks (i - 1) h), few h)))
 
-  pub trades-next : (i : ℕ) (sales purchases sold bought : List ℕ) → TradesTo i sales purchases → 0 < i → ((h : ℕ) → rowAt blocks (i - 1) h ≤ mostAdded) →
+  pub trades-next : (i : ℕ) (sales purchases sold bought : List ℕ) → TradesTo i sales purchases → 0 < i → ((h : ℕ) → rowQuantity blocks (i - 1) h ≤ mostAdded) →
       AddedBy i (sellsIn blocks chosen (i - 1)) sales sold → AddedBy i (buysIn blocks chosen (i - 1)) purchases bought → TradesTo (i - 1) sold bought
   trades-next i sales purchases sold bought t pos few s b = record {
     inside = omega (arith, t .inside);

@@ -21,7 +21,7 @@ use Rattle.rules.proofs.LossLaws.{against, losses, lossOf}
 use Rattle.rules.proofs.LossSearchLaws as by-loss
 use Rattle.rules.proofs.PlaceLaws.{place, hourAt}
 use Rattle.rules.proofs.TwinLaws.{Ahead, InTurn}
-use Rattle.search.specs.Search.{Small, cell, ofHour, sideAt, hoursAt, limitAt, againstAt, gainAt, aheadAt, behindAt, rowAt, isOut}
+use Rattle.search.specs.Search.{Small, cell, ofHour, sideAt, hoursAt, limitAt, againstAt, gainAt, aheadAt, behindAt, rowQuantity, isOut}
 use Rattle.search.specs.Tables.{Tables}
 use Rattle.search.specs.declared.Day as code-day
 use Rattle.search.specs.declared.Best.{Best}
@@ -31,7 +31,7 @@ use Rattle.rules.specs.Hour.{when}
 -- SIZES, for safe arithmetic and indexing
 pub record BlocksSized (blocks : List ℕ) : Type 0 where
   pub columns : length blocks ≡ blockListSize
-  pub rowsFit : (i h : ℕ) → rowAt blocks i h ≤ mostAdded
+  pub rowsFit : (i h : ℕ) → rowQuantity blocks i h ≤ mostAdded
   pub twinsFit : (i : ℕ) → i < mostBlocks → (aheadAt blocks i ≤ mostBlocks) × (behindAt blocks i ≤ mostBlocks)
 
 pub record Sized (t : Tables) : Type 0 where
@@ -58,7 +58,7 @@ pub record Shown (day : Day) (p : ℕ → ℕ) (blocks : List ℕ) (j : ℕ) : T
   pub next : drop j (day .blocks) ≡ block ∷ drop (suc j) (day .blocks)
   pub sideIs : block .side ≡ sideFor (sideAt blocks j)
   pub runsIs : (h : ℕ) → block .runs h ≡ holdsHour (hoursAt blocks j) h
-  pub rowIs : (h : ℕ) → 1 ≤ h → h ≤ dayHours → rowAt blocks j h ≡ when (block .runs h) (block .quantity)
+  pub rowIs : (h : ℕ) → 1 ≤ h → h ≤ dayHours → rowQuantity blocks j h ≡ when (block .runs h) (block .quantity)
   pub limitIs : block .price * hourCount (day .hours) block ≡ limitAt blocks j
   pub againstIs : against (day .hours) p block ≡ againstAt blocks j
   pub gainIs : gain (day .hours) p block ≡ gainAt blocks j
@@ -160,13 +160,13 @@ pub record TakenTo (blocks : List ℕ) (at : ℕ) (node r : Node) : Type 0 where
   pub setIs : r .set ≡ node .set + 2 ^ at
   pub lossIs : r .loss ≡ node .loss + againstAt blocks at
   pub placesAre : (h : ℕ) → 1 ≤ h → h ≤ dayHours →
-      ofHour (r .places) h ≡ ofHour (node .places) h + when (not (eqb (sideAt blocks at) 0)) (rowAt blocks at h)
+      ofHour (r .places) h ≡ ofHour (node .places) h + when (not (eqb (sideAt blocks at) 0)) (rowQuantity blocks at h)
 
 pub record LeftTo (blocks : List ℕ) (at : ℕ) (node r : Node) : Type 0 where
   pub setIs : r .set ≡ node .set
   pub lossIs : r .loss ≡ node .loss + gainAt blocks at
   pub placesAre : (h : ℕ) → 1 ≤ h → h ≤ dayHours →
-      ofHour (r .places) h ≡ ofHour (node .places) h + when (eqb (sideAt blocks at) 0) (rowAt blocks at h)
+      ofHour (r .places) h ≡ ofHour (node .places) h + when (eqb (sideAt blocks at) 0) (rowQuantity blocks at h)
 
 -- THE PUBLISHED SET, with its day
 abbrev pub FoundIn : (t : Tables) (steps : ℕ → List Step) (r : Best) → Type 0

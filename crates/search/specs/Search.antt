@@ -46,13 +46,13 @@ abbrev pub gapsTurn : List ℕ → List ℕ
 gapsTurn hours = take dayHours (drop turnColumn hours)
 
 -- Each hour clears at its place, the place lying from the hour's first to its last.
-abbrev pub InRange : List ℕ → List ℕ → List ℕ → Type 0
-InRange first last places = (h : ℕ) → 1 ≤ h → h ≤ dayHours → (ofHour first h ≤ ofHour places h) × (ofHour places h ≤ ofHour last h)
+abbrev pub PlacesClear : List ℕ → List ℕ → List ℕ → Type 0
+PlacesClear first last places = (h : ℕ) → 1 ≤ h → h ≤ dayHours → (ofHour first h ≤ ofHour places h) × (ofHour places h ≤ ofHour last h)
 
 -- The gaps at the places: their sum where every place is in range.
 pub record GapsOf (gap first last places : List ℕ) (clears : Bool) (sum : ℕ) : Type 0 where
-  pub inRange : clears ≡ true → InRange first last places
-  pub notInRange : clears ≡ false → InRange first last places → ⊥
+  pub inRange : clears ≡ true → PlacesClear first last places
+  pub notInRange : clears ≡ false → PlacesClear first last places → ⊥
   pub sumIs : clears ≡ true → sum ≡ sumTo dayHours (λ h. cell gap h (ofHour places h))
   pub fits : sum ≤ mostGaps
 
@@ -88,8 +88,8 @@ abbrev pub behindAt : List ℕ → ℕ → ℕ
 behindAt blocks i = getD blocks (behindColumn + i) 0
 
 -- What block i trades in hour h.
-abbrev pub rowAt : List ℕ → ℕ → ℕ → ℕ
-rowAt blocks i h = getD blocks (blockRows + dayHours * i + (h - 1)) 0
+abbrev pub rowQuantity : List ℕ → ℕ → ℕ → ℕ
+rowQuantity blocks i h = getD blocks (blockRows + dayHours * i + (h - 1)) 0
 
 -- A twin that is taken before block i is left out: block i is not taken. One that is taken after it is taken: block i is taken too.
 unfoldable pub isBarred : (blocks : List ℕ) (i set : ℕ) → Bool
@@ -150,14 +150,14 @@ mayFrom blocks j out loss limit i = mayMove blocks (isOut out (i - j)) loss limi
 -- The sum over the next n blocks from number i on, of those that move, of what each trades in hour h.
 unfoldable pub addedIn : (blocks : List ℕ) → (ℕ → Bool) → ℕ → ℕ → ℕ → ℕ
 addedIn blocks moves h zero i = 0
-addedIn blocks moves h (suc n) i = when (moves i) (rowAt blocks i h) + addedIn blocks moves h n (suc i)
+addedIn blocks moves h (suc n) i = when (moves i) (rowQuantity blocks i h) + addedIn blocks moves h n (suc i)
 
 -- The least places and what is free with block i more, each where the block moves it.
 pub record AddedTo (blocks : List ℕ) (i : ℕ) (must may : Bool) (least free more freer : List ℕ) : Type 0 where
   pub moreSize : length more ≡ dayHours
   pub freerSize : length freer ≡ dayHours
-  pub moreIs : (h : ℕ) → 1 ≤ h → h ≤ dayHours → ofHour more h ≡ ofHour least h + when must (rowAt blocks i h)
-  pub freerIs : (h : ℕ) → 1 ≤ h → h ≤ dayHours → ofHour freer h ≡ ofHour free h + when may (rowAt blocks i h)
+  pub moreIs : (h : ℕ) → 1 ≤ h → h ≤ dayHours → ofHour more h ≡ ofHour least h + when must (rowQuantity blocks i h)
+  pub freerIs : (h : ℕ) → 1 ≤ h → h ≤ dayHours → ofHour freer h ≡ ofHour free h + when may (rowQuantity blocks i h)
 
 -- The least places of the hours, and what the blocks from number j on are free to add.
 pub record RestOf (blocks : List ℕ) (count j out loss limit : ℕ) (places least free : List ℕ) : Type 0 where
@@ -214,12 +214,12 @@ abbrev pub FirstSmall : ℕ → ℕ → List ℕ → Type 0
 FirstSmall n m l = (i : ℕ) → i < n → getD l i 0 ≤ m
 
 -- The part of a column that hour h has.
-abbrev pub partOf : List ℕ → List ℕ → ℕ → List ℕ
-partOf ends column h = slice (getD ends (h - 1) 0) (getD ends h 0) column
+abbrev pub hourSlice : List ℕ → List ℕ → ℕ → List ℕ
+hourSlice ends column h = slice (getD ends (h - 1) 0) (getD ends h 0) column
 
 -- The steps of hour h.
 unfoldable pub stepsAt : (ends sides prices quantities : List ℕ) → ℕ → List Step
-stepsAt ends sides prices quantities h = stepsFrom h (partOf ends sides h) (partOf ends prices h) (partOf ends quantities h)
+stepsAt ends sides prices quantities h = stepsFrom h (hourSlice ends sides h) (hourSlice ends prices h) (hourSlice ends quantities h)
 
 -- What is asked of the columns, for safe arithmetic and indexing.
 pub record StepsSized (ends sides prices quantities : List ℕ) : Type 0 where
@@ -243,7 +243,7 @@ pub record PartSized (sides prices quantities : List ℕ) (from to : ℕ) : Type
   pub quantitiesFit : FirstSmall to mostStep quantities
 
 -- What is traded in each hour at its price: what is bought at or above it, or sold at or below it, the lesser, each with the blocks' own.
-abbrev pub TradedIn : (steps : ℕ → List Step) (sales purchases prices traded : List ℕ) → Type 0
-TradedIn steps sales purchases prices traded =
+abbrev pub HoursTraded : (steps : ℕ → List Step) (sales purchases prices traded : List ℕ) → Type 0
+HoursTraded steps sales purchases prices traded =
     (h : ℕ) → 1 ≤ h → h ≤ dayHours → 1 ≤ ofHour prices h →
     ofHour traded h ≡ min (buysFrom (ofHour prices h) (steps h) + ofHour purchases h) (sellsTo (ofHour prices h) (steps h) + ofHour sales h)

@@ -8,7 +8,7 @@ ghost use Rattle.rules.specs.Hour.{when};
 ghost use Rattle.records.specs.Records.{holdsHour};
 ghost use mathlib.Core.Bool.{cond};
 ghost use Rattle.pricing.specs.Curves.{TradedAt};
-ghost use Rattle.search.specs.Search.{Small, DayPrices, sumOfHours, ofHour, GapsOf, PricesOf, keepsAt, allKeep, isOut, isRuledOut, mustMove, mayMove, AddedTo, isBarred, isDue, isForced, rowAt, RestOf, ReachOf, ReachedBy, leastGaps, clearsFirst, clearsLast, SetTrades, TradedIn, StepsSized, PartSized, stepsAt};
+ghost use Rattle.search.specs.Search.{Small, DayPrices, sumOfHours, ofHour, GapsOf, PricesOf, keepsAt, allKeep, isOut, isRuledOut, mustMove, mayMove, AddedTo, isBarred, isDue, isForced, rowQuantity, RestOf, ReachOf, ReachedBy, leastGaps, clearsFirst, clearsLast, SetTrades, HoursTraded, StepsSized, PartSized, stepsAt};
 ghost use Rattle.search.specs.Search as numbers;
 ghost use Rattle.rules.specs.Orders.{maxPrice};
 ghost use Rattle.search.specs.Layout.{dayHours, mostBlocks, lastPlace, mostLimit, mostAdded, mostPlace, mostLoss, mostGaps, tableSize, hourListSize, blockListSize};
@@ -182,7 +182,7 @@ fn number_of(test: bool) -> u32
 // The places with what block i trades in each hour more, where the test passes.
 fn moved_where(test: bool, places: [u32; HOURS], blocks: &[u32], i: usize) -> [u32; HOURS]
     requires { ⌜ BlocksSized (now blocks) × (i < mostBlocks) × Small mostPlace places ⌝ }
-    ensures { λ r. ⌜ (length r ≡ dayHours) × ((h : ℕ) → 1 ≤ h → h ≤ dayHours → getD r (h - 1) 0 ≡ getD places (h - 1) 0 + when test (rowAt (now (blocks .entry)) i h)) ⌝ }
+    ensures { λ r. ⌜ (length r ≡ dayHours) × ((h : ℕ) → 1 ≤ h → h ≤ dayHours → getD r (h - 1) 0 ≡ getD places (h - 1) 0 + when test (rowQuantity (now (blocks .entry)) i h)) ⌝ }
 {
     let times = number_of(test);
     let row = BLOCK_ROWS + HOURS * i;
@@ -245,7 +245,7 @@ fn hour_traded(
 }
 
 // What is traded in each hour at its price.
-fn traded_in(
+fn hours_traded(
     sides: &[u8],
     prices: &[u32],
     quantities: &[u32],
@@ -254,7 +254,7 @@ fn traded_in(
     middles: [u32; HOURS],
 ) -> [u32; HOURS]
     requires { ⌜ (length (now ends) ≡ dayHours + 1) × StepsSized (now ends) (now sides) (now prices) (now quantities) × Small mostPlace (trades .buys) ⌝ }
-    ensures { λ r. ⌜ TradedIn (stepsAt (now (ends .entry)) (now (sides .entry)) (now (prices .entry)) (now (quantities .entry))) (trades .sales) (trades .buys) middles r ⌝ }
+    ensures { λ r. ⌜ HoursTraded (stepsAt (now (ends .entry)) (now (sides .entry)) (now (prices .entry)) (now (quantities .entry))) (trades .sales) (trades .buys) middles r ⌝ }
 {
     let sales = trades.sales;
     let buys = trades.buys;
@@ -309,7 +309,7 @@ fn decide(
         return best;
     }
     let trades = set_trades(blocks, count as usize, node.set);
-    let traded = traded_in(sides, prices, quantities, ends, trades, middles);
+    let traded = hours_traded(sides, prices, quantities, ends, trades, middles);
     let day = Day {
         prices: middles,
         quantities: traded,
@@ -425,7 +425,7 @@ pub struct Rest {
 }
 
 // The least places and what is free with block i more, where it must move them on, or may.
-fn with_block(
+fn with_moves(
     least: [u32; HOURS],
     free: [u32; HOURS],
     moves: Moves,
@@ -472,7 +472,7 @@ fn rest_of(
     while at < i {
         i -= 1;
         let moves = moves_of(blocks, i, is_out(out, i - at), loss, limit);
-        let more = with_block(least, free, moves, blocks, i);
+        let more = with_moves(least, free, moves, blocks, i);
         least = more.least;
         free = more.free;
     }
@@ -505,21 +505,21 @@ fn reach_of(first: &[u32], last: &[u32], least: [u32; HOURS], free: [u32; HOURS]
     Reach { balances, from, to }
 }
 
-// What the node reaches with its undecided blocks, from number at on.
+// What a branch at these places reaches with its undecided blocks, from number at on.
 fn reach_at(
     hours: &[u32],
     blocks: &[u32],
     count: usize,
     at: usize,
     out: u32,
-    node: Node,
+    loss: u64,
     limit: u64,
+    places: [u32; HOURS],
 ) -> Reach
-    requires { ⌜ BlocksSized (now blocks) × (length (now hours) ≡ hourListSize) × (count ≤ mostBlocks) × (at ≤ count) × (node .loss ≤ mostLoss) × Small (at * mostAdded) (node .places) ⌝ }
-    ensures { λ r. ⌜ ReachedBy (clearsFirst (now (hours .entry))) (clearsLast (now (hours .entry))) (now (blocks .entry)) count at out (node .loss) limit (node .places) (r .balances) (r .from) (r .to) ⌝ }
+    requires { ⌜ BlocksSized (now blocks) × (length (now hours) ≡ hourListSize) × (count ≤ mostBlocks) × (at ≤ count) × (loss ≤ mostLoss) × Small (at * mostAdded) places ⌝ }
+    ensures { λ r. ⌜ ReachedBy (clearsFirst (now (hours .entry))) (clearsLast (now (hours .entry))) (now (blocks .entry)) count at out loss limit places (r .balances) (r .from) (r .to) ⌝ }
 {
-    let places = node.places;
-    let rest = rest_of(blocks, count, at, out, node.loss, limit, places);
+    let rest = rest_of(blocks, count, at, out, loss, limit, places);
     let least = rest.least;
     let free = rest.free;
     reach_of(&hours[FIRST..LAST], &hours[LAST..TURN], least, free)
@@ -597,7 +597,17 @@ fn judge(
             out: out,
         };
     }
-    let reach = reach_at(hours, blocks, count as usize, at, out, node, limit);
+    let places = node.places;
+    let reach = reach_at(
+        hours,
+        blocks,
+        count as usize,
+        at,
+        out,
+        node.loss,
+        limit,
+        places,
+    );
     if !reach.balances {
         return drop;
     }

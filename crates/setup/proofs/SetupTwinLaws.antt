@@ -18,7 +18,7 @@ use Rattle.rules.specs.Orders.{Side, buy, sell}
 use Rattle.rules.specs.Hour.{bySide, when}
 use Rattle.rules.specs.Execution.{testSide}
 use Rattle.rules.proofs.Tests.{by-test, both}
-use Rattle.search.specs.Search.{clearsFirst, clearsLast, gapsTurn, sideAt, hoursAt, quantityAt, limitAt, aheadAt, behindAt, rowAt}
+use Rattle.search.specs.Search.{clearsFirst, clearsLast, gapsTurn, sideAt, hoursAt, quantityAt, limitAt, aheadAt, behindAt, rowQuantity}
 use Rattle.search.specs.Meaning.{BlocksSized}
 use Rattle.setup.specs.Setup.{
   Written,
@@ -328,7 +328,7 @@ no-worse-false side limit other = at (sideFor side)
 -- THE WHOLE LIST: the columns, rows and twins of the first count blocks, all said of it alone
 pub record Completed (sides hours prices quantities root : List ℕ) (count : ℕ) (blocks : List ℕ) : Type 0 where
   pub columns : (j : ℕ) → j < count → Written sides hours prices quantities root blocks j
-  pub row : (j h : ℕ) → j < count → 1 ≤ h → h ≤ dayHours → rowAt blocks j h ≡ when (holdsHour (hoursAt blocks j) h) (quantityAt blocks j)
+  pub row : (j h : ℕ) → j < count → 1 ≤ h → h ≤ dayHours → rowQuantity blocks j h ≡ when (holdsHour (hoursAt blocks j) h) (quantityAt blocks j)
   pub ahead : (j : ℕ) → j < count → TwinOf blocks j true (aheadAt blocks j)
   pub behind : (j : ℕ) → j < count → TwinOf blocks j false (behindAt blocks j)
 

@@ -14,7 +14,7 @@ use Rattle.rules.specs.Execution.{testSide}
 use Rattle.tables.specs.Tables.{PriceTable, AllOf, ClearRange, GapTable}
 use Rattle.rules.specs.Orders.{maxPrice}
 use Rattle.search.specs.Layout.{dayHours, mostBlocks, mostQuantity, mostSteps, lastPlace, rowSize, hoursColumn, quantityColumn, limitColumn, againstColumn, gainColumn, aheadColumn, blockRows, blockListSize}
-use Rattle.search.specs.Search.{Small, FirstSmall, sideAt, hoursAt, quantityAt, limitAt, againstAt, gainAt, aheadAt, behindAt, rowAt, sumOfHours}
+use Rattle.search.specs.Search.{Small, FirstSmall, sideAt, hoursAt, quantityAt, limitAt, againstAt, gainAt, aheadAt, behindAt, rowQuantity, sumOfHours}
 use Rattle.search.specs.Tables.{Tables}
 use Rattle.search.specs.Meaning.{Known, Turning}
 
@@ -137,7 +137,7 @@ pub record RowsEmpty (blocks : List ℕ) : Type 0 where
 pub record RowsWritten (count : ℕ) (before blocks : List ℕ) : Type 0 where
   pub size : length blocks ≡ blockListSize
   pub same : (k : ℕ) → k < blockRows → getD blocks k 0 ≡ getD before k 0
-  pub row : (j h : ℕ) → j < count → 1 ≤ h → h ≤ dayHours → rowAt blocks j h ≡ when (holdsHour (hoursAt before j) h) (quantityAt before j)
+  pub row : (j h : ℕ) → j < count → 1 ≤ h → h ≤ dayHours → rowQuantity blocks j h ≡ when (holdsHour (hoursAt before j) h) (quantityAt before j)
   pub fits : (k : ℕ) → blockRows ≤ k → getD blocks k 0 ≤ mostQuantity
 
 -- Blocks a and b are twins: of the same side, hours and quantity.

@@ -94,8 +94,8 @@ set-trades-requires c κs =
     let s = start (gaps (clear (priced (c .before) .before)) .before) in
     (s .pre .0 .blocksFit, s .pre .0 .few)
 
-traded-in-requires : tie.Need-traded-in-requires
-traded-in-requires c κs =
+hours-traded-requires : tie.Need-hours-traded-requires
+hours-traded-requires c κs =
     let s = start (gaps (clear (priced (c .before .before) .before)) .before) in
     (s .pre .2, s .pre .3, c .set-trades .ensures .purchasesFit)
 
@@ -107,7 +107,7 @@ returns-4 c =
     let clears = clear less in
     decided-better (gaps clears .gaps-at .ensures) (not-false _ (clears .if1 .left)) (p .prices-at .ensures)
     (sym (kept .before .keeps-limits .ensures) ∙ not-false _ (kept .if3 .left)) (less .if2 .left) (c .before .set-trades .ensures)
-    (c .traded-in .ensures)
+    (c .hours-traded .ensures)
 
 pub decide-spec : {M : Type 1} → statement M
 decide-spec =
@@ -129,5 +129,5 @@ decide-spec =
     keeps-limits-requires
     returns-3
     set-trades-requires
-    traded-in-requires
+    hours-traded-requires
     returns-4)

@@ -3,7 +3,7 @@ use Prim.Native.Nat.{_+_, _-_, _*_}
 use lib.ListN.{getD}
 use native.Mathlib.Omega.{arith}
 use Rattle.search.specs.Layout.{dayHours, rowSize}
-use Rattle.search.proofs.LeafLaws.{GapsTo, gaps-start, gaps-next, place-fits, gaps-out, gaps-all}
+use Rattle.search.proofs.LeafLaws.{GapsTo, gaps-start, gaps-next, passed-fits, gaps-out, gaps-all}
 use borrow.Author.Needs.{needs}
 use Rattle.search.proofs.gaps_at.Statement.{statement}
 use Rattle.search.proofs.gaps_at.Tie as tie
@@ -49,21 +49,21 @@ add-cell c =
     let a = c .before .before .before .before in
     let s = a .before in
     let g = s .args in
-    omega (arith, s .pre .0, place-fits (g .gap .now) (g .first .now) (g .last .now) (g .t4) (a .loop .h) (s .pre .3) (c .if1 .left))
+    omega (arith, s .pre .0, passed-fits (g .gap .now) (g .first .now) (g .last .now) (g .t4) (a .loop .h) (s .pre .3) (c .if1 .left))
 
 mul-cell-2 : tie.Need-mul-cell-2 Inv-loop μ-loop
 mul-cell-2 c =
     let a = c .before .before .before .before in
     let s = a .before in
     let g = s .args in
-    omega (arith, s .pre .0, place-fits (g .gap .now) (g .first .now) (g .last .now) (g .t4) (a .loop .h) (s .pre .3) (c .if1 .left))
+    omega (arith, s .pre .0, passed-fits (g .gap .now) (g .first .now) (g .last .now) (g .t4) (a .loop .h) (s .pre .3) (c .if1 .left))
 
 shared-slice-read-cell : tie.Need-shared-slice-read-cell Inv-loop μ-loop
 shared-slice-read-cell c =
     let a = c .before .before .before .before .before in
     let s = a .before in
     let g = s .args in
-    omega (arith, s .pre .0, place-fits (g .gap .now) (g .first .now) (g .last .now) (g .t4) (a .loop .h) (s .pre .3) (c .before .if1 .left))
+    omega (arith, s .pre .0, passed-fits (g .gap .now) (g .first .now) (g .last .now) (g .t4) (a .loop .h) (s .pre .3) (c .before .if1 .left))
 
 cast-sum : tie.Need-cast-sum Inv-loop μ-loop
 cast-sum c = omega (arith, c .shared-slice-known3 .given (c .before .before .before .before .before .loop .h * rowSize + getD (c .before .before .before .before .before .before .args .t4) (c .before .before .before .before .before .loop .h) 0))

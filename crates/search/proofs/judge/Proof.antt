@@ -23,8 +23,8 @@ use Rattle.search.proofs.judge.Tie as tie
 
 -- THE STATES on the way: the start behind the places within reach, these behind an hour's balance, that behind the least gaps, these behind the prices
 -- within reach, these behind the limits
-abbrev start : tie.Else2 → tie.Start
-start c = c .before .before .before .before .before .before .before .before
+abbrev start : tie.After-places → tie.Start
+start c = c .before .before .before .before .before .before .before .before .before
 
 abbrev reached : tie.Else3 → tie.After-reach-at
 reached c = c .before .before

@@ -29,8 +29,8 @@ moves-of-requires c κs =
     let s = c .before .before .before .before in
     (s .pre .0, omega (arith, s .pre .1, c .before .before .loop .inv .to), s .pre .3)
 
-with-block-requires : tie.Need-with-block-requires Inv-loop μ-loop
-with-block-requires c κs =
+with-moves-requires : tie.Need-with-moves-requires Inv-loop μ-loop
+with-moves-requires c κs =
     let v = c .before .before .before .loop in
     let s = c .before .before .before .before .before in (
       s .pre .0,
@@ -48,7 +48,7 @@ loop-again c =
     let s = c .before .before .before .before .before .before .before .before in
     let moves = rw (c .before .before .before .before .is-out .ensures) at (c .before .before .before .moves-of .ensures) in
     rest-next _ _ _ _ _ _ _ _ _ _ _ _ (v .inv) (c .before .before .before .before .before .loop-test .taken) (s .pre .0 .rowsFit (v .i - 1))
-    (rw (moves .0, moves .1) at (c .before .before .with-block .ensures))
+    (rw (moves .0, moves .1) at (c .before .before .with-moves .ensures))
 
 returns : tie.Need-returns Inv-loop μ-loop
 returns c = rest-all _ _ _ _ _ _ _ _ _ _ (c .before .loop .inv) (c .loop-test .left) (c .before .before .before .pre .1)
@@ -64,7 +64,7 @@ rest-of-spec =
     sub-is-out
     is-out-requires
     moves-of-requires
-    with-block-requires
+    with-moves-requires
     loop-less
     loop-again
     returns)

@@ -1,4 +1,4 @@
--- `search::with_block` meets its contract: the hours before this one have the row added to either list. Assumes nothing.
+-- `search::with_moves` meets its contract: the hours before this one have the row added to either list. Assumes nothing.
 use Prim.Native.Nat.{ℕ, suc, _+_, _-_, _*_, _≤_}
 use mathlib.Core.Bool.{Bool, cond}
 use mathlib.Core.Path.{_≡_}
@@ -8,8 +8,8 @@ use native.Mathlib.Numerals.{sub-one}
 use Rattle.search.specs.Layout.{blockRows, dayHours, mostAdded}
 use Rattle.search.proofs.LeafLaws.{times-le, RowTo, row-start, row-next, row-all}
 use borrow.Author.Needs.{needs}
-use Rattle.search.proofs.with_block.Statement.{statement}
-use Rattle.search.proofs.with_block.Tie as tie
+use Rattle.search.proofs.with_moves.Statement.{statement}
+use Rattle.search.proofs.with_moves.Tie as tie
 
 abbrev Inv-loop : tie.InvT-loop
 Inv-loop blocks i must may row more₀ freer₀ h₀ more freer h = RowTo more₀ blocks i must h more × RowTo freer₀ blocks i may h freer
@@ -113,8 +113,8 @@ returns c =
       freerIs = row-all (s .args .free) (s .args .blocks .now) (s .args .i) _ (s .args .moves .may) (c .before .before .number-of2 .ensures) _ _ (v .inv .1) k;
     }
 
-pub with-block-spec : {M : Type 1} → statement M
-with-block-spec =
+pub with-moves-spec : {M : Type 1} → statement M
+with-moves-spec =
     tie.close
     (tie.spec
     Inv-loop

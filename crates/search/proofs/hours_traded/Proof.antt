@@ -1,4 +1,4 @@
--- `search::traded_in` meets its contract: what is traded in the hours before h. Assumes nothing.
+-- `search::hours_traded` meets its contract: what is traded in the hours before h. Assumes nothing.
 use Prim.Native.Nat.{_+_, _-_}
 use native.Mathlib.Omega.{arith}
 use Rattle.search.specs.Layout.{dayHours}
@@ -6,10 +6,10 @@ use Rattle.search.specs.Search.{stepsAt}
 use Rattle.search.proofs.StepLaws.{hour-part}
 use Rattle.search.proofs.TradedLaws.{TradedTo, traded-start, traded-next, traded-all, hour-of-columns}
 use borrow.Author.Needs.{needs}
-use Rattle.search.proofs.traded_in.Statement.{statement}
-use Rattle.search.proofs.traded_in.Tie as tie
-use Rattle.search.proofs.traded_in.Reads as reads
-use Rattle.search.proofs.traded_in.Lts as lts
+use Rattle.search.proofs.hours_traded.Statement.{statement}
+use Rattle.search.proofs.hours_traded.Tie as tie
+use Rattle.search.proofs.hours_traded.Reads as reads
+use Rattle.search.proofs.hours_traded.Lts as lts
 use Rattle.search.proofs.hour_traded.Reads as hour-traded-reads
 
 abbrev Inv-loop : tie.InvT-loop
@@ -88,8 +88,8 @@ loop-again c =
 returns : tie.Need-returns Inv-loop μ-loop
 returns c = traded-all _ _ _ _ _ _ (c .before .loop .inv) (c .loop-test .left)
 
-pub traded-in-spec : {M : Type 1} → statement M
-traded-in-spec =
+pub hours-traded-spec : {M : Type 1} → statement M
+hours-traded-spec =
     tie.close
     (tie.spec
     Inv-loop
