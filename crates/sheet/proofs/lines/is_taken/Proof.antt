@@ -15,7 +15,7 @@ cast-result c = search needs
 
 returns : tie.Need-returns
 unfolding takenAt
-returns c = rw (c .before .before .row-in .ensures, c .before .block-quantity .ensures)
+returns c = rw (c .before .row-in .ensures, c .block-quantity .ensures)
 
 pub is-taken-spec : {M : Type 1} → statement M
 is-taken-spec =
