@@ -6,10 +6,10 @@ use mathlib.Core.List.{List, [], _∷_}
 use Rattle.records.specs.Bytes.{u16At, u24At, u32At, nonzero}
 use Rattle.book.specs.Tests.{within, someBelow, someIn, countIn}
 use Rattle.rules.specs.Orders.{limits}
-use Rattle.records.specs.Records.{stepAt, blockAt, recordAt, hourCount}
-use Rattle.book.specs.Chains.{chainFrom}
-use Rattle.book.specs.Refusals.{wrongSize, wrongHead, misplaced, broken, brokenChain, stepFits, blockFits, stepInRange, blockInRange}
-use Rattle.book.specs.Refusals.{recordInRange, outOfRange, wrongField, stray, strayRecord, ownedBy, tooManyOf, tooManyBlocks, firstOf, ownCauses, refusal}
+use Rattle.records.specs.Records.{stepAt, blockAt, recordAt, hoursSet}
+use Rattle.book.specs.Chains.{chainFrom, chains, isOn, stepOrder, blockOrder}
+use Rattle.book.specs.Refusals.{wrongSize, wrongHead, misplaced, broken, brokenOn, brokenChain, stepFits, blockFits, stepInRange, blockInRange}
+use Rattle.book.specs.Refusals.{recordInRange, outOfRange, wrongFieldOn, wrongField, stray, strayRecord, ownedBy, tooManyOf, tooManyBlocks, firstCause, ownCauses, refusal}
 use Rattle.book.specs.Answers.{reading}
 use Rattle.book.specs.declared.Reading.the-variants as reading-of
 
@@ -49,16 +49,16 @@ leftOver =
     ∷ []
 
 -- What reading each of them answers
-pub record Decided : Type 0 where
+pub record SmallBooks : Type 0 where
   pub head : reading headAlone ≡ reading-of.Accepted 0 0
   pub orders : reading stepAndBlock ≡ reading-of.Accepted 1 1
   pub loop : reading ownNext ≡ reading-of.Refused 3
   pub two : reading bothCauses ≡ reading-of.Refused 3
   pub left : reading leftOver ≡ reading-of.Refused 5
 
-pub decided : Decided
+pub decided : SmallBooks
 unfolding
-    headAlone stepAndBlock ownNext bothCauses leftOver u16At u24At u32At nonzero within someBelow someIn countIn limits stepAt blockAt recordAt hourCount
-    chainFrom wrongSize wrongHead misplaced broken brokenChain stepFits blockFits stepInRange blockInRange recordInRange outOfRange wrongField stray
-    strayRecord ownedBy tooManyOf tooManyBlocks firstOf ownCauses refusal reading
+    headAlone stepAndBlock ownNext bothCauses leftOver u16At u24At u32At nonzero within someBelow someIn countIn limits stepAt blockAt recordAt hoursSet
+    chainFrom chains isOn stepOrder blockOrder wrongSize wrongHead misplaced broken brokenOn brokenChain stepFits blockFits stepInRange blockInRange
+    recordInRange outOfRange wrongFieldOn wrongField stray strayRecord ownedBy tooManyOf tooManyBlocks firstCause ownCauses refusal reading
 decided = record { head = refl; orders = refl; loop = refl; two = refl; left = refl }

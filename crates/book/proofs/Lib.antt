@@ -2,6 +2,7 @@
 pub mod Laws
 pub mod Members
 pub mod Distinct
+pub mod Surveys
 pub mod Refused
 pub mod Accepted
 pub mod Cases

@@ -51,7 +51,7 @@ each-place P (x ∷ l) zero d h g = h .0
 each-place P (x ∷ l) (suc j) d h g = each-place P l j d (h .1) (omega arith)
 
 -- A test that no member passes
-pub none-in : (l : List ℕ) (test : ℕ → Bool) → someIn l test ≡ false → Each (λ i. test i ≡ false) l
+pub none-in : {A : Type 0} (l : List A) (test : A → Bool) → someIn l test ≡ false → Each (λ i. test i ≡ false) l
 unfolding someIn
 none-in [] test e = tt
 none-in (x ∷ l) test e = (or-left (test x) _ e, none-in l test (or-right (test x) _ e))

@@ -5,18 +5,23 @@ use mathlib.Core.Path.{_≡_, refl, ap, sym, _∙_}
 use mathlib.Core.List.{List, [], _∷_, _++_}
 use mathlib.Core.Bool.{Bool, true, false, cond, not, _||_, _&&_, and-false}
 use native.Mathlib.Omega.{arith}
-use borrow.Author.Tests.{eq-eqb, ne-eqb, eqb-true, leb-true, not-false}
+use borrow.Author.Tests.{eq-eqb, ne-eqb, eqb-true, eqb-false, leb-true, not-false}
 use lib.Dec.{eqb, leb, ltb}
 use lib.ListN.{length}
-use Rattle.book.specs.Tests.{within, someIn}
+use Rattle.book.specs.Tests.{within, someBelow}
+use Rattle.records.specs.Layout.{recordSize}
 use Rattle.records.specs.Records.{recordCount}
-use Rattle.book.specs.Chains.{stepChain, blockChain}
-use Rattle.book.specs.Refusals.{wrongSize, wrongHead, brokenChain, outOfRange, wrongField, strayRecord, tooManyBlocks}
-use Rattle.book.specs.Refusals.{firstOf, ownCauses, refusal}
+use Rattle.book.specs.Bounds.{mostRecords, portfolioNumbers, mostBlocks}
+use Rattle.book.specs.Chains.{stepOrder, blockOrder}
+use Rattle.book.specs.Refusals.{wrongSize, wrongHead, brokenOn, brokenChain, wrongFieldOn, wrongField, strayRecord, tooManyOf, tooManyBlocks}
+use Rattle.book.specs.Refusals.{firstCause, ownCauses, refusal}
+use Rattle.book.specs.Passes.{surveyed, nextFound}
 use Rattle.book.specs.Answers.{reading, numberOf}
+use Rattle.book.specs.declared.Chain.the-variants as chain-of
+use Rattle.book.specs.declared.Surveyed.{Surveyed}
 use Rattle.book.specs.declared.Reading.the-variants as reading-of
 use Rattle.book.proofs.Laws.{or-right, and-left, and-right}
-use Rattle.book.proofs.Distinct.{stray-short}
+use Rattle.book.proofs.Distinct.{on-some, stray-short}
 
 -- A number within its bounds
 pub bounds : (low x high : ℕ) → within low x high ≡ true → (low ≤ x) × (x ≤ high)
@@ -24,46 +29,96 @@ unfolding within
 bounds low x high e = (leb-true _ _ (and-left (leb low x) _ e), leb-true _ _ (and-right (leb low x) _ e))
 
 -- Without cause 1, R is from 1 to 2,048
-pub count-bounds : (b : List ℕ) → wrongSize b ≡ false → (1 ≤ recordCount b) × (recordCount b ≤ 2048)
+pub count-bounds : (b : List ℕ) → wrongSize b ≡ false → (1 ≤ recordCount b) × (recordCount b ≤ mostRecords)
 unfolding wrongSize
 count-bounds b e =
-    bounds 1 (recordCount b) 2048
-    (not-false _ (or-right (not (eqb (length b) (16 * recordCount b)) || ltb (length b) 16) _ e))
+    bounds 1 (recordCount b) mostRecords
+    (not-false _ (or-right (not (eqb (length b) (recordSize * recordCount b)) || ltb (length b) recordSize) _ e))
 
--- Cause 1 comes first
+-- THE CAUSES ONE AFTER ANOTHER
+-- A book's number, where the causes looked for gave `found` (0 where none holds) and those of `rest` are still to be looked for
+unfoldable pub Left : List ℕ → ℕ → List (Bool × ℕ) → Type 0
+Left b found rest = refusal b ≡ cond (eqb found 0) (firstCause rest) found
+
+-- One cause more. The test for it has to be right only where none was found before
+pub one-cause : (b : List ℕ) (found next number : ℕ) (test cause : Bool) (rest : List (Bool × ℕ)) → 0 < number
+    → Left b found ((cause, number) ∷ rest) → (found ≡ 0 → test ≡ cause) → next ≡ nextFound found test number → Left b next rest
+unfolding firstCause nextFound Left
+one-cause b found next number test cause rest p left agree e = left ∙ rw e (at (eqb found 0) refl)
+  where
+    holds : (t : Bool) → _≡_ {A = ℕ} (cond t number (firstCause rest)) (cond (eqb (cond t number 0) 0) (firstCause rest) (cond t number 0))
+    holds true = rw (ne-eqb number 0 (λ w. omega arith))
+    holds false = refl
+
+    at : (none : Bool) → eqb found 0 ≡ none
+        → _≡_ {A = ℕ} (cond none (cond cause number (firstCause rest)) found)
+        (cond (eqb (cond none (cond test number 0) found) 0) (firstCause rest) (cond none (cond test number 0) found))
+    at true f = rw (agree (eqb-true found 0 f)) (holds cause)
+    at false f = rw f
+
+-- After the last cause what was found is the book's number
+pub after-all : (b : List ℕ) (found : ℕ) → Left b found [] → found ≡ refusal b
+unfolding firstCause Left
+after-all b found left = sym (left ∙ at (eqb found 0) refl)
+  where
+    at : (none : Bool) → eqb found 0 ≡ none → _≡_ {A = ℕ} (cond none 0 found) found
+    at true f = sym (eqb-true found 0 f)
+    at false f = refl
+
+-- Where nothing is found the cause just looked for does not hold, and nothing was found before
+pub none-found : (found next number : ℕ) (test : Bool) → 0 < number → next ≡ nextFound found test number → next ≡ 0 → (found ≡ 0) × (test ≡ false)
+unfolding nextFound
+none-found found next number test p e z = at (eqb found 0) test refl (sym e ∙ z)
+  where
+    at : (none t : Bool) → eqb found 0 ≡ none → _≡_ {A = ℕ} (cond none (cond t number 0) found) 0 → (found ≡ 0) × (t ≡ false)
+    at true true f z = absurd (omega arith)
+    at true false f z = (eqb-true found 0 f, refl)
+    at false t f z = absurd (eqb-false found 0 f z)
+
+-- 1 comes first ..
 pub refusal-size : (b : List ℕ) → wrongSize b ≡ true → refusal b ≡ 1
-unfolding refusal ownCauses firstOf
+unfolding refusal ownCauses firstCause
 refusal-size b e = rw e
 
--- Without it the other causes are looked for in their order, and 5 by the chains' lengths, which matter only where 3 does not hold
-pub refusal-sized : (b : List ℕ) (head broken wrong short many : Bool) (n6 n5 n4 n3 n2 : ℕ) → wrongSize b ≡ false
-    → head ≡ wrongHead b → broken ≡ brokenChain b → wrong ≡ wrongField b
-    → short ≡ ltb (length (stepChain b) + length (blockChain b) + 1) (recordCount b) → many ≡ tooManyBlocks b
-    → n6 ≡ cond many 6 0 → n5 ≡ cond short 5 n6 → n4 ≡ cond wrong 4 n5 → n3 ≡ cond broken 3 n4 → n2 ≡ cond head 2 n3
-    → n2 ≡ refusal b
-unfolding refusal ownCauses firstOf
-refusal-sized b head broken wrong short many n6 n5 n4 n3 n2 e h2 h3 h4 h5 h6 e6 e5 e4 e3 e2 =
-    rw (e2, e3, e4, e5, e6, h2, h3, h4, h5, h6, e) (ap (λ (m : ℕ). cond (wrongHead b) 2 m) (at (brokenChain b) refl))
-  where
-    at : (broken : Bool) → brokenChain b ≡ broken
-        → _≡_ {A = ℕ} (cond broken 3
-        (cond (wrongField b) 4
-        (cond (ltb (length (stepChain b) + length (blockChain b) + 1) (recordCount b)) 5 (cond (tooManyBlocks b) 6 0))))
-        (cond broken 3 (cond (wrongField b) 4 (cond (strayRecord b) 5 (cond (tooManyBlocks b) 6 0))))
-    at true q = refl
-    at false q = rw (stray-short b (count-bounds b e .0) q)
+-- .. and without it the others are looked for
+pub without-size : (b : List ℕ) → wrongSize b ≡ false
+    → Left b 0 ((wrongHead b, 2) ∷ (brokenChain b, 3) ∷ (wrongField b, 4) ∷ (strayRecord b, 5) ∷ (tooManyBlocks b, 6) ∷ [])
+unfolding refusal ownCauses firstCause Left
+without-size b e = rw e
 
--- Causes 4 and 5 from what is found along the two chains
-pub field-found : (b : List ℕ) (s t : Bool) → s ≡ someIn (stepChain b) (outOfRange b) → t ≡ someIn (blockChain b) (outOfRange b) → (s || t) ≡ wrongField b
-unfolding wrongField
-field-found b s t p q = rw (p, q)
+-- 3 and 4 from what the walks along the chains found
+pub broken-found : (b : List ℕ) (s t : Surveyed) → s ≡ surveyed b chain-of.Steps → t ≡ surveyed b chain-of.Blocks → (s .broken || t .broken) ≡ brokenChain b
+unfolding brokenChain surveyed
+broken-found b s t p q = rw (p, q) (on-some (brokenOn b))
 
-pub short-found : (b : List ℕ) (short : Bool) (s t n : ℕ) → short ≡ ltb (s + t + 1) n → s ≡ length (stepChain b) → t ≡ length (blockChain b) → n ≡ recordCount b
-    → short ≡ ltb (length (stepChain b) + length (blockChain b) + 1) (recordCount b)
-short-found b short s t n e p q r = e ∙ rw (p, q, r)
+pub field-found : (b : List ℕ) (s t : Surveyed) → s ≡ surveyed b chain-of.Steps → t ≡ surveyed b chain-of.Blocks → (s .outside || t .outside) ≡ wrongField b
+unfolding wrongField surveyed
+field-found b s t p q = rw (p, q) (on-some (wrongFieldOn b))
+
+-- 5 from the chains' lengths, where 1 and 3 do not hold
+pub stray-found : (b : List ℕ) (s t : Surveyed) (short : Bool) (n : ℕ) → s ≡ surveyed b chain-of.Steps → t ≡ surveyed b chain-of.Blocks
+    → n ≡ recordCount b → short ≡ ltb (s .length + t .length + 1) n → wrongSize b ≡ false → brokenChain b ≡ false → short ≡ strayRecord b
+unfolding surveyed
+stray-found b s t short n p q r e sized unbroken = e ∙ rw (p, q, r) (sym (stray-short b (count-bounds b sized .0) unbroken))
+
+-- 6 from the length of the chain of blocks and the portfolios
+pub many-found : (b : List ℕ) (t : Surveyed) (crowded : Bool) → t ≡ surveyed b chain-of.Blocks → crowded ≡ someBelow portfolioNumbers (tooManyOf b)
+    → (ltb mostBlocks (t .length) || crowded) ≡ tooManyBlocks b
+unfolding tooManyBlocks surveyed
+many-found b t crowded q e = rw (q, e)
+
+-- THE ANSWER
+-- The lengths of the two chains are how many steps and blocks there are
+pub steps-counted : (b : List ℕ) (s : Surveyed) → s ≡ surveyed b chain-of.Steps → s .length ≡ length (stepOrder b)
+unfolding surveyed stepOrder
+steps-counted b s p = rw p
+
+pub blocks-counted : (b : List ℕ) (t : Surveyed) → t ≡ surveyed b chain-of.Blocks → t .length ≡ length (blockOrder b)
+unfolding surveyed blockOrder
+blocks-counted b t q = rw q
 
 -- A book with number 0 is accepted, with the lengths of its chains ..
-pub reading-accepted : (b : List ℕ) (s t : ℕ) → refusal b ≡ 0 → s ≡ length (stepChain b) → t ≡ length (blockChain b)
+pub reading-accepted : (b : List ℕ) (s t : ℕ) → refusal b ≡ 0 → s ≡ length (stepOrder b) → t ≡ length (blockOrder b)
     → reading-of.Accepted s t ≡ reading b
 unfolding reading
 reading-accepted b s t e p q = rw (eq-eqb _ _ e, p, q)
@@ -79,13 +134,13 @@ unfolding reading
 number-reading b = at (eqb (refusal b) 0) refl
   where
     at : (none : Bool) → eqb (refusal b) 0 ≡ none
-        → numberOf (cond none (reading-of.Accepted (length (stepChain b)) (length (blockChain b))) (reading-of.Refused (refusal b))) ≡ refusal b
+        → numberOf (cond none (reading-of.Accepted (length (stepOrder b)) (length (blockOrder b))) (reading-of.Refused (refusal b))) ≡ refusal b
     at true e = sym (eqb-true (refusal b) 0 e)
     at false e = refl
 
 -- What an accepting answer says
 pub answer-accepted : (b : List ℕ) (s t : ℕ) → reading b ≡ reading-of.Accepted s t
-    → (refusal b ≡ 0) × (s ≡ length (stepChain b)) × (t ≡ length (blockChain b))
+    → (refusal b ≡ 0) × (s ≡ length (stepOrder b)) × (t ≡ length (blockOrder b))
 answer-accepted b s t e =
     let z : refusal b ≡ 0 = (sym (number-reading b) ∙ ap numberOf e) in
     let r = reading-accepted b _ _ z refl refl in
@@ -113,13 +168,13 @@ Ordered m [] = Unit {0}
 Ordered m (cause ∷ l) = (m < cause .1) × Ordered (cause .1) l
 
 -- Where a cause's number is given, it holds
-first-holds : (l : List (Bool × ℕ)) → (firstOf l ≡ 0 → ⊥) → holds l (firstOf l) ≡ true
-unfolding firstOf
+first-holds : (l : List (Bool × ℕ)) → (firstCause l ≡ 0 → ⊥) → holds l (firstCause l) ≡ true
+unfolding firstCause
 first-holds [] n = absurd (n refl)
 first-holds (cause ∷ l) n = at (cause .0) n (λ g. first-holds l g)
   where
-    at : (t : Bool) → (cond t (cause .1) (firstOf l) ≡ 0 → ⊥) → ((firstOf l ≡ 0 → ⊥) → holds l (firstOf l) ≡ true)
-        → ((t && eqb (cause .1) (cond t (cause .1) (firstOf l))) || holds l (cond t (cause .1) (firstOf l))) ≡ true
+    at : (t : Bool) → (cond t (cause .1) (firstCause l) ≡ 0 → ⊥) → ((firstCause l ≡ 0 → ⊥) → holds l (firstCause l) ≡ true)
+        → ((t && eqb (cause .1) (cond t (cause .1) (firstCause l))) || holds l (cond t (cause .1) (firstCause l))) ≡ true
     at true g later = rw (eq-eqb (cause .1) (cause .1) refl)
     at false g later = later g
 
@@ -130,24 +185,24 @@ holds-above m (cause ∷ l) o k h =
     rw (ne-eqb (cause .1) k (λ e. omega arith), and-false, holds-above (cause .1) l (o .1) k (omega arith))
 
 -- No cause below the number given holds
-first-lowest : (m : ℕ) (l : List (Bool × ℕ)) → Ordered m l → (k : ℕ) → k < firstOf l → holds l k ≡ false
-unfolding firstOf
+first-lowest : (m : ℕ) (l : List (Bool × ℕ)) → Ordered m l → (k : ℕ) → k < firstCause l → holds l k ≡ false
+unfolding firstCause
 first-lowest m [] o k h = refl
 first-lowest m (cause ∷ l) o k h = at (cause .0) h (λ g. first-lowest (cause .1) l (o .1) k g)
   where
-    at : (t : Bool) → k < cond t (cause .1) (firstOf l) → (k < firstOf l → holds l k ≡ false) → ((t && eqb (cause .1) k) || holds l k) ≡ false
+    at : (t : Bool) → k < cond t (cause .1) (firstCause l) → (k < firstCause l → holds l k ≡ false) → ((t && eqb (cause .1) k) || holds l k) ≡ false
     at true g later = rw (ne-eqb (cause .1) k (λ e. omega arith), holds-above (cause .1) l (o .1) k (omega arith))
     at false g later = later g
 
 -- Of two lists the second counts only where the first gives no number
-first-append : (m : ℕ) (l n : List (Bool × ℕ)) → Ordered m l → firstOf (l ++ n) ≡ cond (eqb (firstOf l) 0) (firstOf n) (firstOf l)
-unfolding firstOf
+first-append : (m : ℕ) (l n : List (Bool × ℕ)) → Ordered m l → firstCause (l ++ n) ≡ cond (eqb (firstCause l) 0) (firstCause n) (firstCause l)
+unfolding firstCause
 first-append m [] n o = refl
 first-append m (cause ∷ l) n o = at (cause .0) (first-append (cause .1) l n (o .1))
   where
-    at : (t : Bool) → firstOf (l ++ n) ≡ cond (eqb (firstOf l) 0) (firstOf n) (firstOf l)
-        → cond t (cause .1) (firstOf (l ++ n))
-        ≡ cond (eqb (cond t (cause .1) (firstOf l)) 0) (firstOf n) (cond t (cause .1) (firstOf l))
+    at : (t : Bool) → firstCause (l ++ n) ≡ cond (eqb (firstCause l) 0) (firstCause n) (firstCause l)
+        → cond t (cause .1) (firstCause (l ++ n))
+        ≡ cond (eqb (cond t (cause .1) (firstCause l)) 0) (firstCause n) (cond t (cause .1) (firstCause l))
     at true e = rw (ne-eqb (cause .1) 0 (λ w. omega arith))
     at false e = e
 
@@ -166,6 +221,6 @@ unfolding refusal
 lowest b k h = first-lowest 0 (ownCauses b) (own-ordered b) k h
 
 -- A call's own causes are looked for after the book's
-pub refusal-then : (b : List ℕ) (call : List (Bool × ℕ)) → firstOf (ownCauses b ++ call) ≡ cond (eqb (refusal b) 0) (firstOf call) (refusal b)
+pub refusal-then : (b : List ℕ) (call : List (Bool × ℕ)) → firstCause (ownCauses b ++ call) ≡ cond (eqb (refusal b) 0) (firstCause call) (refusal b)
 unfolding refusal
 refusal-then b call = first-append 0 (ownCauses b) call (own-ordered b)

@@ -1,12 +1,18 @@
 -- The chains of a book (document 01, "The book in bytes"): `next` holds the index of the following record, and zero ends the chain.
--- A chain is followed for at most R records; that this is all of it in an accepted book is a law (proofs/Accepted). Assumes nothing.
+-- A chain is followed for at most R records; that this is all of it in an accepted book is a law (proofs/Accepted).
+-- What is said here of each chain is all that the causes of a refusal ask of it: one more chain is one more case. Assumes nothing.
 use Prim.Native.Nat.{ℕ, zero, suc}
 use mathlib.Core.List.{List, [], _∷_, map}
-use mathlib.Core.Bool.{true, false}
+use mathlib.Core.Bool.{Bool, true, false}
 use lib.Dec.{eqb}
+use lib.ListN.{length}
+use Rattle.book.specs.Tests.{member}
+use Rattle.records.specs.Layout.{stepKind, blockKind}
 use Rattle.records.specs.Records.{recordCount, firstStep, firstBlock, next, stepAt, blockAt}
 use Rattle.records.specs.declared.Step.{Step}
 use Rattle.records.specs.declared.Block.{Block}
+use Rattle.book.specs.declared.Chain.{Chain}
+use Rattle.book.specs.declared.Chain.the-variants as chain-of
 
 -- The indices met from i on by following `next`, at most n of them
 unfoldable pub chainFrom : ℕ → List ℕ → ℕ → List ℕ
@@ -17,18 +23,51 @@ chainFrom (suc n) b i = elim (eqb i 0) [ true ↦ [] | false ↦ i ∷ chainFrom
 abbrev pub chain : List ℕ → ℕ → List ℕ
 chain b i = chainFrom (recordCount b) b i
 
--- The indices of the book's steps, in chain order
-abbrev pub stepChain : List ℕ → List ℕ
-stepChain b = chain b (firstStep b)
+-- EACH CHAIN
+-- The chains of a book: of the steps, of the blocks
+unfoldable pub chains : List Chain
+chains = chain-of.Steps ∷ chain-of.Blocks ∷ []
 
--- The indices of the book's blocks, in chain order
-abbrev pub blockChain : List ℕ → List ℕ
-blockChain b = chain b (firstBlock b)
+-- The index of a chain's first record, in the head; 0 where it has none
+abbrev pub firstOn : List ℕ → Chain → ℕ
+firstOn b chain-of.Steps = firstStep b
+firstOn b chain-of.Blocks = firstBlock b
 
--- The book's steps, in chain order
+-- The kind of the records that belong on it
+abbrev pub kindOn : Chain → ℕ
+kindOn chain-of.Steps = stepKind
+kindOn chain-of.Blocks = blockKind
+
+-- Whether its records have numbers that must rise
+abbrev pub numbered : Chain → Bool
+numbered chain-of.Steps = true
+numbered chain-of.Blocks = true
+
+-- The indices of its records
+abbrev pub chainOf : List ℕ → Chain → List ℕ
+chainOf b c = chain b (firstOn b c)
+
+-- Record i is on it
+unfoldable pub isOn : List ℕ → ℕ → Chain → Bool
+isOn b i c = member i (chainOf b c)
+
+-- How many records it has
+abbrev pub countOn : List ℕ → Chain → ℕ
+countOn b c = length (chainOf b c)
+
+-- THE ORDERS
+-- The indices of the book's steps, in the order in which they are numbered and handed on: today that of their chain, whose numbers rise
+unfoldable pub stepOrder : List ℕ → List ℕ
+stepOrder b = chainOf b chain-of.Steps
+
+-- The indices of the book's blocks, likewise
+unfoldable pub blockOrder : List ℕ → List ℕ
+blockOrder b = chainOf b chain-of.Blocks
+
+-- The book's steps, in this order
 unfoldable pub steps : List ℕ → List Step
-steps b = map (stepAt b) (stepChain b)
+steps b = map (stepAt b) (stepOrder b)
 
--- The book's blocks, in chain order
+-- The book's blocks, in this order
 unfoldable pub blocks : List ℕ → List Block
-blocks b = map (blockAt b) (blockChain b)
+blocks b = map (blockAt b) (blockOrder b)

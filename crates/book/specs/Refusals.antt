@@ -7,52 +7,62 @@ use mathlib.Core.Bool.{Bool, true, false, cond, not, _&&_, _||_}
 use lib.Dec.{eqb, leb, ltb}
 use lib.ListN.{length}
 use Rattle.records.specs.Bytes.{nonzero}
-use Rattle.book.specs.Tests.{within, someBelow, someIn, countIn, member}
-use Rattle.rules.specs.Orders.{Limits, limits}
-use Rattle.records.specs.Records.{recordCount, dayHours, edition, kind, sideByte, number, hourByte, portfolio, recordAt, hourCount}
-use Rattle.book.specs.Chains.{stepChain, blockChain}
+use Rattle.records.specs.Layout.{recordSize, headRestOffset, headRestSize, lastSide, lastHour}
+use Rattle.book.specs.Tests.{within, someBelow, someIn, countIn}
+use Rattle.rules.specs.Orders.{maxPrice, Limits, limits}
+use Rattle.records.specs.Records.{recordCount, dayHours, edition, kind, sideByte, number, hourByte, portfolio, recordAt, hoursSet}
+use Rattle.book.specs.Bounds.{mostRecords, normalHours, firstEdition, lastPortfolio, portfolioNumbers, mostStepQuantity, fewestHours, mostBlocks}
+use Rattle.book.specs.Chains.{chains, kindOn, numbered, chainOf, isOn, countOn}
 use Rattle.records.specs.declared.Step.{Step}
 use Rattle.records.specs.declared.Block.{Block}
 use Rattle.records.specs.declared.Record.{Record}
 use Rattle.records.specs.declared.Record.the-variants as record-of
+use Rattle.book.specs.declared.Chain.{Chain}
+use Rattle.book.specs.declared.Chain.the-variants as chain-of
 
 -- 1: length not 16 × R, below 16 bytes, or R outside 1 to 2,048
 unfoldable pub wrongSize : List ℕ → Bool
-wrongSize b = not (eqb (length b) (16 * recordCount b)) || ltb (length b) 16 || not (within 1 (recordCount b) 2048)
+wrongSize b = not (eqb (length b) (recordSize * recordCount b)) || ltb (length b) recordSize || not (within 1 (recordCount b) mostRecords)
 
 -- 2, the head: hours not 24, edition not 1, or bytes 8-15 not all 0
 unfoldable pub wrongHead : List ℕ → Bool
-wrongHead b = not (eqb (dayHours b) 24) || not (eqb (edition b) 1) || nonzero b 8 8
+wrongHead b = not (eqb (dayHours b) normalHours) || not (eqb (edition b) firstEdition) || nonzero b headRestOffset headRestSize
 
--- 3, at record i of a chain of kind k, after the number `last`: an index of R or more, another kind, or, if numbers must rise, one that does not
-unfoldable pub misplaced : List ℕ → ℕ → Bool → ℕ → ℕ → Bool
-misplaced b k rising last i = leb (recordCount b) i || not (eqb (kind b i) k) || (rising && leb (number b i) last)
+-- 3, at record i of a chain, after the number `last`: an index of R or more, a kind not the chain's, or, if numbers must rise, one that does not
+unfoldable pub misplaced : List ℕ → Chain → ℕ → ℕ → Bool
+misplaced b c last i = leb (recordCount b) i || not (eqb (kind b i) (kindOn c)) || (numbered c && leb (number b i) last)
 
--- 3, along a chain of kind k, after the number `last` (0 before the first): some record is misplaced
-unfoldable pub broken : List ℕ → ℕ → Bool → ℕ → List ℕ → Bool
-broken b k rising last [] = false
-broken b k rising last (i ∷ l) = misplaced b k rising last i || broken b k rising (number b i) l
+-- 3, along records of a chain, after the number `last` (0 before the first): some record is misplaced
+unfoldable pub broken : List ℕ → Chain → ℕ → List ℕ → Bool
+broken b c last [] = false
+broken b c last (i ∷ l) = misplaced b c last i || broken b c (number b i) l
+
+-- 3, along a whole chain
+unfoldable pub brokenOn : List ℕ → Chain → Bool
+brokenOn b c = broken b c 0 (chainOf b c)
 
 -- 3, on a chain: an index of R or more, a kind not the chain's, or a number that does not rise (a first one of 0 included)
 unfoldable pub brokenChain : List ℕ → Bool
-brokenChain b = broken b 1 true 0 (stepChain b) || broken b 2 true 0 (blockChain b)
+brokenChain b = someIn chains (brokenOn b)
 
 -- A step's hour is 1 to 24, its portfolio 1 to 255, its price 1 to 300000, its quantity 1 to 99,999
 unfoldable pub stepFits : Step → Bool
-stepFits s = within 1 (s .hour) 24 && within 1 (s .portfolio) 255 && within 1 (s .price) 300000 && within 1 (s .quantity) 99999
+stepFits s =
+    within 1 (s .hour) lastHour && within 1 (s .portfolio) lastPortfolio && within 1 (s .price) maxPrice && within 1 (s .quantity) mostStepQuantity
 
 -- A block's portfolio is 1 to 255, at least two of its hours are set, its price is 1 to 300000, its quantity 1 to the limit
 unfoldable pub blockFits : Limits → Block → Bool
 blockFits l s =
-    within 1 (s .portfolio) 255 && leb 2 (hourCount 24 (s .hours)) && within 1 (s .price) 300000 && within 1 (s .quantity) (l .blockQuantity)
+    within 1 (s .portfolio) lastPortfolio && leb fewestHours (hoursSet lastHour (s .hours)) && within 1 (s .price) maxPrice
+    && within 1 (s .quantity) (l .blockQuantity)
 
 -- Record i as a step: its side is 0 or 1, and it fits
 unfoldable pub stepInRange : List ℕ → ℕ → Step → Bool
-stepInRange b i s = within 0 (sideByte b i) 1 && stepFits s
+stepInRange b i s = within 0 (sideByte b i) lastSide && stepFits s
 
 -- Record i as a block: its side is 0 or 1, its byte 6 is 0, and it fits
 unfoldable pub blockInRange : List ℕ → ℕ → Block → Bool
-blockInRange b i s = within 0 (sideByte b i) 1 && eqb (hourByte b i) 0 && blockFits (limits (edition b)) s
+blockInRange b i s = within 0 (sideByte b i) lastSide && eqb (hourByte b i) 0 && blockFits (limits (edition b)) s
 
 -- Record i, read as what it is, has its fields in their ranges; one that is neither has none (on a chain it is cause 1 or 3)
 unfoldable pub recordInRange : List ℕ → ℕ → Record → Bool
@@ -64,13 +74,17 @@ recordInRange b i record-of.Other = true
 unfoldable pub outOfRange : List ℕ → ℕ → Bool
 outOfRange b i = not (recordInRange b i (recordAt b i))
 
+-- 4, along a chain: some record has a field outside its range
+unfoldable pub wrongFieldOn : List ℕ → Chain → Bool
+wrongFieldOn b c = someIn (chainOf b c) (outOfRange b)
+
 -- 4, on a chain: any other field outside its range
 unfoldable pub wrongField : List ℕ → Bool
-wrongField b = someIn (stepChain b) (outOfRange b) || someIn (blockChain b) (outOfRange b)
+wrongField b = someIn chains (wrongFieldOn b)
 
 -- Record i is not the head, and on no chain
 unfoldable pub stray : List ℕ → ℕ → Bool
-stray b i = leb 1 i && not (member i (stepChain b) || member i (blockChain b))
+stray b i = leb 1 i && not (someIn chains (isOn b i))
 
 -- 5: a record on no chain, so some index from 1 to R − 1
 unfoldable pub strayRecord : List ℕ → Bool
@@ -82,16 +96,16 @@ ownedBy b p i = eqb (portfolio b i) p
 
 -- Portfolio p has more blocks than the limit
 unfoldable pub tooManyOf : List ℕ → ℕ → Bool
-tooManyOf b p = ltb (limits (edition b) .blocksOfPortfolio) (countIn (blockChain b) (ownedBy b p))
+tooManyOf b p = ltb (limits (edition b) .blocksOfPortfolio) (countIn (chainOf b chain-of.Blocks) (ownedBy b p))
 
 -- 6: more than 32 blocks, or more than 5 (the limit) of one portfolio
 unfoldable pub tooManyBlocks : List ℕ → Bool
-tooManyBlocks b = ltb 32 (length (blockChain b)) || someBelow 256 (tooManyOf b)
+tooManyBlocks b = ltb mostBlocks (countOn b chain-of.Blocks) || someBelow portfolioNumbers (tooManyOf b)
 
 -- The number of the first cause of a list that holds; 0 where none does
-unfoldable pub firstOf : List (Bool × ℕ) → ℕ
-firstOf [] = 0
-firstOf (cause ∷ l) = cond (cause .0) (cause .1) (firstOf l)
+unfoldable pub firstCause : List (Bool × ℕ) → ℕ
+firstCause [] = 0
+firstCause (cause ∷ l) = cond (cause .0) (cause .1) (firstCause l)
 
 -- A book's own causes with their numbers, in the order in which they are looked for
 unfoldable pub ownCauses : List ℕ → List (Bool × ℕ)
@@ -106,7 +120,7 @@ ownCauses b =
 
 -- The number for which a book by itself is refused; 0, which is ours, where it is accepted
 unfoldable pub refusal : List ℕ → ℕ
-refusal b = firstOf (ownCauses b)
+refusal b = firstCause (ownCauses b)
 
 -- A book is accepted when none of its own causes holds
 pub record Accepted (b : List ℕ) : Type 0 where

@@ -14,7 +14,7 @@ someBelow zero test = false
 someBelow (suc n) test = test n || someBelow n test
 
 -- Some member of a list passes a test
-unfoldable pub someIn : List ℕ → (ℕ → Bool) → Bool
+unfoldable pub someIn : {A : Type 0} → List A → (A → Bool) → Bool
 someIn [] test = false
 someIn (x ∷ l) test = test x || someIn l test
 

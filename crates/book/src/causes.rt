@@ -1,51 +1,50 @@
-// The causes for which a book by itself is refused, 1 to 6 (document 01, "Refused books and calls"), each found in one pass over the
-// records, and the first of them that holds. Assumes nothing.
+// The causes for which a book by itself is refused, 1 to 6 (document 01, "Refused books and calls"), and the first of them that holds.
+// Assumes nothing.
 ghost use mathlib.Core.Path.{_≡_};
-ghost use mathlib.Core.Bool.{cond};
+ghost use mathlib.Core.Bool.{false};
 ghost use Prim.Native.Nat.{_+_};
 ghost use lib.Dec.{ltb};
+ghost use Rattle.book.specs.Bounds.{portfolioNumbers};
 ghost use Rattle.book.specs.Tests.{someBelow};
-ghost use Rattle.book.specs.Refusals.{wrongSize, wrongHead, brokenChain, tooManyOf, tooManyBlocks, refusal};
-use crate::chains::chain_length;
+ghost use Rattle.book.specs.Refusals.{wrongSize, wrongHead, tooManyOf, refusal};
+ghost use Rattle.book.specs.Passes.{surveyed, nextFound};
+ghost use Rattle.book.specs.declared.Chain.the-variants.{Steps, Blocks};
+use crate::Chain;
+use crate::Surveyed;
+use crate::bounds::FIRST_EDITION;
+use crate::bounds::MOST_BLOCKS;
+use crate::bounds::MOST_RECORDS;
+use crate::bounds::NORMAL_HOURS;
+use crate::bounds::PORTFOLIO_NUMBERS;
 use crate::chains::counts_by_portfolio;
-use crate::chains::is_broken;
-use crate::chains::survey_of;
 use crate::ranges::is_within;
 use crate::ranges::most_blocks_of_portfolio;
-use records::BLOCK;
-use records::STEP;
+use records::HEAD_REST_OFFSET;
+use records::HEAD_REST_SIZE;
+use records::RECORD_SIZE;
 use records::day_hours;
 use records::edition_of;
-use records::first_block;
-use records::first_step;
 use records::is_nonzero;
 use records::record_count;
 
 // 1: the length, or the record count.
-fn has_wrong_size(book: &[u8]) -> bool
+pub fn has_wrong_size(book: &[u8]) -> bool
     ensures { λ r. ⌜ r ≡ wrongSize (now (book .entry)) ⌝ }
 {
     let count = record_count(book);
-    let size = 16 * (count as usize);
-    (book.len() != size) | (book.len() < 16) | !is_within(1, count as u32, 2048)
+    let size = (RECORD_SIZE * (count as u32)) as usize;
+    (book.len() != size)
+        | (book.len() < RECORD_SIZE as usize)
+        | !is_within(1, count as u32, MOST_RECORDS as u32)
 }
 
 // 2: the head.
 fn has_wrong_head(book: &[u8]) -> bool
     ensures { λ r. ⌜ r ≡ wrongHead (now (book .entry)) ⌝ }
 {
-    (day_hours(book) != 24) | (edition_of(book) != 1) | is_nonzero(book, 8, 8)
-}
-
-// 3: an index, a kind or a number, on either chain.
-fn has_broken_chain(book: &[u8]) -> bool
-    ensures { λ r. ⌜ r ≡ brokenChain (now (book .entry)) ⌝ }
-{
-    let step = first_step(book);
-    let block = first_block(book);
-    let broken_steps = is_broken(book, STEP, true, step);
-    let broken_blocks = is_broken(book, BLOCK, true, block);
-    broken_steps | broken_blocks
+    (day_hours(book) != NORMAL_HOURS)
+        | (edition_of(book) != FIRST_EDITION)
+        | is_nonzero(book, HEAD_REST_OFFSET, HEAD_REST_SIZE)
 }
 
 // 5, where 3 does not hold: the records of the chains are then distinct, so one is missing just where head and chains are fewer than R.
@@ -55,21 +54,13 @@ fn are_short(steps: u16, blocks: u16, count: u16) -> bool
     (steps as u32) + (blocks as u32) + 1 < (count as u32)
 }
 
-// 6: the blocks in all, or those of one portfolio.
-fn has_too_many_blocks(book: &[u8]) -> bool
-    ensures { λ r. ⌜ r ≡ tooManyBlocks (now (book .entry)) ⌝ }
-{
-    let blocks = chain_length(book, first_block(book));
-    (32 < blocks) | has_crowded_portfolio(book)
-}
-
 // 6, of one portfolio: more blocks than the edition's limit.
 fn has_crowded_portfolio(book: &[u8]) -> bool
-    ensures { λ r. ⌜ r ≡ someBelow 256 (tooManyOf (now (book .entry))) ⌝ }
+    ensures { λ r. ⌜ r ≡ someBelow portfolioNumbers (tooManyOf (now (book .entry))) ⌝ }
 {
     let most = most_blocks_of_portfolio(edition_of(book));
-    let counts = counts_by_portfolio(book, first_block(book));
-    let mut p: usize = 256;
+    let counts = counts_by_portfolio(book, Chain::Blocks);
+    let mut p = PORTFOLIO_NUMBERS;
     while 0 < p {
         p -= 1;
         if most < counts[p] {
@@ -79,27 +70,26 @@ fn has_crowded_portfolio(book: &[u8]) -> bool
     false
 }
 
-// One cause of a list: its number where it holds, else the number that the causes after it give.
-fn first_of(holds: bool, number: u8, after: u8) -> u8
-    ensures { λ r. ⌜ r ≡ cond holds number after ⌝ }
+// One cause more: the number that those before it gave, else, where it holds, its own.
+fn next_found(before: u8, holds: bool, number: u8) -> u8
+    ensures { λ r. ⌜ r ≡ nextFound before holds number ⌝ }
 {
-    if holds { number } else { after }
+    if before != 0 {
+        return before;
+    }
+    if holds { number } else { 0 }
 }
 
-// The number of the first cause that holds; 0 where none does.
-pub fn refusal_of(book: &[u8]) -> u8
+// The number of the first cause that holds, where 1 does not; 0 where none does. What the walks along the chains found is handed in.
+pub fn refusal_of(book: &[u8], steps: Surveyed, blocks: Surveyed) -> u8
+    requires { ⌜ (wrongSize (now book) ≡ false) × (steps ≡ surveyed (now book) Steps) × (blocks ≡ surveyed (now book) Blocks) ⌝ }
     ensures { λ r. ⌜ r ≡ refusal (now (book .entry)) ⌝ }
 {
-    if has_wrong_size(book) {
-        return 1;
-    }
-    let head = has_wrong_head(book);
-    let broken = has_broken_chain(book);
-    let steps = survey_of(book, first_step(book));
-    let blocks = survey_of(book, first_block(book));
-    let wrong = steps.outside | blocks.outside;
+    let head = next_found(0, has_wrong_head(book), 2);
+    let broken = next_found(head, steps.broken | blocks.broken, 3);
+    let outside = next_found(broken, steps.outside | blocks.outside, 4);
     let short = are_short(steps.length, blocks.length, record_count(book));
-    let many = has_too_many_blocks(book);
-    let after = first_of(short, 5, first_of(many, 6, 0));
-    first_of(head, 2, first_of(broken, 3, first_of(wrong, 4, after)))
+    let stray = next_found(outside, short, 5);
+    let many = (MOST_BLOCKS < blocks.length) | has_crowded_portfolio(book);
+    next_found(stray, many, 6)
 }

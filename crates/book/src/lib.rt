@@ -1,14 +1,29 @@
 // The reader, layer 1 of document 01: whether a book is accepted, with how many steps and blocks, or the first cause for which it is refused.
-// Every call takes any bytes, ends, and has no `requires`; its result is what a definition of `specs/` gives. Assumes nothing.
+// Every public call takes any bytes, ends, and has no `requires`; its result is what a definition of `specs/` gives. Assumes nothing.
 ghost use mathlib.Core.Path.{_≡_};
 ghost use Rattle.book.specs.Answers.{reading};
-use crate::chains::chain_length;
-use records::first_block;
-use records::record_count;
+use crate::chains::survey_of;
 
+mod bounds; // how large a book and its fields may be
 mod causes; // the causes 1 to 6, and the first of them that holds
 mod chains; // records that hang together by `next`
 mod ranges; // the ranges of a record's fields
+
+pub use bounds::MOST_BLOCKS;
+pub use bounds::MOST_RECORDS;
+
+// The chains of a book. One more chain is one more case here, in specs/Chains.antt and in src/chains.rt.
+pub enum Chain {
+    Steps,
+    Blocks,
+}
+
+// What one walk along a chain finds out: causes 3 and 4 on it, and how many records it has.
+pub struct Surveyed {
+    pub broken: bool,
+    pub outside: bool,
+    pub length: u16,
+}
 
 // The answer of `read`: accepted, with how many steps and blocks are on the two chains, or refused with document 01's number.
 pub enum Reading {
@@ -20,12 +35,17 @@ pub enum Reading {
 pub fn read(book: &[u8]) -> Reading
     ensures { λ r. ⌜ r ≡ reading (now (book .entry)) ⌝ }
 {
-    let number = causes::refusal_of(book);
+    if causes::has_wrong_size(book) {
+        return Reading::Refused(1);
+    }
+    let steps = survey_of(book, Chain::Steps);
+    let blocks = survey_of(book, Chain::Blocks);
+    let number = causes::refusal_of(book, steps, blocks);
     if number != 0 {
         return Reading::Refused(number);
     }
-    // each record but the head is on one of the two chains
-    let blocks = chain_length(book, first_block(book));
-    let steps = record_count(book) - 1 - blocks;
-    Reading::Accepted { steps, blocks }
+    Reading::Accepted {
+        steps: steps.length,
+        blocks: blocks.length,
+    }
 }

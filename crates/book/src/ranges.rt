@@ -3,7 +3,15 @@ ghost use mathlib.Core.Path.{_≡_};
 ghost use Rattle.book.specs.Tests.{within};
 ghost use Rattle.rules.specs.Orders.{limits};
 ghost use Rattle.book.specs.Refusals.{stepFits, blockFits, stepInRange, blockInRange, outOfRange};
+use crate::bounds::BLOCK_QUANTITY;
+use crate::bounds::BLOCKS_OF_PORTFOLIO;
+use crate::bounds::FEWEST_HOURS;
+use crate::bounds::LAST_PORTFOLIO;
+use crate::bounds::MAX_PRICE;
+use crate::bounds::MOST_STEP_QUANTITY;
 use records::Block;
+use records::LAST_HOUR;
+use records::LAST_SIDE;
 use records::Record;
 use records::Step;
 use records::edition_of;
@@ -18,12 +26,6 @@ pub fn is_within(low: u32, x: u32, high: u32) -> bool
 {
     (low <= x) & (x <= high)
 }
-
-// The largest quantity of a block in edition 1.
-const BLOCK_QUANTITY: u32 = 50;
-
-// The most blocks of one portfolio in edition 1.
-const BLOCKS_OF_PORTFOLIO: u16 = 5;
 
 // The largest quantity of a block; every edition has that of edition 1 today.
 fn most_block_quantity(edition: u8) -> u32
@@ -43,19 +45,19 @@ pub fn most_blocks_of_portfolio(edition: u8) -> u16
 fn step_fits(step: Step) -> bool
     ensures { λ r. ⌜ r ≡ stepFits step ⌝ }
 {
-    is_within(1, step.hour as u32, 24)
-        & is_within(1, step.portfolio as u32, 255)
-        & is_within(1, step.price, 300000)
-        & is_within(1, step.quantity, 99999)
+    is_within(1, step.hour as u32, LAST_HOUR)
+        & is_within(1, step.portfolio as u32, LAST_PORTFOLIO)
+        & is_within(1, step.price, MAX_PRICE)
+        & is_within(1, step.quantity, MOST_STEP_QUANTITY)
 }
 
 // Whether a block's fields, its side and byte 6 apart, are in their ranges.
 fn block_fits(edition: u8, block: Block) -> bool
     ensures { λ r. ⌜ r ≡ blockFits (limits edition) block ⌝ }
 {
-    is_within(1, block.portfolio as u32, 255)
-        & (2 <= hour_count(block.hours))
-        & is_within(1, block.price, 300000)
+    is_within(1, block.portfolio as u32, LAST_PORTFOLIO)
+        & (FEWEST_HOURS <= hour_count(block.hours))
+        & is_within(1, block.price, MAX_PRICE)
         & is_within(1, block.quantity as u32, most_block_quantity(edition))
 }
 
@@ -63,14 +65,14 @@ fn block_fits(edition: u8, block: Block) -> bool
 fn is_step_in_range(book: &[u8], i: u16, step: Step) -> bool
     ensures { λ r. ⌜ r ≡ stepInRange (now (book .entry)) i step ⌝ }
 {
-    is_within(0, side_byte(book, i) as u32, 1) & step_fits(step)
+    is_within(0, side_byte(book, i) as u32, LAST_SIDE) & step_fits(step)
 }
 
 // Whether record i, a block, has its fields in range.
 fn is_block_in_range(book: &[u8], i: u16, block: Block) -> bool
     ensures { λ r. ⌜ r ≡ blockInRange (now (book .entry)) i block ⌝ }
 {
-    is_within(0, side_byte(book, i) as u32, 1)
+    is_within(0, side_byte(book, i) as u32, LAST_SIDE)
         & (hour_byte(book, i) == 0)
         & block_fits(edition_of(book), block)
 }

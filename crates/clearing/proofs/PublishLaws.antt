@@ -9,7 +9,7 @@ use lib.Dec.{eqb}
 use lib.ListN.{length, take, getD, length-map}
 use lib.Seq.{ext-getD, take-all, getD-take, length-take-le}
 use Rattle.records.specs.Records.{recordCount, blockAt}
-use Rattle.book.specs.Chains.{blockChain}
+use Rattle.book.specs.Chains.{blockOrder}
 use Rattle.book.specs.Refusals.{Accepted}
 use Rattle.rules.specs.Orders.{Step, Block}
 use Rattle.rules.specs.Day.{taken, decisions, overBlocks, sells, buys, stepsIn, sumTo, setPrices, traded, executed, welfare, dayValue, dayCost}
@@ -177,7 +177,7 @@ module _ (b ends records sides prices quantities brecords bsides bhours bprices 
     welfare-are = rw (value-is, cost-is)
 
     -- THE ROWS
-    outcome-count : length (outcome (dayFrom b)) ≡ length (blockChain b)
+    outcome-count : length (outcome (dayFrom b)) ≡ length (blockOrder b)
     outcome-count =
         rw (← chosen) (bits-length (length bsides) set)
         ∙ sym (block-count b (length bsides) brecords bsides bhours bprices bquantities blocks a) ∙ rw (day-blocks b, length-map)
@@ -185,26 +185,26 @@ module _ (b ends records sides prices quantities brecords bsides bhours bprices 
     brecords-here : brecords ≡ blockRecords b
     brecords-here = sym (take-all (length bsides) brecords (omega arith)) ∙ block-records-front blocks
 
-    brecords-are : brecords ≡ blockChain b
+    brecords-are : brecords ≡ blockOrder b
     brecords-are = brecords-here ∙ blocks-all b a
 
     abbrev bvalues : List ℕ
-    bvalues = blockRows b (blockChain b) (outcome (dayFrom b))
+    bvalues = blockRows b (blockOrder b) (outcome (dayFrom b))
 
     bvalues-at : (i : ℕ) → i < length brecords → getD bvalues i 0 ≡ cond (eqb (set / 2 ^ i % 2) 1) (getD bquantities i 0) 0
     bvalues-at i k =
         let p = block-place b (length bsides) brecords bsides bhours bprices bquantities blocks a i (omega arith) in
-        let inside : i < length (blockChain b) = rw brecords-are at k in
+        let inside : i < length (blockOrder b) = rw brecords-are at k in
         let bit : getD (outcome (dayFrom b)) i false ≡ eqb (set / 2 ^ i % 2) 1 = rw (← chosen) (bits-at (length bsides) set i (omega arith)) in
-        let q : getD bquantities i 0 ≡ blockAt b (getD (blockChain b) i 0) .quantity = rw brecords-are at (p .quantityIs) in
-        blockRows-at b (blockChain b) (outcome (dayFrom b)) i outcome-count inside ∙ rw (bit, q)
+        let q : getD bquantities i 0 ≡ blockAt b (getD (blockOrder b) i 0) .quantity = rw brecords-are at (p .quantityIs) in
+        blockRows-at b (blockOrder b) (outcome (dayFrom b)) i outcome-count inside ∙ rw (bit, q)
 
     module _ (rows : List ℕ) (rowed : RowsOf (take (getD ends 24 0) records) (take (getD ends 24 0) values) brecords bquantities set rows) where
       row-is : (k : ℕ) → k < 2048 → rowAt rows k ≡ rowOf b k
       row-is k small =
           let n = columns .endsAt 24 (omega arith) in
           let r : take (getD ends 24 0) records ≡ byHour b 24 = rw n (step-records-front columns) in
-          rowed bvalues (rw brecords-are (blockRows-length b (blockChain b) (outcome (dayFrom b)) outcome-count)) bvalues-at k small
+          rowed bvalues (rw brecords-are (blockRows-length b (blockOrder b) (outcome (dayFrom b)) outcome-count)) bvalues-at k small
           ∙ rw (r, values-are, brecords-here) (rows-by-hour b a bvalues (rw (chosen-is b)) k)
 
       -- THE WHOLE

@@ -9,7 +9,7 @@ use lib.Dec.{eqb}
 use lib.ListN.{length, drop, getD, drop-of-length-le}
 use lib.Seq.{drop-cons}
 use borrow.Author.Tests.{eq-eqb, ne-eqb}
-use Rattle.records.specs.Records.{number, holdsHour, hourCount}
+use Rattle.records.specs.Records.{number, holdsHour, hoursSet}
 use Rattle.rules.specs.Orders.{Side, buy, sell, Block}
 use Rattle.rules.specs.Hour.{bySide, when}
 use Rattle.rules.specs.Day.{taken, decisions, overBlocks, blocksValue, blocksCost}
@@ -23,8 +23,8 @@ use Rattle.rules.proofs.BoundsLaws.{product-le}
 use Rattle.pricing.proofs.TraderLaws.{traders-within}
 
 -- ONE BLOCK
-pub hours-few : (n x : ℕ) → hourCount n x ≤ n
-unfolding hourCount
+pub hours-few : (n x : ℕ) → hoursSet n x ≤ n
+unfolding hoursSet
 hours-few zero x = omega arith
 hours-few (suc n) x = omega (arith, hours-few n x, at (holdsHour x (suc n)))
   where
@@ -33,16 +33,16 @@ hours-few (suc n) x = omega (arith, hours-few n x, at (holdsHour x (suc n)))
     at false = omega arith
 
 module _ (p q x : ℕ) (fp : p ≤ 300000) (fq : q ≤ 50) where
-  pub limit-fits : (c : ℕ) → c ≡ hourCount 24 x → p * c ≤ 7200000
+  pub limit-fits : (c : ℕ) → c ≡ hoursSet 24 x → p * c ≤ 7200000
   limit-fits c e = product-le p c 300000 24 fp (omega (arith, hours-few 24 x))
 
-  pub worth-fits : (c : ℕ) → c ≡ hourCount 24 x → q * (p * c) ≤ 360000000
+  pub worth-fits : (c : ℕ) → c ≡ hoursSet 24 x → q * (p * c) ≤ 360000000
   worth-fits c e = product-le q (p * c) 50 7200000 fq (limit-fits c e)
 
-  pub worth-chosen : (t c : ℕ) → c ≡ hourCount 24 x → t ≡ 1 → q * (p * c) ≡ when (eqb t 1) (q * (p * hourCount 24 x))
+  pub worth-chosen : (t c : ℕ) → c ≡ hoursSet 24 x → t ≡ 1 → q * (p * c) ≡ when (eqb t 1) (q * (p * hoursSet 24 x))
   worth-chosen t c e o = rw (eq-eqb t 1 o, e)
 
-  pub worth-not : (t : ℕ) → (t ≡ 1 → ⊥) → _≡_ {A = ℕ} 0 (when (eqb t 1) (q * (p * hourCount 24 x)))
+  pub worth-not : (t : ℕ) → (t ≡ 1 → ⊥) → _≡_ {A = ℕ} 0 (when (eqb t 1) (q * (p * hoursSet 24 x)))
   worth-not t o = rw (ne-eqb t 1 o)
 
 -- ALL BLOCKS
@@ -112,7 +112,7 @@ module _ (sides hours prices quantities : List ℕ) where
       side = sideFor (getD sides i 0)
 
       abbrev w : ℕ
-      w = getD quantities i 0 * (getD prices i 0 * hourCount 24 (getD hours i 0))
+      w = getD quantities i 0 * (getD prices i 0 * hoursSet 24 (getD hours i 0))
 
       value-more : (b records : List ℕ) (d : ℕ) → length records ≡ length sides →
           blocksValue d (restFrom b records i rest)
@@ -131,7 +131,7 @@ module _ (sides hours prices quantities : List ℕ) where
           ∙ rw (hour-count d (number b (getD records i 0)) (getD sides i 0) (getD hours i 0) (getD prices i 0) (getD quantities i 0), second-when)
 
     pub worthed-next : (set v c rest i worth v′ c′ : ℕ) → Worthed set v c rest i → i < length sides → worth ≤ 360000000 →
-        worth ≡ when (eqb (rest % 2) 1) (getD quantities i 0 * (getD prices i 0 * hourCount 24 (getD hours i 0))) →
+        worth ≡ when (eqb (rest % 2) 1) (getD quantities i 0 * (getD prices i 0 * hoursSet 24 (getD hours i 0))) →
         v′ ≡ v + bySide (sideFor (getD sides i 0)) worth 0 →
         c′ ≡ c + bySide (sideFor (getD sides i 0)) 0 worth → Worthed set v′ c′ (rest / 2) (i + 1)
     worthed-next set v c rest i worth v′ c′ s k small ew ev ec =

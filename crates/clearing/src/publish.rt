@@ -4,7 +4,7 @@ ghost use mathlib.Core.Path.{_≡_};
 ghost use Prim.Native.Nat.{_+_, _-_, _*_, _^_, _≤_};
 ghost use lib.ListN.{length, getD};
 ghost use lib.Dec.{eqb};
-ghost use Rattle.records.specs.Records.{hourCount};
+ghost use Rattle.records.specs.Records.{hoursSet};
 ghost use Rattle.rules.specs.Hour.{bySide, when};
 ghost use Rattle.orders.specs.Columns.{sideFor};
 ghost use Rattle.pricing.specs.Curves.{Columns};
@@ -110,7 +110,7 @@ fn put_hour(
 // What a block is worth: its quantity times its limit over all its hours, if it is chosen (1 for yes).
 fn block_worth(chosen: u32, hours: u32, price: u32, quantity: u32) -> u64
     requires { ⌜ (price ≤ 300000) × (quantity ≤ 50) ⌝ }
-    ensures { λ r. ⌜ (r ≡ when (eqb chosen 1) (quantity * (price * hourCount 24 hours))) × (r ≤ 360000000) ⌝ }
+    ensures { λ r. ⌜ (r ≡ when (eqb chosen 1) (quantity * (price * hoursSet 24 hours))) × (r ≤ 360000000) ⌝ }
 {
     if chosen == 1 {
         let limit = price * hour_count(hours);

@@ -6,8 +6,8 @@ use mathlib.Core.Path.{_≡_, refl, ap, sym, _∙_}
 use mathlib.Core.List.{List, [], _∷_, map}
 use lib.ListN.{length, take, length-map}
 use Rattle.rules.specs.Orders.{limits}
-use Rattle.records.specs.Records.{number, sideByte, blockAt, holdsHour, hourCount}
-use Rattle.book.specs.Chains.{stepChain, blockChain}
+use Rattle.records.specs.Records.{number, sideByte, blockAt, holdsHour, hoursSet}
+use Rattle.book.specs.Chains.{stepOrder, blockOrder}
 use Rattle.book.specs.Refusals.{Accepted}
 use Rattle.book.proofs.Members.{Each, each-map, each-image}
 use Rattle.book.proofs.Accepted.{StepRecord, BlockRecord, step-records, block-records, day-hours}
@@ -30,11 +30,11 @@ steps-from b [] = refl
 steps-from b (k ∷ l) = ap (λ (m : List Step). stepFrom b k ∷ m) (steps-from b l)
 
 -- The day's steps and blocks are those of the two chains, in chain order
-pub day-steps : (b : List ℕ) → dayFrom b .steps ≡ map (stepFrom b) (stepChain b)
+pub day-steps : (b : List ℕ) → dayFrom b .steps ≡ map (stepFrom b) (stepOrder b)
 unfolding dayFrom dayOf ordersOf canonical
-day-steps b = steps-from b (stepChain b)
+day-steps b = steps-from b (stepOrder b)
 
-pub day-blocks : (b : List ℕ) → dayFrom b .blocks ≡ map (blockFrom b) (blockChain b)
+pub day-blocks : (b : List ℕ) → dayFrom b .blocks ≡ map (blockFrom b) (blockOrder b)
 unfolding dayFrom dayOf ordersOf canonical
 day-blocks b = refl
 
@@ -67,14 +67,14 @@ block-in-range b k r = record { price = r .fields .price; quantity = r .fields .
 pub steps-in-range : (b : List ℕ) → Accepted b → Each StepInRange (dayFrom b .steps)
 steps-in-range b a =
     rw (day-steps b)
-    (each-image StepInRange (stepFrom b) (stepChain b)
-    (each-map (StepRecord b) (λ k. StepInRange (stepFrom b k)) (stepChain b) (step-in-range b) (step-records b a)))
+    (each-image StepInRange (stepFrom b) (stepOrder b)
+    (each-map (StepRecord b) (λ k. StepInRange (stepFrom b k)) (stepOrder b) (step-in-range b) (step-records b a)))
 
 pub blocks-in-range : (b : List ℕ) → Accepted b → Each BlockInRange (dayFrom b .blocks)
 blocks-in-range b a =
     rw (day-blocks b)
-    (each-image BlockInRange (blockFrom b) (blockChain b)
-    (each-map (BlockRecord b) (λ k. BlockInRange (blockFrom b k)) (blockChain b) (block-in-range b) (block-records b a)))
+    (each-image BlockInRange (blockFrom b) (blockOrder b)
+    (each-map (BlockRecord b) (λ k. BlockInRange (blockFrom b k)) (blockOrder b) (block-in-range b) (block-records b a)))
 
 -- What the rules ask of a day's steps
 prices-of : (l : List Step) → Each StepInRange l → PricesInRange l
@@ -126,17 +126,17 @@ block-count b count records sides hours prices quantities c a =
     rw (day-blocks b, length-map, ← blocks-all b a) (sym (c .counted))
 
 -- HOURS OF A BLOCK
-hours-counted : (n hours x : ℕ) → sumTo n (λ h. weight hours h * when (holdsHour x h) 1) ≡ hourCount n x
-unfolding sumTo weight hourCount
+hours-counted : (n hours x : ℕ) → sumTo n (λ h. weight hours h * when (holdsHour x h) 1) ≡ hoursSet n x
+unfolding sumTo weight hoursSet
 hours-counted zero hours x = refl
 hours-counted (suc n) hours x = rw (hours-counted n hours x) (at (holdsHour x (suc n)))
   where
-    at : (t : Bool) → hourCount n x + 1 * when t 1 ≡ hourCount n x + cond t 1 0
+    at : (t : Bool) → hoursSet n x + 1 * when t 1 ≡ hoursSet n x + cond t 1 0
     at true = refl
     at false = refl
 
 -- A block of the rules runs in as many hours as its 24 bits say
 pub hour-count : (day-hours number side hours price quantity : ℕ)
-    → day.hourCount day-hours (blockOf number side hours price quantity) ≡ hourCount 24 hours
+    → day.hourCount day-hours (blockOf number side hours price quantity) ≡ hoursSet 24 hours
 unfolding day.hourCount daySum
 hour-count day-hours number side hours price quantity = hours-counted 24 day-hours hours

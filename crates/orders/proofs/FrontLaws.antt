@@ -4,7 +4,7 @@ use mathlib.Core.Path.{_≡_, refl, sym, _∙_}
 use mathlib.Core.List.{List, map}
 use lib.ListN.{length, take, length-map}
 use Rattle.orders.specs.Columns.{byHour, blockRecords, padded, StepColumns, BlockColumns}
-use Rattle.orders.specs.Columns.{sideAt, priceAt, quantityAt, blockSideAt, blockHoursAt, blockPriceAt, blockQuantityAt}
+use Rattle.orders.specs.Columns.{stepSideAt, stepPriceAt, stepQuantityAt, blockSideAt, blockHoursAt, blockPriceAt, blockQuantityAt}
 use Rattle.orders.proofs.ColumnLaws.{padded-front, padded-whole}
 
 -- the numbers f of the records l in front of their column
@@ -20,14 +20,14 @@ module _ {b ends records sides prices quantities : List ℕ} (c : StepColumns b 
   pub step-records-front : take (length (byHour b 24)) records ≡ byHour b 24
   step-records-front = padded-front 2048 _ (byHour b 24) records refl (c .recordsAre)
 
-  pub step-sides-front : take (length (byHour b 24)) sides ≡ map (sideAt b) (byHour b 24)
-  step-sides-front = front-of 2048 _ (sideAt b) (byHour b 24) sides refl (c .sidesAre)
+  pub step-sides-front : take (length (byHour b 24)) sides ≡ map (stepSideAt b) (byHour b 24)
+  step-sides-front = front-of 2048 _ (stepSideAt b) (byHour b 24) sides refl (c .sidesAre)
 
-  pub step-prices-front : take (length (byHour b 24)) prices ≡ map (priceAt b) (byHour b 24)
-  step-prices-front = front-of 2048 _ (priceAt b) (byHour b 24) prices refl (c .pricesAre)
+  pub step-prices-front : take (length (byHour b 24)) prices ≡ map (stepPriceAt b) (byHour b 24)
+  step-prices-front = front-of 2048 _ (stepPriceAt b) (byHour b 24) prices refl (c .pricesAre)
 
-  pub step-quantities-front : take (length (byHour b 24)) quantities ≡ map (quantityAt b) (byHour b 24)
-  step-quantities-front = front-of 2048 _ (quantityAt b) (byHour b 24) quantities refl (c .quantitiesAre)
+  pub step-quantities-front : take (length (byHour b 24)) quantities ≡ map (stepQuantityAt b) (byHour b 24)
+  step-quantities-front = front-of 2048 _ (stepQuantityAt b) (byHour b 24) quantities refl (c .quantitiesAre)
 
 -- .. and its blocks, in arrays of any size
 module _ {n : ℕ} {b : List ℕ} {count : ℕ} {records sides hours prices quantities : List ℕ}

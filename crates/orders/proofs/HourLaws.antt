@@ -9,7 +9,7 @@ use borrow.Author.Tests.{ne-eqb}
 use lib.ListN.{length, take, getD, length-map}
 use lib.Seq.{slice, take-take, drop-at}
 use Rattle.records.specs.Records.{hourByte, sideByte, sideOf, stepAt}
-use Rattle.book.specs.Chains.{stepChain}
+use Rattle.book.specs.Chains.{stepOrder}
 use Rattle.book.specs.Refusals.{Accepted}
 use Rattle.book.proofs.Members.{Each}
 use Rattle.book.proofs.Accepted.{StepRecord, step-records}
@@ -17,7 +17,7 @@ use Rattle.rules.specs.Orders.{Step, stepsOf, canonical}
 use Rattle.rules.specs.Day.{dayOf, keep, stepsIn}
 use Rattle.rules.proofs.Tests.{by-eq}
 use Rattle.orders.specs.Bridge.{sideFrom, stepFrom, orderFrom, ordersOf, dayFrom}
-use Rattle.orders.specs.Columns.{stepRecords, inHour, byHour, sideAt, priceAt, quantityAt}
+use Rattle.orders.specs.Columns.{stepRecords, inHour, byHour, stepSideAt, stepPriceAt, stepQuantityAt}
 use Rattle.orders.specs.Columns.{StepColumns, sideFor, stepsFrom}
 use Rattle.orders.proofs.ColumnLaws.{same, map-same}
 use Rattle.orders.proofs.FrontLaws.{step-records-front, step-sides-front, step-prices-front, step-quantities-front}
@@ -85,16 +85,16 @@ hour-records b ends records sides prices quantities c h first last =
     hour-column same b ends records (c .endsAt) (step-records-front c ∙ sym (map-same (byHour b 24))) h first last ∙ map-same (inHour b h (stepRecords b))
 
 pub hour-sides : (b ends records sides prices quantities : List ℕ) → StepColumns b ends records sides prices quantities
-    → (h : ℕ) → 1 ≤ h → h ≤ 24 → slice (getD ends (h - 1) 0) (getD ends h 0) sides ≡ map (sideAt b) (inHour b h (stepRecords b))
-hour-sides b ends records sides prices quantities c = hour-column (sideAt b) b ends sides (c .endsAt) (step-sides-front c)
+    → (h : ℕ) → 1 ≤ h → h ≤ 24 → slice (getD ends (h - 1) 0) (getD ends h 0) sides ≡ map (stepSideAt b) (inHour b h (stepRecords b))
+hour-sides b ends records sides prices quantities c = hour-column (stepSideAt b) b ends sides (c .endsAt) (step-sides-front c)
 
 pub hour-prices : (b ends records sides prices quantities : List ℕ) → StepColumns b ends records sides prices quantities
-    → (h : ℕ) → 1 ≤ h → h ≤ 24 → slice (getD ends (h - 1) 0) (getD ends h 0) prices ≡ map (priceAt b) (inHour b h (stepRecords b))
-hour-prices b ends records sides prices quantities c = hour-column (priceAt b) b ends prices (c .endsAt) (step-prices-front c)
+    → (h : ℕ) → 1 ≤ h → h ≤ 24 → slice (getD ends (h - 1) 0) (getD ends h 0) prices ≡ map (stepPriceAt b) (inHour b h (stepRecords b))
+hour-prices b ends records sides prices quantities c = hour-column (stepPriceAt b) b ends prices (c .endsAt) (step-prices-front c)
 
 pub hour-quantities : (b ends records sides prices quantities : List ℕ) → StepColumns b ends records sides prices quantities
-    → (h : ℕ) → 1 ≤ h → h ≤ 24 → slice (getD ends (h - 1) 0) (getD ends h 0) quantities ≡ map (quantityAt b) (inHour b h (stepRecords b))
-hour-quantities b ends records sides prices quantities c = hour-column (quantityAt b) b ends quantities (c .endsAt) (step-quantities-front c)
+    → (h : ℕ) → 1 ≤ h → h ≤ 24 → slice (getD ends (h - 1) 0) (getD ends h 0) quantities ≡ map (stepQuantityAt b) (inHour b h (stepRecords b))
+hour-quantities b ends records sides prices quantities c = hour-column (stepQuantityAt b) b ends quantities (c .endsAt) (step-quantities-front c)
 
 -- THE RULES' STEPS OF AN HOUR
 -- the side's byte names the rules' side
@@ -103,32 +103,32 @@ side-same zero = refl
 side-same (suc s) = rw (ne-eqb (suc s) 0 (λ e. omega arith))
 
 step-same : (b : List ℕ) (k h : ℕ) → StepRecord b k → hourByte b k ≡ h
-    → stepFrom b k ≡ record { hour = h; side = sideFor (sideAt b k); price = priceAt b k; quantity = quantityAt b k }
+    → stepFrom b k ≡ record { hour = h; side = sideFor (stepSideAt b k); price = stepPriceAt b k; quantity = stepQuantityAt b k }
 unfolding stepFrom stepAt
 step-same b k h r e = let n = step-as-read b k r in rw (e, n .side, n .price, n .quantity, side-same (sideByte b k))
 
 steps-in : (b : List ℕ) (h : ℕ) (l : List ℕ) → Each (StepRecord b) l → stepsIn h (stepsOf (map (orderFrom b) l))
-    ≡ stepsFrom h (map (sideAt b) (inHour b h l)) (map (priceAt b) (inHour b h l)) (map (quantityAt b) (inHour b h l))
+    ≡ stepsFrom h (map (stepSideAt b) (inHour b h l)) (map (stepPriceAt b) (inHour b h l)) (map (stepQuantityAt b) (inHour b h l))
 unfolding stepsOf orderFrom stepFrom stepAt inHour stepsFrom
 steps-in b h [] r = refl
 steps-in b h (k ∷ l) r =
     by-eq
     (λ t. keep t (stepFrom b k) (stepsIn h (stepsOf (map (orderFrom b) l)))
-    ≡ stepsFrom h (map (sideAt b) (keep t k (inHour b h l))) (map (priceAt b) (keep t k (inHour b h l)))
-    (map (quantityAt b) (keep t k (inHour b h l))))
+    ≡ stepsFrom h (map (stepSideAt b) (keep t k (inHour b h l))) (map (stepPriceAt b) (keep t k (inHour b h l)))
+    (map (stepQuantityAt b) (keep t k (inHour b h l))))
     (hourByte b k) h
     (λ e.
     ap (λ (s : Step). s ∷ stepsIn h (stepsOf (map (orderFrom b) l))) (step-same b k h (r .0) e)
-    ∙ ap (λ (m : List Step). record { hour = h; side = sideFor (sideAt b k); price = priceAt b k; quantity = quantityAt b k } ∷ m) (steps-in b h l (r .1)))
+    ∙ ap (λ (m : List Step). record { hour = h; side = sideFor (stepSideAt b k); price = stepPriceAt b k; quantity = stepQuantityAt b k } ∷ m) (steps-in b h l (r .1)))
     (λ e. steps-in b h l (r .1))
 
 -- The steps that the rules see in hour h, out of the columns of the steps of that hour
 pub hour-steps : (b : List ℕ) → Accepted b → (h : ℕ)
     → stepsIn h (dayFrom b .steps)
-    ≡ stepsFrom h (map (sideAt b) (inHour b h (stepRecords b))) (map (priceAt b) (inHour b h (stepRecords b)))
-    (map (quantityAt b) (inHour b h (stepRecords b)))
+    ≡ stepsFrom h (map (stepSideAt b) (inHour b h (stepRecords b))) (map (stepPriceAt b) (inHour b h (stepRecords b)))
+    (map (stepQuantityAt b) (inHour b h (stepRecords b)))
 unfolding dayFrom dayOf ordersOf canonical
-hour-steps b a h = rw (steps-all b a) (steps-in b h (stepChain b) (step-records b a))
+hour-steps b a h = rw (steps-all b a) (steps-in b h (stepOrder b) (step-records b a))
 
 -- .. and so out of the book's columns
 pub hour-from-columns : (b ends records sides prices quantities : List ℕ) → StepColumns b ends records sides prices quantities → Accepted b

@@ -5,12 +5,12 @@ use mathlib.Core.List.{List, [], _∷_, map}
 use native.Mathlib.Omega.{arith}
 use lib.ListN.{length, take, getD}
 use lib.Seq.{getD-take}
-use Rattle.records.specs.Records.{sideByte, stepAt, blockAt, hourCount}
+use Rattle.records.specs.Records.{sideByte, stepAt, blockAt, hoursSet}
 use Rattle.rules.specs.Orders.{limits}
 use Rattle.book.specs.Refusals.{Accepted}
 use Rattle.book.proofs.Members.{each-place}
 use Rattle.book.proofs.Accepted.{StepRecord, BlockRecord}
-use Rattle.orders.specs.Columns.{blockRecords, byHour, sideAt, priceAt, quantityAt, blockSideAt, blockHoursAt, blockPriceAt, blockQuantityAt}
+use Rattle.orders.specs.Columns.{blockRecords, byHour, stepSideAt, stepPriceAt, stepQuantityAt, blockSideAt, blockHoursAt, blockPriceAt, blockQuantityAt}
 use Rattle.orders.specs.Columns.{StepColumns, BlockColumns}
 use Rattle.orders.proofs.ColumnLaws.{same, map-same}
 use Rattle.orders.proofs.FrontLaws.{step-records-front, step-sides-front, step-prices-front, step-quantities-front}
@@ -35,7 +35,7 @@ pub record StepPlace (b : List ℕ) (k side price quantity : ℕ) : Type 0 where
   pub priceRange : (1 ≤ price) × (price ≤ 300000)
   pub quantityRange : (1 ≤ quantity) × (quantity ≤ 99999)
 
-step-placed : (b : List ℕ) (k side price quantity : ℕ) → StepRecord b k → side ≡ sideAt b k → price ≡ priceAt b k → quantity ≡ quantityAt b k
+step-placed : (b : List ℕ) (k side price quantity : ℕ) → StepRecord b k → side ≡ stepSideAt b k → price ≡ stepPriceAt b k → quantity ≡ stepQuantityAt b k
     → StepPlace b k side price quantity
 step-placed b k side price quantity r s p q =
     let n = step-as-read b k r in
@@ -59,9 +59,9 @@ step-place b ends records sides prices quantities c a i h =
     rw k
     (step-placed b (getD l i 0) _ _ _
     (each-place (StepRecord b) l i 0 (byHour-each (StepRecord b) b 24 (step-each b a)) g)
-    (place-of (sideAt b) n l sides refl (step-sides-front c) i g)
-    (place-of (priceAt b) n l prices refl (step-prices-front c) i g)
-    (place-of (quantityAt b) n l quantities refl (step-quantities-front c) i g))
+    (place-of (stepSideAt b) n l sides refl (step-sides-front c) i g)
+    (place-of (stepPriceAt b) n l prices refl (step-prices-front c) i g)
+    (place-of (stepQuantityAt b) n l quantities refl (step-quantities-front c) i g))
 
 -- A block's numbers at one place of the columns: those of record k, which is a block of the book, each in its range
 pub record BlockPlace (b : List ℕ) (k side hours price quantity : ℕ) : Type 0 where
@@ -71,7 +71,7 @@ pub record BlockPlace (b : List ℕ) (k side hours price quantity : ℕ) : Type 
   pub priceIs : price ≡ blockAt b k .price
   pub quantityIs : quantity ≡ blockAt b k .quantity
   pub sideRange : side ≤ 1
-  pub hoursCount : 2 ≤ hourCount 24 hours
+  pub hoursCount : 2 ≤ hoursSet 24 hours
   pub priceRange : (1 ≤ price) × (price ≤ 300000)
   pub quantityRange : (1 ≤ quantity) × (quantity ≤ 50)
 

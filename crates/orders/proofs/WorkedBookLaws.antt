@@ -6,13 +6,14 @@ use mathlib.Core.List.{List, [], _∷_}
 use Rattle.records.specs.Bytes.{u16At, u24At, u32At, nonzero}
 use Rattle.book.specs.Tests.{within, someBelow, someIn, countIn}
 use Rattle.rules.specs.Orders.{limits}
-use Rattle.records.specs.Records.{stepAt, blockAt, recordAt, hourCount}
-use Rattle.book.specs.Chains.{chainFrom}
+use Rattle.records.specs.Records.{stepAt, blockAt, recordAt, hoursSet}
+use Rattle.book.specs.Chains.{chainFrom, chains, isOn, stepOrder, blockOrder}
 use Rattle.book.specs.Refusals.{
   wrongSize,
   wrongHead,
   misplaced,
   broken,
+  brokenOn,
   brokenChain,
   stepFits,
   blockFits,
@@ -20,13 +21,14 @@ use Rattle.book.specs.Refusals.{
   blockInRange,
   recordInRange,
   outOfRange,
+  wrongFieldOn,
   wrongField,
   stray,
   strayRecord,
   ownedBy,
   tooManyOf,
   tooManyBlocks,
-  firstOf,
+  firstCause,
   ownCauses,
   refusal,
 }
@@ -60,13 +62,13 @@ worked (b ∷ books) (d ∷ days) a r h = (
 )
 
 books-accepted : AllAccepted workedBooks
-unfolding AllAccepted workedBooks bookOf chained refusal ownCauses firstOf wrongSize wrongHead brokenChain broken misplaced wrongField outOfRange
-    recordInRange stepInRange blockInRange stepFits blockFits strayRecord stray tooManyBlocks tooManyOf ownedBy within someBelow someIn countIn nonzero limits
-    hourCount recordAt stepAt blockAt chainFrom u16At u24At u32At
+unfolding AllAccepted workedBooks bookOf chained refusal ownCauses firstCause wrongSize wrongHead brokenChain brokenOn broken misplaced wrongField wrongFieldOn
+    outOfRange recordInRange stepInRange blockInRange stepFits blockFits strayRecord stray tooManyBlocks tooManyOf ownedBy within someBelow someIn countIn
+    nonzero limits hoursSet recordAt stepAt blockAt chainFrom chains isOn u16At u24At u32At
 books-accepted = (refl, (refl, (refl, (refl, (refl, (refl, (refl, (refl, (refl, (refl, tt))))))))))
 
 books-read : AllRead workedBooks workedDays
-unfolding AllRead workedBooks workedDays bookOf chained ordersOf orderFrom stepFrom blockFrom stepAt blockAt chainFrom u16At u24At u32At
+unfolding AllRead workedBooks workedDays bookOf chained ordersOf orderFrom stepFrom blockFrom stepAt blockAt stepOrder blockOrder chainFrom u16At u24At u32At
 books-read = (refl, (refl, (refl, (refl, (refl, (refl, (refl, (refl, (refl, (refl, tt))))))))))
 
 -- S1 TO S10

@@ -3,7 +3,7 @@
 use Prim.Native.Nat.{ℕ}
 use mathlib.Core.List.{List, map}
 use Rattle.records.specs.Records.{dayHours, stepAt, blockAt, holdsHour}
-use Rattle.book.specs.Chains.{stepChain, blockChain}
+use Rattle.book.specs.Chains.{stepOrder, blockOrder}
 use Rattle.records.specs.declared.Side as read
 use Rattle.records.specs.declared.Side.the-variants as read-side
 use Rattle.rules.specs.Orders.{Side, buy, sell, Step, Order, Block, Orders}
@@ -39,10 +39,10 @@ blockFrom b k =
       runs = holdsHour (blockAt b k .hours);
     }
 
--- The orders of a book, each chain in its own order.
+-- The orders of a book: the steps and the blocks, each in their order.
 unfoldable pub ordersOf : List ℕ → Orders
 ordersOf b =
-    record { hours = dayHours b; steps = map (orderFrom b) (stepChain b); blocks = map (blockFrom b) (blockChain b) }
+    record { hours = dayHours b; steps = map (orderFrom b) (stepOrder b); blocks = map (blockFrom b) (blockOrder b) }
 
 -- The day that a book makes.
 unfoldable pub dayFrom : List ℕ → Day

@@ -4,6 +4,8 @@ use Prim.Native.Nat.{ℕ, suc, _+_, _/_, _%_}
 use mathlib.Core.Path.{_≡_}
 use mathlib.Core.List.{List, [], _∷_, _++_}
 use lib.ListN.{length, replicate}
+use Rattle.records.specs.Layout.{stepKind, blockKind, headRestSize}
+use Rattle.book.specs.Bounds.{normalHours, firstEdition}
 use Rattle.book.specs.Refusals.{refusal}
 use Rattle.rules.specs.Outcome.{published}
 use Rattle.rules.specs.WorkedDays.{WorkedDay, Answered}
@@ -23,11 +25,11 @@ four n = n / 16777216 % 256 ∷ three n
 -- A step's record, then a block's, each up to the index of the record that follows it on its chain.
 abbrev pub stepRecord : (number side hour portfolio quantity price : ℕ) → ℕ → List ℕ
 stepRecord number side hour portfolio quantity price next =
-    1 ∷ side ∷ two next ++ two number ++ hour ∷ portfolio ∷ four price ++ four quantity
+    stepKind ∷ side ∷ two next ++ two number ++ hour ∷ portfolio ∷ four price ++ four quantity
 
 abbrev pub blockRecord : (number side portfolio hours quantity price : ℕ) → ℕ → List ℕ
 blockRecord number side portfolio hours quantity price next =
-    2 ∷ side ∷ two next ++ two number ++ 0 ∷ portfolio ∷ three hours ++ three price ++ two quantity
+    blockKind ∷ side ∷ two next ++ two number ++ 0 ∷ portfolio ∷ three hours ++ three price ++ two quantity
 
 -- The records of a chain, the first at index k and each followed by the next; the last is followed by none.
 unfoldable pub chained : ℕ → List (ℕ → List ℕ) → List ℕ
@@ -43,7 +45,8 @@ firstAt k (r ∷ l) = k
 -- A book: the head, the steps from record 1 on, the blocks after them.
 unfoldable pub bookOf : List (ℕ → List ℕ) → List (ℕ → List ℕ) → List ℕ
 bookOf steps blocks =
-    two (1 + length steps + length blocks) ++ two (firstAt 1 steps) ++ two (firstAt (1 + length steps) blocks) ++ 24 ∷ 1 ∷ replicate 8 0
+    two (1 + length steps + length blocks) ++ two (firstAt 1 steps) ++ two (firstAt (1 + length steps) blocks) ++ normalHours ∷ firstEdition
+    ∷ replicate headRestSize 0
     ++ chained 1 steps ++ chained (1 + length steps) blocks
 
 -- THE BOOKS

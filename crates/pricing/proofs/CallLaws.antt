@@ -11,8 +11,8 @@ use lib.ListN.{length, take, drop, getD, length-drop}
 use lib.Seq.{slice, length-take-le, getD-take}
 use borrow.Author.Tests.{eq-eqb, ne-eqb, le-leb, lt-leb}
 use Rattle.book.specs.Tests.{within}
-use Rattle.book.specs.Chains.{blockChain}
-use Rattle.book.specs.Refusals.{Accepted, refusal, firstOf, ownCauses}
+use Rattle.book.specs.Chains.{blockOrder}
+use Rattle.book.specs.Refusals.{Accepted, refusal, firstCause, ownCauses}
 use Rattle.book.proofs.Accepted.{accepted-zero}
 use Rattle.book.proofs.Refused.{bounds, refusal-then}
 use Rattle.rules.specs.Orders.{Block}
@@ -128,13 +128,13 @@ bits-enough set count room k = lt-leb (2 ^ count) set (omega (arith, pow-mono {i
 pub call-refused : (b : List ℕ) (set hour n : ℕ) → refusal b ≡ n → (n ≡ 0 → ⊥) → hourAnswer b set hour ≡ Refused n
 unfolding hourAnswer priceCauses
 call-refused b set hour n e f =
-    let first : firstOf (ownCauses b ++ ((wrongCall b set hour, 8) ∷ [])) ≡ n =
+    let first : firstCause (ownCauses b ++ ((wrongCall b set hour, 8) ∷ [])) ≡ n =
     refusal-then b ((wrongCall b set hour, 8) ∷ []) ∙ rw (e, ne-eqb n 0 f) in
     rw (first, ne-eqb n 0 f)
 
 module _ (b : List ℕ) (a : Accepted b) (set hour : ℕ) where
-  causes-are : firstOf (priceCauses b set hour) ≡ cond (wrongCall b set hour) 8 0
-  unfolding priceCauses firstOf
+  causes-are : firstCause (priceCauses b set hour) ≡ cond (wrongCall b set hour) 8 0
+  unfolding priceCauses firstCause
   causes-are = refusal-then b ((wrongCall b set hour, 8) ∷ []) ∙ rw (accepted-zero b a)
 
   pub call-wrong : wrongCall b set hour ≡ true → hourAnswer b set hour ≡ Refused 8
@@ -151,10 +151,10 @@ module _ (b : List ℕ) (a : Accepted b) (set hour : ℕ) where
     where
       inside : (t : Bool) → within 1 hour 24 ≡ t → t ≡ true
       inside true k = refl
-      inside false k = absurd (true≢false (ap (λ t. not t || leb (2 ^ length (blockChain b)) set) (sym k) ∙ e))
+      inside false k = absurd (true≢false (ap (λ t. not t || leb (2 ^ length (blockOrder b)) set) (sym k) ∙ e))
 
   -- the code's test for 8
-  pub wrong-is : (absent : Bool) → absent ≡ leb (2 ^ length (blockChain b)) set → ((ltb hour 1 || ltb 24 hour) || absent) ≡ wrongCall b set hour
+  pub wrong-is : (absent : Bool) → absent ≡ leb (2 ^ length (blockOrder b)) set → ((ltb hour 1 || ltb 24 hour) || absent) ≡ wrongCall b set hour
   unfolding wrongCall within
   wrong-is absent e =
       rw e (by-lt (λ t. ((t || ltb 24 hour) || x) ≡ (not (leb 1 hour && leb hour 24) || x)) hour 1
@@ -162,13 +162,13 @@ module _ (b : List ℕ) (a : Accepted b) (set hour : ℕ) where
       (λ k. rw (le-leb 1 hour k) (by-lt (λ t. (t || x) ≡ (not (leb hour 24) || x)) 24 hour (λ j. rw (lt-leb hour 24 j)) (λ j. rw (le-leb hour 24 j)))))
     where
       x : Bool
-      x = leb (2 ^ length (blockChain b)) set
+      x = leb (2 ^ length (blockOrder b)) set
 
 -- THE NUMBER of an answer is that of the first cause that holds, 0 where the hour is answered
-pub number-answered : (b : List ℕ) (set hour : ℕ) → numberOf (hourAnswer b set hour) ≡ firstOf (priceCauses b set hour)
+pub number-answered : (b : List ℕ) (set hour : ℕ) → numberOf (hourAnswer b set hour) ≡ firstCause (priceCauses b set hour)
 unfolding hourAnswer
 number-answered b set hour =
-    let first = firstOf (priceCauses b set hour) in
+    let first = firstCause (priceCauses b set hour) in
     by-eq (λ t. numberOf (cond t (answerFor (hourAnswered b set hour)) (Refused first)) ≡ first) first 0
     (λ none. answered (hourAnswered b set hour) ∙ sym none) (λ _. refl)
   where

@@ -4,7 +4,7 @@ use mathlib.Core.Path.{_≡_}
 use mathlib.Core.List.{List}
 use lib.ListN.{length}
 use borrow.Author.Tests.{lt-leb}
-use Rattle.book.specs.Chains.{blockChain}
+use Rattle.book.specs.Chains.{blockOrder}
 use Rattle.rules.specs.Day.{stepsIn, overBlocks, sells, buys}
 use Rattle.rules.proofs.PricingLaws.{pricing-net}
 use Rattle.orders.specs.Bridge.{dayFrom}
@@ -21,7 +21,7 @@ same-net-same-pricing b hour one other same =
 same-causes : (b : List ℕ) (hour one other : ℕ) → SetOf b one → SetOf b other → priceCauses b one hour ≡ priceCauses b other hour
 unfolding priceCauses wrongCall
 same-causes b hour one other in-one in-other =
-    rw (lt-leb (2 ^ length (blockChain b)) one in-one, lt-leb (2 ^ length (blockChain b)) other in-other)
+    rw (lt-leb (2 ^ length (blockOrder b)) one in-one, lt-leb (2 ^ length (blockOrder b)) other in-other)
 
 pub same-net-same-answer : (b : List ℕ) (hour one other : ℕ) → SetOf b one → SetOf b other → SameNet b hour one other →
     hourAnswer b one hour ≡ hourAnswer b other hour

@@ -7,8 +7,8 @@ use mathlib.Core.Path.{_≡_}
 use lib.Dec.{eqb, leb}
 use lib.ListN.{length}
 use Rattle.book.specs.Tests.{within}
-use Rattle.book.specs.Chains.{blockChain}
-use Rattle.book.specs.Refusals.{ownCauses, firstOf}
+use Rattle.book.specs.Chains.{blockOrder}
+use Rattle.book.specs.Refusals.{ownCauses, firstCause}
 use Rattle.rules.specs.Hour.{Pricing, cleared, doesNotClear, pricing}
 use Rattle.rules.specs.Orders.{Block}
 use Rattle.rules.specs.Day.{taken, decisions, overBlocks, sells, buys, hourOf}
@@ -32,7 +32,7 @@ numberOf (Refused n) = n
 
 -- 8: hour outside 1 to 24, or a set that names a block position not there.
 unfoldable pub wrongCall : List ℕ → ℕ → ℕ → Bool
-wrongCall b set hour = not (within 1 hour 24) || leb (2 ^ length (blockChain b)) set
+wrongCall b set hour = not (within 1 hour 24) || leb (2 ^ length (blockOrder b)) set
 
 -- The causes of a pricing call in the order in which they are looked for: the book's own, then 8.
 unfoldable pub priceCauses : List ℕ → ℕ → ℕ → List (Bool × ℕ)
@@ -46,7 +46,7 @@ hourAnswered b set hour =
 -- The answer of a pricing call.
 unfoldable pub hourAnswer : List ℕ → ℕ → ℕ → HourAnswer
 hourAnswer b set hour =
-    let number = firstOf (priceCauses b set hour) in
+    let number = firstCause (priceCauses b set hour) in
     cond (eqb number 0) (answerFor (hourAnswered b set hour)) (Refused number)
 
 -- The answer for columns and N is the rules' answer for their hour, whichever hour it is, where its prices are in range.
@@ -60,7 +60,7 @@ blocksOf b set = taken (dayFrom b .blocks) (decisions (length (dayFrom b .blocks
 
 -- A set of the book's blocks: 32 bits, none past the last block.
 abbrev pub SetOf : List ℕ → ℕ → Type 0
-SetOf b set = set < 2 ^ length (blockChain b)
+SetOf b set = set < 2 ^ length (blockOrder b)
 
 -- Two sets have the same N in an hour: block sales less block purchases, each purchase written on the other side.
 abbrev pub SameNet : List ℕ → (hour one other : ℕ) → Type 0

@@ -7,7 +7,7 @@ use native.Mathlib.Omega.{arith}
 use native.Mathlib.Numerals.{sub-one, add-one}
 use lib.Dec.{eqb}
 use Rattle.records.specs.Bytes.{byteAt, nonzero}
-use Rattle.records.specs.Records.{hourCount}
+use Rattle.records.specs.Records.{hoursSet}
 
 -- No byte is left to look at
 pub nonzero-none : (b : List ℕ) (i n : ℕ) → n ≤ 0 → nonzero b i n ≡ false
@@ -22,6 +22,6 @@ nonzero-more b i zero h = absurd (omega arith)
 nonzero-more b i (suc n) h = rw sub-one
 
 -- One hour more
-pub hour-more : (n x : ℕ) → hourCount (n + 1) x ≡ hourCount n x + cond (eqb (x / 2 ^ n % 2) 1) 1 0
-unfolding hourCount
+pub hour-more : (n x : ℕ) → hoursSet (n + 1) x ≡ hoursSet n x + cond (eqb (x / 2 ^ n % 2) 1) 1 0
+unfolding hoursSet
 hour-more n x = rw (add-one, sub-one)

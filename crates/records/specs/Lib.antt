@@ -1,3 +1,4 @@
 -- What a reader of this crate must believe, beside document 01: definitions alone. The laws about them stand in proofs/.
 pub mod Bytes
+pub mod Layout
 pub mod Records

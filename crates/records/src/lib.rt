@@ -2,12 +2,18 @@
 // Nothing is judged here: every call takes any bytes, ends, and has no `requires`. A missing byte reads as 0, and a
 // record that the book ends within is neither a step nor a block. Assumes nothing.
 mod bytes; // numbers in the bytes
+mod layout; // where a book's bytes have what
 mod records; // the fields of the head and of a record
 
 pub use bytes::is_nonzero;
 pub use bytes::u32_at;
-pub use records::BLOCK;
-pub use records::STEP;
+pub use layout::BLOCK_KIND;
+pub use layout::HEAD_REST_OFFSET;
+pub use layout::HEAD_REST_SIZE;
+pub use layout::LAST_HOUR;
+pub use layout::LAST_SIDE;
+pub use layout::RECORD_SIZE;
+pub use layout::STEP_KIND;
 pub use records::block_quantity;
 pub use records::day_hours;
 pub use records::edition_of;

@@ -2,9 +2,10 @@
 // Record k starts at byte 16 * k. Assumes nothing.
 ghost use mathlib.Core.Path.{_≡_};
 ghost use Prim.Native.Nat.{_+_, _*_};
+ghost use Rattle.records.specs.Layout.{lastHour};
 ghost use Rattle.records.specs.Records.{recordCount, firstStep, firstBlock, dayHours, edition};
 ghost use Rattle.records.specs.Records.{kind, sideByte, next, number, hourByte, portfolio};
-ghost use Rattle.records.specs.Records.{sideOf, stepAt, blockAt, recordAt, hourCount};
+ghost use Rattle.records.specs.Records.{sideOf, stepAt, blockAt, recordAt, hoursSet};
 use crate::Block;
 use crate::Record;
 use crate::Side;
@@ -13,80 +14,93 @@ use crate::bytes::byte_at;
 use crate::bytes::u16_at;
 use crate::bytes::u24_at;
 use crate::bytes::u32_at;
-
-// The kind of a step.
-pub const STEP: u8 = 1;
-
-// The kind of a block.
-pub const BLOCK: u8 = 2;
+use crate::layout::BLOCK_HOURS_OFFSET;
+use crate::layout::BLOCK_KIND;
+use crate::layout::BLOCK_PRICE_OFFSET;
+use crate::layout::BLOCK_QUANTITY_OFFSET;
+use crate::layout::COUNT_OFFSET;
+use crate::layout::DAY_HOURS_OFFSET;
+use crate::layout::EDITION_OFFSET;
+use crate::layout::FIRST_BLOCK_OFFSET;
+use crate::layout::FIRST_STEP_OFFSET;
+use crate::layout::HOUR_OFFSET;
+use crate::layout::LAST_HOUR;
+use crate::layout::NEXT_OFFSET;
+use crate::layout::NUMBER_OFFSET;
+use crate::layout::PORTFOLIO_OFFSET;
+use crate::layout::RECORD_SIZE;
+use crate::layout::SIDE_OFFSET;
+use crate::layout::STEP_KIND;
+use crate::layout::STEP_PRICE_OFFSET;
+use crate::layout::STEP_QUANTITY_OFFSET;
 
 // The head's fields.
 pub fn record_count(book: &[u8]) -> u16
     ensures { λ r. ⌜ r ≡ recordCount (now (book .entry)) ⌝ }
 {
-    u16_at(book, 0)
+    u16_at(book, COUNT_OFFSET)
 }
 
 pub fn first_step(book: &[u8]) -> u16
     ensures { λ r. ⌜ r ≡ firstStep (now (book .entry)) ⌝ }
 {
-    u16_at(book, 2)
+    u16_at(book, FIRST_STEP_OFFSET)
 }
 
 pub fn first_block(book: &[u8]) -> u16
     ensures { λ r. ⌜ r ≡ firstBlock (now (book .entry)) ⌝ }
 {
-    u16_at(book, 4)
+    u16_at(book, FIRST_BLOCK_OFFSET)
 }
 
 pub fn day_hours(book: &[u8]) -> u8
     ensures { λ r. ⌜ r ≡ dayHours (now (book .entry)) ⌝ }
 {
-    byte_at(book, 6)
+    byte_at(book, DAY_HOURS_OFFSET)
 }
 
 pub fn edition_of(book: &[u8]) -> u8
     ensures { λ r. ⌜ r ≡ edition (now (book .entry)) ⌝ }
 {
-    byte_at(book, 7)
+    byte_at(book, EDITION_OFFSET)
 }
 
 // The fields that steps and blocks share.
 pub fn kind_of(book: &[u8], k: u16) -> u8
     ensures { λ r. ⌜ r ≡ kind (now (book .entry)) k ⌝ }
 {
-    byte_at(book, 16 * (k as u32))
+    byte_at(book, RECORD_SIZE * (k as u32))
 }
 
 pub fn side_byte(book: &[u8], k: u16) -> u8
     ensures { λ r. ⌜ r ≡ sideByte (now (book .entry)) k ⌝ }
 {
-    byte_at(book, 16 * (k as u32) + 1)
+    byte_at(book, RECORD_SIZE * (k as u32) + SIDE_OFFSET)
 }
 
 pub fn next_of(book: &[u8], k: u16) -> u16
     ensures { λ r. ⌜ r ≡ next (now (book .entry)) k ⌝ }
 {
-    u16_at(book, 16 * (k as u32) + 2)
+    u16_at(book, RECORD_SIZE * (k as u32) + NEXT_OFFSET)
 }
 
 pub fn number_of(book: &[u8], k: u16) -> u16
     ensures { λ r. ⌜ r ≡ number (now (book .entry)) k ⌝ }
 {
-    u16_at(book, 16 * (k as u32) + 4)
+    u16_at(book, RECORD_SIZE * (k as u32) + NUMBER_OFFSET)
 }
 
 // A step's hour; 0 in a block.
 pub fn hour_byte(book: &[u8], k: u16) -> u8
     ensures { λ r. ⌜ r ≡ hourByte (now (book .entry)) k ⌝ }
 {
-    byte_at(book, 16 * (k as u32) + 6)
+    byte_at(book, RECORD_SIZE * (k as u32) + HOUR_OFFSET)
 }
 
 pub fn portfolio_of(book: &[u8], k: u16) -> u8
     ensures { λ r. ⌜ r ≡ portfolio (now (book .entry)) k ⌝ }
 {
-    byte_at(book, 16 * (k as u32) + 7)
+    byte_at(book, RECORD_SIZE * (k as u32) + PORTFOLIO_OFFSET)
 }
 
 fn side_of(byte: u8) -> Side
@@ -99,14 +113,14 @@ fn side_of(byte: u8) -> Side
 pub fn step_at(book: &[u8], k: u16) -> Step
     ensures { λ r. ⌜ r ≡ stepAt (now (book .entry)) k ⌝ }
 {
-    let at = 16 * (k as u32);
+    let at = RECORD_SIZE * (k as u32);
     Step {
         side: side_of(side_byte(book, k)),
         number: number_of(book, k),
         hour: hour_byte(book, k),
         portfolio: portfolio_of(book, k),
-        price: u32_at(book, at + 8),
-        quantity: u32_at(book, at + 12),
+        price: u32_at(book, at + STEP_PRICE_OFFSET),
+        quantity: u32_at(book, at + STEP_QUANTITY_OFFSET),
     }
 }
 
@@ -114,20 +128,20 @@ pub fn step_at(book: &[u8], k: u16) -> Step
 pub fn block_quantity(book: &[u8], k: u16) -> u16
     ensures { λ r. ⌜ r ≡ blockAt (now (book .entry)) k .quantity ⌝ }
 {
-    u16_at(book, 16 * (k as u32) + 14)
+    u16_at(book, RECORD_SIZE * (k as u32) + BLOCK_QUANTITY_OFFSET)
 }
 
 // Record k read as a block, whatever its kind. `record_at` is its only caller: with a second one it stays a call, and each reading of a record is slower.
 fn block_at(book: &[u8], k: u16) -> Block
     ensures { λ r. ⌜ r ≡ blockAt (now (book .entry)) k ⌝ }
 {
-    let at = 16 * (k as u32);
+    let at = RECORD_SIZE * (k as u32);
     Block {
         side: side_of(side_byte(book, k)),
         number: number_of(book, k),
         portfolio: portfolio_of(book, k),
-        hours: u24_at(book, at + 8),
-        price: u24_at(book, at + 11),
+        hours: u24_at(book, at + BLOCK_HOURS_OFFSET),
+        price: u24_at(book, at + BLOCK_PRICE_OFFSET),
         quantity: block_quantity(book, k),
     }
 }
@@ -136,15 +150,15 @@ fn block_at(book: &[u8], k: u16) -> Block
 pub fn record_at(book: &[u8], k: u16) -> Record
     ensures { λ r. ⌜ r ≡ recordAt (now (book .entry)) k ⌝ }
 {
-    let behind = 16 * (k as usize) + 16;
-    if book.len() < behind {
+    let behind = RECORD_SIZE * (k as u32) + RECORD_SIZE;
+    if book.len() < behind as usize {
         return Record::Other;
     }
     let kind = kind_of(book, k);
-    if kind == STEP {
+    if kind == STEP_KIND {
         return Record::Step(step_at(book, k));
     }
-    if kind == BLOCK {
+    if kind == BLOCK_KIND {
         return Record::Block(block_at(book, k));
     }
     Record::Other
@@ -152,12 +166,12 @@ pub fn record_at(book: &[u8], k: u16) -> Record
 
 // How many of the 24 hours are set.
 pub fn hour_count(hours: u32) -> u32
-    ensures { λ r. ⌜ r ≡ hourCount 24 hours ⌝ }
+    ensures { λ r. ⌜ r ≡ hoursSet lastHour hours ⌝ }
 {
     let mut count = 0;
     let mut rest = hours;
     let mut h: u32 = 0;
-    while h < 24 {
+    while h < LAST_HOUR {
         if rest % 2 == 1 {
             count += 1;
         }

@@ -12,8 +12,8 @@ use borrow.Author.Tests.{eq-eqb, ne-eqb, eqb-true}
 use Rattle.records.specs.Bytes.{u32At}
 use Rattle.book.specs.Tests.{someIn, member}
 use Rattle.records.specs.Records.{recordCount, blockAt}
-use Rattle.book.specs.Chains.{stepChain, blockChain}
-use Rattle.book.specs.Refusals.{firstOf, refusal, Accepted}
+use Rattle.book.specs.Chains.{stepOrder, blockOrder}
+use Rattle.book.specs.Refusals.{firstCause, refusal, Accepted}
 use Rattle.book.proofs.Members.{Each, each-member, Distinct}
 use Rattle.book.proofs.Refused.{refusal-then}
 use Rattle.book.proofs.Accepted.{accepted-zero, StepRecord, BlockRecord, step-records, block-records, steps-distinct, blocks-distinct, one-chain, record-count}
@@ -85,7 +85,7 @@ pub record Says (b result : List ℕ) : Type 0 where
 
 module _ (b result : List ℕ) (a : Accepted b) (s : Says b result) where
   -- as many decisions as blocks
-  outcome-count : length (outcome (dayFrom b)) ≡ length (blockChain b)
+  outcome-count : length (outcome (dayFrom b)) ≡ length (blockOrder b)
   outcome-count =
       outcome-first (dayFrom b) (empty-lawful (dayFrom b) (prices-in-range b a) (hours-in-range b a)) .ofBlocks ∙ rw (day-blocks b, length-map)
 
@@ -93,33 +93,33 @@ module _ (b result : List ℕ) (a : Accepted b) (s : Says b result) where
   step-rows-read : stepRowsIn b result ≡ executed (dayFrom b) (publishedBlocks b)
   unfolding stepRowsIn rowOf
   step-rows-read =
-      rows-are (rowIn result) (λ k. beside k (blockChain b) (blockRows b (blockChain b) (published (ordersOf b) .chosen)) 0) (stepChain b)
+      rows-are (rowIn result) (λ k. beside k (blockOrder b) (blockRows b (blockOrder b) (published (ordersOf b) .chosen)) 0) (stepOrder b)
       (executed (dayFrom b) (publishedBlocks b)) (steps-distinct b a) (executed-count b a)
       (λ k m.
-      let r = each-member (StepRecord b) (stepChain b) k (step-records b a) m in
+      let r = each-member (StepRecord b) (stepOrder b) k (step-records b a) m in
       s .rowRead k (r .positive) (r .inside) ∙ rw (executed-is b))
 
   -- a block's record is not on the step chain
-  block-row : (k : ℕ) → member k (blockChain b) ≡ true →
-      rowIn result k ≡ beside k (blockChain b) (blockRows b (blockChain b) (outcome (dayFrom b))) 0
+  block-row : (k : ℕ) → member k (blockOrder b) ≡ true →
+      rowIn result k ≡ beside k (blockOrder b) (blockRows b (blockOrder b) (outcome (dayFrom b))) 0
   unfolding rowOf
   block-row k m =
-      let r = each-member (BlockRecord b) (blockChain b) k (block-records b a) m in
+      let r = each-member (BlockRecord b) (blockOrder b) k (block-records b a) m in
       s .rowRead k (r .positive) (r .inside)
-      ∙ beside-absent k (stepChain b) _ _ (one-chain b a k (r .positive) (r .inside) ∙ rw m)
+      ∙ beside-absent k (stepOrder b) _ _ (one-chain b a k (r .positive) (r .inside) ∙ rw m)
       ∙ rw (chosen-is b)
 
   -- the rows of the blocks, by the outcome
-  block-rows-read : RowsInFull b result (blockChain b) (outcome (dayFrom b))
+  block-rows-read : RowsInFull b result (blockOrder b) (outcome (dayFrom b))
   block-rows-read =
-      rows-in-full b result (blockChain b) (outcome (dayFrom b)) outcome-count
-      (rows-are (rowIn result) (λ k. 0) (blockChain b) _ (blocks-distinct b a)
-      (blockRows-length b (blockChain b) (outcome (dayFrom b)) outcome-count) block-row)
+      rows-in-full b result (blockOrder b) (outcome (dayFrom b)) outcome-count
+      (rows-are (rowIn result) (λ k. 0) (blockOrder b) _ (blocks-distinct b a)
+      (blockRows-length b (blockOrder b) (outcome (dayFrom b)) outcome-count) block-row)
 
   -- the blocks taken are those of the outcome
   pub taken-is : takenIn b result ≡ outcome (dayFrom b)
   unfolding takenIn
-  taken-is = taken-read b result (blockChain b) (outcome (dayFrom b)) (block-records b a) outcome-count block-rows-read
+  taken-is = taken-read b result (blockOrder b) (outcome (dayFrom b)) (block-records b a) outcome-count block-rows-read
 
   welfare-is-read : welfareIn result ≡ welfare (dayFrom b) (outcome (dayFrom b))
   unfolding published dayFrom
@@ -142,11 +142,11 @@ unfolding clearRefusal
 refused-book b before n e f = refusal-then b _ ∙ rw (e, ne-eqb n 0 f)
 
 pub refused-buffer : (b before : List ℕ) → Accepted b → (length before ≡ 196 + 4 * recordCount b → ⊥) → clearRefusal b before ≡ 7
-unfolding clearRefusal wrongBuffer firstOf
+unfolding clearRefusal wrongBuffer firstCause
 refused-buffer b before a f = refusal-then b _ ∙ rw (accepted-zero b a, ne-eqb (length before) (196 + 4 * recordCount b) f)
 
 pub not-refused : (b before : List ℕ) → Accepted b → length before ≡ 196 + 4 * recordCount b → clearRefusal b before ≡ 0
-unfolding clearRefusal wrongBuffer firstOf
+unfolding clearRefusal wrongBuffer firstCause
 not-refused b before a e = refusal-then b _ ∙ rw (accepted-zero b a, eq-eqb (length before) (196 + 4 * recordCount b) e)
 
 -- THE PROMISE of a refused clearing

@@ -11,7 +11,7 @@ use borrow.Author.Tests.{eq-eqb, ne-eqb, eqb-true, eqb-false, lt-leb}
 use Rattle.book.specs.Tests.{within, someIn, member}
 use Rattle.rules.specs.Orders.{limits}
 use Rattle.records.specs.Records.{hourByte, stepAt, blockAt}
-use Rattle.book.specs.Chains.{stepChain, blockChain}
+use Rattle.book.specs.Chains.{stepOrder, blockOrder}
 use Rattle.book.specs.Refusals.{Accepted}
 use Rattle.book.proofs.Laws.{or-left, or-right}
 use Rattle.book.proofs.Members.{Each, each-member}
@@ -187,15 +187,15 @@ module _ (b : List ℕ) (a : Accepted b) where
   executedIn-length h =
       each-length contender.Within (stepsIn h (dayFrom b .steps)) _
       (execution-within (hourOf (dayFrom b) (publishedBlocks b) h) (setPrices (dayFrom b) (publishedBlocks b) h))
-      ∙ rw (day-steps b, steps-of-hour b h (stepChain b), length-map, steps-all b a)
+      ∙ rw (day-steps b, steps-of-hour b h (stepOrder b), length-map, steps-all b a)
 
   -- the executed quantities in chain order
-  executed-in-order : executed (dayFrom b) (publishedBlocks b) ≡ inStepOrder (executedIn b) (map (stepFrom b) (stepChain b))
+  executed-in-order : executed (dayFrom b) (publishedBlocks b) ≡ inStepOrder (executedIn b) (map (stepFrom b) (stepOrder b))
   unfolding executed executedIn
   executed-in-order = ap (inStepOrder (executedIn b)) (day-steps b)
 
   steps-by-hour : (k other : ℕ) →
-      beside k (byHour b 24) (executedByHour b 24) other ≡ beside k (stepChain b) (published (ordersOf b) .executed) other
+      beside k (byHour b 24) (executedByHour b 24) other ≡ beside k (stepOrder b) (published (ordersOf b) .executed) other
   unfolding executedByHour stepAt
   steps-by-hour k other =
       let l = stepRecords b in
@@ -210,13 +210,13 @@ module _ (b : List ℕ) (a : Accepted b) where
       ∙ rw (steps-all b a, executed-is b, executed-in-order)
 
   -- there are as many as steps
-  pub executed-count : length (executed (dayFrom b) (publishedBlocks b)) ≡ length (stepChain b)
+  pub executed-count : length (executed (dayFrom b) (publishedBlocks b)) ≡ length (stepOrder b)
   executed-count =
       each-length contender.Within (dayFrom b .steps) _
       (executed-within (dayFrom b) (prices-in-range b a) (hours-in-range b a) (publishedBlocks b)) ∙ rw (day-steps b, length-map)
 
   -- THE ROWS, HOUR BY HOUR
-  pub rows-by-hour : (values : List ℕ) → values ≡ blockRows b (blockChain b) (published (ordersOf b) .chosen) → (k : ℕ) →
+  pub rows-by-hour : (values : List ℕ) → values ≡ blockRows b (blockOrder b) (published (ordersOf b) .chosen) → (k : ℕ) →
       beside k (byHour b 24) (executedByHour b 24) (beside k (blockRecords b) values 0) ≡ rowOf b k
   unfolding rowOf
   rows-by-hour values e k = rw (e, blocks-all b a) (steps-by-hour k _)
@@ -240,9 +240,9 @@ module _ (b : List ℕ) (a : Accepted b) where
   pub row-room : (k : ℕ) → rowOf b k < 2 ^ 32
   unfolding rowOf
   row-room k =
-      beside-below (2 ^ 32) k (stepChain b) _ _
+      beside-below (2 ^ 32) k (stepOrder b) _ _
       (rw (executed-is b) (executed-room (dayFrom b .steps) _ (executed-small (dayFrom b) (small-day b a) (outcome (dayFrom b)))))
-      (beside-below (2 ^ 32) k (blockChain b) _ 0 (blocks-room (blockChain b) _ (block-records b a)) (omega arith))
+      (beside-below (2 ^ 32) k (blockOrder b) _ 0 (blocks-room (blockOrder b) _ (block-records b a)) (omega arith))
 
 -- THE BLOCKS' ROWS, place by place
 pub blockRows-length : (b l : List ℕ) (chosen : List Bool) → length chosen ≡ length l → length (blockRows b l chosen) ≡ length l

@@ -7,7 +7,7 @@ use mathlib.Core.Path.{_≡_, refl, sym, _∙_}
 use mathlib.Core.List.{[], _∷_}
 use Rattle.records.specs.Bytes.{u16At, u24At, u32At}
 use Rattle.records.specs.Records.{stepAt, blockAt}
-use Rattle.book.specs.Chains.{chainFrom}
+use Rattle.book.specs.Chains.{chainFrom, stepOrder, blockOrder}
 use Rattle.book.proofs.Accepted.{accepted}
 use Rattle.rules.specs.Orders.{canonical, stepsOf}
 use Rattle.rules.specs.Execution.{bought, sold}
@@ -30,7 +30,7 @@ s5-worked = worked-books-hold .1 .1 .1 .1 .0
 
 -- S5'S RESULT TO THE BYTE, from the definitions
 pub s5-result : resultBytes s5Book ≡ s5Result
-unfolding resultBytes s5Result hourRows recordRows rowOf beside blockRows bytesOf blockAt chainFrom u16At u24At bookOf chained
+unfolding resultBytes s5Result hourRows recordRows rowOf beside blockRows bytesOf blockAt stepOrder blockOrder chainFrom u16At u24At bookOf chained
 s5-result = rw (s5-worked .publishes) refl
 
 pub s5-meets : Demands s5Book s5Result
@@ -57,21 +57,21 @@ counts = rw s5-hours hour-1
 
 -- the price of hour 1 one cent higher: 3001, which is not the middle price
 pub price-changed : ¬ Demands s5Book (withByte 11 185 s5Result)
-unfolding s5Result takenIn priceIn rowIn blockAt u16At u24At u32At chainFrom bookOf chained
+unfolding s5Result takenIn priceIn rowIn blockAt u16At u24At u32At stepOrder blockOrder chainFrom bookOf chained
 price-changed d =
     let same : _≡_ {A = ℕ} 3001 3000 = d .obeys .middlePrice 1 counts ∙ sym (s5-meets .obeys .middlePrice 1 counts) in
     absurd (omega (arith, same))
 
 -- hour 1 traded 99, where its buy step got 100
 pub traded-changed : ¬ Demands s5Book (withByte 15 99 s5Result)
-unfolding s5Result takenIn tradedIn stepRowsIn rowIn blockAt u16At u24At u32At chainFrom bookOf chained
+unfolding s5Result takenIn tradedIn stepRowsIn rowIn blockAt u16At u24At u32At stepOrder blockOrder chainFrom bookOf chained
 traded-changed d =
     let same : _≡_ {A = ℕ} 99 100 = d .obeys .tradedBuys 1 counts ∙ sym (s5-meets .obeys .tradedBuys 1 counts) in
     absurd (omega (arith, same))
 
 -- the row of step 2 one tenth higher: hour 1 does not balance
 pub row-changed : ¬ Demands s5Book (withByte 207 51 s5Result)
-unfolding s5Result takenIn stepRowsIn rowIn blockAt stepAt u16At u24At u32At chainFrom bookOf chained dayFrom dayOf canonical ordersOf orderFrom stepFrom
+unfolding s5Result takenIn stepRowsIn rowIn blockAt stepAt u16At u24At u32At stepOrder blockOrder chainFrom bookOf chained dayFrom dayOf canonical ordersOf orderFrom stepFrom
     blockFrom stepsOf bought sold
 row-changed d =
     let same : _≡_ {A = ℕ} 100 101 = d .obeys .balanced 1 counts in
@@ -79,7 +79,7 @@ row-changed d =
 
 -- the welfare one tenth of a cent higher than that of the published blocks and rows
 pub welfare-changed : ¬ Demands s5Book (withByte 7 145 s5Result)
-unfolding s5Result takenIn stepRowsIn welfareIn rowIn blockAt stepAt u16At u24At u32At chainFrom bookOf chained dayFrom dayOf canonical ordersOf
+unfolding s5Result takenIn stepRowsIn welfareIn rowIn blockAt stepAt u16At u24At u32At stepOrder blockOrder chainFrom bookOf chained dayFrom dayOf canonical ordersOf
     orderFrom stepFrom blockFrom stepsOf dayValue dayCost stepsValue stepsCost blocksValue blocksCost hourCount daySum sumTo weight
 welfare-changed d =
     let same : _≡_ {A = ℕ} 1000000 1000001 = d .best .counted in
@@ -87,7 +87,7 @@ welfare-changed d =
 
 -- the block's row half its quantity
 pub half-block : ¬ Demands s5Book (withByte 219 25 s5Result)
-unfolding s5Result takenIn rowIn blockAt u16At u24At u32At chainFrom bookOf chained
+unfolding s5Result takenIn rowIn blockAt u16At u24At u32At stepOrder blockOrder chainFrom bookOf chained
 half-block d =
     let same : _≡_ {A = ℕ} 25 0 = d .blocksInFull .0 in
     absurd (omega (arith, same))

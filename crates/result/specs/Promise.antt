@@ -6,8 +6,8 @@ use mathlib.Core.Path.{_≡_}
 use lib.Dec.{eqb}
 use lib.ListN.{length}
 use Rattle.records.specs.Records.{recordCount, blockAt}
-use Rattle.book.specs.Chains.{blockChain}
-use Rattle.book.specs.Refusals.{ownCauses, firstOf}
+use Rattle.book.specs.Chains.{blockOrder}
+use Rattle.book.specs.Refusals.{ownCauses, firstCause}
 use Rattle.rules.specs.Contender.{BeatsAll}
 use Rattle.rules.specs.OutcomeRules.{OutcomeRules}
 use Rattle.orders.specs.Bridge.{dayFrom}
@@ -21,7 +21,7 @@ wrongBuffer b result = not (eqb (length result) (196 + 4 * recordCount b))
 
 -- The number for which a clearing is refused: the book's own causes, then 7; 0, which is ours, where it is not.
 unfoldable pub clearRefusal : List ℕ → List ℕ → ℕ
-clearRefusal b result = firstOf (ownCauses b ++ ((wrongBuffer b result, 7) ∷ []))
+clearRefusal b result = firstCause (ownCauses b ++ ((wrongBuffer b result, 7) ∷ []))
 
 -- The answer.
 unfoldable pub clearing : List ℕ → List ℕ → Clearing
@@ -47,7 +47,7 @@ pub record Demands (b result : List ℕ) : Type 0 where
   -- demand 2: the outcome properties, with the blocks taken where their rows hold their quantities ..
   pub obeys : OutcomeRules (dayFrom b) (takenIn b result) (priceIn result) (tradedIn result) (stepRowsIn b result)
   -- .. and no block executed in part
-  pub blocksInFull : RowsInFull b result (blockChain b) (takenIn b result)
+  pub blocksInFull : RowsInFull b result (blockOrder b) (takenIn b result)
   -- demand 3: the taken blocks with the rows of the steps beat every contender of the book, and the 8 bytes are their welfare
   pub best : BeatsAll (dayFrom b) (takenIn b result) (stepRowsIn b result) (welfareIn result)
 

@@ -5,7 +5,7 @@ use mathlib.Core.List.{List, [], _∷_, _++_, map}
 use lib.Dec.{eqb}
 use Rattle.records.specs.Bytes.{u32At}
 use Rattle.records.specs.Records.{recordCount, blockAt}
-use Rattle.book.specs.Chains.{stepChain, blockChain}
+use Rattle.book.specs.Chains.{stepOrder, blockOrder}
 use Rattle.rules.specs.Outcome.{published}
 use Rattle.orders.specs.Bridge.{ordersOf}
 
@@ -36,8 +36,8 @@ blockRows b (k ∷ l) (t ∷ chosen) = cond t (blockAt b k .quantity) 0 ∷ bloc
 -- The executed quantity per hour of record k: on the step chain its order's, on the block chain its block's.
 unfoldable pub rowOf : List ℕ → ℕ → ℕ
 rowOf b k =
-    beside k (stepChain b) (published (ordersOf b) .executed)
-    (beside k (blockChain b) (blockRows b (blockChain b) (published (ordersOf b) .chosen)) 0)
+    beside k (stepOrder b) (published (ordersOf b) .executed)
+    (beside k (blockOrder b) (blockRows b (blockOrder b) (published (ordersOf b) .chosen)) 0)
 
 -- A number of each record from k on, n of them, as 4 bytes each.
 unfoldable pub recordRows : (ℕ → ℕ) → ℕ → ℕ → List ℕ
@@ -68,8 +68,8 @@ rowIn result k = u32At result (196 + 4 * k)
 
 -- The executed quantities of the steps, in chain order.
 unfoldable pub stepRowsIn : List ℕ → List ℕ → List ℕ
-stepRowsIn b result = map (rowIn result) (stepChain b)
+stepRowsIn b result = map (rowIn result) (stepOrder b)
 
 -- A block is taken where its row holds its quantity, and left out where its row is 0.
 unfoldable pub takenIn : List ℕ → List ℕ → List Bool
-takenIn b result = map (λ k. eqb (rowIn result k) (blockAt b k .quantity)) (blockChain b)
+takenIn b result = map (λ k. eqb (rowIn result k) (blockAt b k .quantity)) (blockOrder b)

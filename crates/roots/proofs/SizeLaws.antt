@@ -8,7 +8,7 @@ use native.Mathlib.Decide.{decLe}
 use native.Mathlib.Nat.{lt-of-not-le, mul-le-mul}
 use lib.ListN.{length, getD, set}
 use lib.Seq.{getD-set-same, getD-set-other}
-use Rattle.records.specs.Records.{holdsHour, hourCount}
+use Rattle.records.specs.Records.{holdsHour, hoursSet}
 use Rattle.rules.specs.Orders.{Side, buy, sell, maxPrice}
 use Rattle.rules.specs.Hour.{bySide, when}
 use Rattle.rules.proofs.CurveLaws.{when-le}
@@ -29,16 +29,16 @@ pub product-fits : (q x : ℕ) → q ≤ mostQuantity → x ≤ mostLimit → q 
 product-fits q x a b = omega (arith, mul-le-mul a b)
 
 -- a block runs in at most 24 hours
-hours-most : (n x : ℕ) → hourCount n x ≤ n
-unfolding hourCount
+hours-most : (n x : ℕ) → hoursSet n x ≤ n
+unfolding hoursSet
 hours-most zero x = omega arith
 hours-most (suc n) x = at (holdsHour x (suc n)) (hours-most n x)
   where
-    at : (t : Bool) → hourCount n x ≤ n → hourCount n x + cond t 1 0 ≤ suc n
+    at : (t : Bool) → hoursSet n x ≤ n → hoursSet n x + cond t 1 0 ≤ suc n
     at true k = omega arith
     at false k = omega arith
 
-pub limit-fits : (price x : ℕ) → price ≤ maxPrice → price * hourCount dayHours x ≤ mostLimit
+pub limit-fits : (price x : ℕ) → price ≤ maxPrice → price * hoursSet dayHours x ≤ mostLimit
 limit-fits price x a = omega (arith, mul-le-mul a (hours-most dayHours x))
 
 -- places moved on by a quantity in some hours

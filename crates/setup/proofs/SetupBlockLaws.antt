@@ -10,7 +10,7 @@ use native.Mathlib.Numerals.{add-one}
 use lib.ListN.{length, getD, set, replicate, length-set}
 use lib.Seq.{getD-set-same, getD-set-other}
 use Rattle.search.specs.Layout.{againstColumn, aheadColumn, dayHours, gainColumn, hoursColumn, limitColumn, mostBlocks, mostQuantity, quantityColumn}
-use Rattle.records.specs.Records.{holdsHour, hourCount}
+use Rattle.records.specs.Records.{holdsHour, hoursSet}
 use Rattle.orders.specs.Columns.{sideFor}
 use Rattle.rules.specs.Orders.{Side, buy, sell}
 use Rattle.rules.specs.Hour.{bySide, when}
@@ -220,7 +220,7 @@ module _ (c : List ℕ) (i side hours quantity limit sum : ℕ) (k : i < mostBlo
 -- ALL BLOCKS WRITTEN
 module _ (sides hours prices quantities root : List ℕ) where
   abbrev limitOf : ℕ → ℕ
-  limitOf i = getD prices i 0 * hourCount dayHours (getD hours i 0)
+  limitOf i = getD prices i 0 * hoursSet dayHours (getD hours i 0)
 
   abbrev sumOf : ℕ → ℕ
   sumOf i = sumOfHours root (getD hours i 0)

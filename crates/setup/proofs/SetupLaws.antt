@@ -10,7 +10,7 @@ use native.Mathlib.Nat.{lt-of-not-le}
 use lib.ListN.{length, take, drop, getD, length-map, drop-of-length-le}
 use lib.Seq.{getD-take, getD-drop, slice}
 use Rattle.search.specs.Layout.{dayHours, lastPlace, mostBlocks, mostQuantity, mostSteps, rowSize, tableSize}
-use Rattle.records.specs.Records.{number, hourCount, holdsHour}
+use Rattle.records.specs.Records.{number, hoursSet, holdsHour}
 use Rattle.book.specs.Refusals.{Accepted}
 use Rattle.book.proofs.Members.{Each}
 use Rattle.orders.specs.Bridge.{dayFrom}
@@ -212,7 +212,7 @@ module _ (b ends stepRecords sides prices quantities : List ℕ) (count : ℕ) (
     unfolding priceSum sumOfHours
     sum-is = daySum-plain (dayFrom b .hours) _
 
-    limit-is : blockHere j .price * day.hourCount (dayFrom b .hours) (blockHere j) ≡ getD blockPrices j 0 * hourCount dayHours (getD hours j 0)
+    limit-is : blockHere j .price * day.hourCount (dayFrom b .hours) (blockHere j) ≡ getD blockPrices j 0 * hoursSet dayHours (getD hours j 0)
     limit-is =
         rw (hour-count (dayFrom b .hours) (number b (getD records j 0)) (getD blockSides j 0) (getD hours j 0) (getD blockPrices j 0)
         (getD blockQuantities j 0))
@@ -222,15 +222,15 @@ module _ (b ends stepRecords sides prices quantities : List ℕ) (count : ℕ) (
 
     against-is : against (dayFrom b .hours) priceOf (blockHere j)
         ≡ getD blockQuantities j 0
-        * bySide (sideFor (getD blockSides j 0)) (sumOfHours root (getD hours j 0) - getD blockPrices j 0 * hourCount dayHours (getD hours j 0))
-        (getD blockPrices j 0 * hourCount dayHours (getD hours j 0) - sumOfHours root (getD hours j 0))
+        * bySide (sideFor (getD blockSides j 0)) (sumOfHours root (getD hours j 0) - getD blockPrices j 0 * hoursSet dayHours (getD hours j 0))
+        (getD blockPrices j 0 * hoursSet dayHours (getD hours j 0) - sumOfHours root (getD hours j 0))
     unfolding against
     against-is = rw (sum-is, limit-is)
 
     gain-is : gain (dayFrom b .hours) priceOf (blockHere j)
         ≡ getD blockQuantities j 0
-        * bySide (sideFor (getD blockSides j 0)) (getD blockPrices j 0 * hourCount dayHours (getD hours j 0) - sumOfHours root (getD hours j 0))
-        (sumOfHours root (getD hours j 0) - getD blockPrices j 0 * hourCount dayHours (getD hours j 0))
+        * bySide (sideFor (getD blockSides j 0)) (getD blockPrices j 0 * hoursSet dayHours (getD hours j 0) - sumOfHours root (getD hours j 0))
+        (sumOfHours root (getD hours j 0) - getD blockPrices j 0 * hoursSet dayHours (getD hours j 0))
     unfolding gain
     gain-is = rw (sum-is, limit-is)
 

@@ -5,7 +5,7 @@ use mathlib.Core.Path.{_≡_}
 use mathlib.Core.Bool.{Bool, true, false, cond}
 use lib.Dec.{leb}
 use lib.ListN.{length, take, drop, getD, set}
-use Rattle.records.specs.Records.{holdsHour, hourCount}
+use Rattle.records.specs.Records.{holdsHour, hoursSet}
 use Rattle.book.specs.Refusals.{Accepted}
 use Rattle.orders.specs.Bridge.{dayFrom}
 use Rattle.orders.specs.Columns.{StepColumns, BlockColumns, sideFor}
@@ -113,13 +113,13 @@ pub record Written (sides hours prices quantities root columns : List ℕ) (i : 
   pub sideIs : sideAt columns i ≡ getD sides i 0
   pub hoursIs : hoursAt columns i ≡ getD hours i 0
   pub quantityIs : quantityAt columns i ≡ getD quantities i 0
-  pub limitIs : limitAt columns i ≡ getD prices i 0 * hourCount dayHours (getD hours i 0)
+  pub limitIs : limitAt columns i ≡ getD prices i 0 * hoursSet dayHours (getD hours i 0)
   pub againstIs : againstAt columns i ≡ getD quantities i 0
-      * bySide (sideFor (getD sides i 0)) (sumOfHours root (getD hours i 0) - getD prices i 0 * hourCount dayHours (getD hours i 0))
-      (getD prices i 0 * hourCount dayHours (getD hours i 0) - sumOfHours root (getD hours i 0))
+      * bySide (sideFor (getD sides i 0)) (sumOfHours root (getD hours i 0) - getD prices i 0 * hoursSet dayHours (getD hours i 0))
+      (getD prices i 0 * hoursSet dayHours (getD hours i 0) - sumOfHours root (getD hours i 0))
   pub gainIs : gainAt columns i ≡ getD quantities i 0
-      * bySide (sideFor (getD sides i 0)) (getD prices i 0 * hourCount dayHours (getD hours i 0) - sumOfHours root (getD hours i 0))
-      (sumOfHours root (getD hours i 0) - getD prices i 0 * hourCount dayHours (getD hours i 0))
+      * bySide (sideFor (getD sides i 0)) (getD prices i 0 * hoursSet dayHours (getD hours i 0) - sumOfHours root (getD hours i 0))
+      (sumOfHours root (getD hours i 0) - getD prices i 0 * hoursSet dayHours (getD hours i 0))
 
 -- THE WHOLE LIST OF THE BLOCKS
 -- The six columns, and nothing behind them yet.

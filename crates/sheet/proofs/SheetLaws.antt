@@ -9,7 +9,7 @@ use lib.Seq.{length-take-le, take-at}
 use borrow.Author.Tests.{eq-eqb, ne-eqb}
 use Rattle.records.specs.Bytes.{byteAt, u16At}
 use Rattle.records.specs.Records.{recordCount, number, blockAt}
-use Rattle.book.specs.Chains.{blockChain}
+use Rattle.book.specs.Chains.{blockOrder}
 use Rattle.book.specs.Refusals.{refusal, Accepted}
 use Rattle.book.proofs.Accepted.{accepted, accepted-zero, record-count}
 use Rattle.rules.specs.Day.{traded}
@@ -62,7 +62,7 @@ module _ (b : List ℕ) (a : Accepted b) where
   unfolding ofHour published dayFrom
   traded-same h first last = result-says b a .tradedRead h first last ∙ sym (hour-at 24 _ h first last)
 
-  taken-same : map (takenAt b result) (blockChain b) ≡ published (ordersOf b) .chosen
+  taken-same : map (takenAt b result) (blockOrder b) ≡ published (ordersOf b) .chosen
   unfolding takenAt takenIn
   taken-same = taken-is b result a (result-says b a) ∙ sym (chosen-is b)
 
@@ -73,7 +73,7 @@ module _ (b : List ℕ) (a : Accepted b) where
         hours-same 24 (priceIn result) (ofHour (published (ordersOf b) .prices)) (tradedIn result) (ofHour (published (ordersOf b) .traded)) prices-same
             traded-same,
         blocks-all b a,
-        blocks-same b result (blockChain b),
+        blocks-same b result (blockOrder b),
         taken-same,
         ← (day-blocks b),
         result-says b a .welfareRead,

@@ -3,7 +3,7 @@ use mathlib.Core.Path.{_≡_, refl}
 use borrow.Author.Tests.{eq-eqb}
 use Rattle.records.specs.Bytes.{u16At, u24At}
 use Rattle.records.specs.Records.{blockAt}
-use Rattle.book.specs.Chains.{chainFrom}
+use Rattle.book.specs.Chains.{chainFrom, blockOrder}
 use Rattle.book.specs.Refusals.{refusal}
 use Rattle.rules.specs.Orders.{canonical}
 use Rattle.rules.specs.Day.{dayOf}
@@ -17,5 +17,5 @@ use Rattle.sheet.specs.WorkedSheet.{s5Sheet}
 
 pub s5-sheet : sheetOf s5Book ≡ s5Sheet
 unfolding sheetOf s5Sheet outcomeSheet hourLines hourLine ofHour blockLines blockLine field decimal decimalIn text dayFrom dayOf canonical ordersOf
-    blockFrom blockAt chainFrom u16At u24At bookOf chained
+    blockFrom blockAt blockOrder chainFrom u16At u24At bookOf chained
 s5-sheet = rw (eq-eqb (refusal s5Book) 0 (s5-worked .accepted), s5-worked .publishes) refl

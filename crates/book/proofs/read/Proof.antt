@@ -1,60 +1,46 @@
--- `book::read` meets its contract: an answer for number 0, and one for any other. Assumes nothing.
-use Prim.Native.Nat.{_+_}
+-- `book::read` meets its contract: an answer for number 1, one for any other number, and one for none. Assumes nothing.
 use mathlib.Core.Path.{_≡_, sym, _∙_}
 use native.Mathlib.Omega.{arith}
-use lib.ListN.{length}
-use Rattle.book.specs.Chains.{stepChain, blockChain}
-use Rattle.book.proofs.Accepted.{accepted, lengths}
-use Rattle.book.proofs.Refused.{reading-accepted, reading-refused}
+use Rattle.book.proofs.Refused.{refusal-size, steps-counted, blocks-counted, reading-accepted, reading-refused}
 use borrow.Author.Needs.{needs}
 use Rattle.book.proofs.read.Statement.{statement}
 use Rattle.book.proofs.read.Tie as tie
 
--- how long the chains of an accepted book are, as they are computed
-blocks-are : (c : tie.After-record-count) → c .before .chain-length .result ≡ length (blockChain (c .before .before .before .before .before .before .args .book .now))
-blocks-are c = c .before .chain-length .ensures ∙ rw (c .before .before .first-block .ensures)
-
-all-are : (c : tie.After-record-count) → let b = c .before .before .before .before .before .before .args .book .now in
-    length (stepChain b) + length (blockChain b) + 1 ≡ c .record-count .result
-all-are c =
-    let n = c .before .before .before in
-    lengths _ (accepted _ (sym (n .before .refusal-of .ensures) ∙ n .if1 .left)) ∙ sym (c .record-count .ensures)
-
-refusal-of-requires : tie.Need-refusal-of-requires
-refusal-of-requires c κs = search needs
+has-wrong-size-requires : tie.Need-has-wrong-size-requires
+has-wrong-size-requires c κs = search needs
 
 returns : tie.Need-returns
-returns c = reading-refused _ _ (c .before .refusal-of .ensures) (c .if1 .taken)
+returns c = reading-refused _ 1 (sym (refusal-size _ (sym (c .before .has-wrong-size .ensures) ∙ c .if1 .taken))) (λ e. omega arith)
 
-first-block-requires : tie.Need-first-block-requires
-first-block-requires c κs = search needs
+survey-of-requires : tie.Need-survey-of-requires
+survey-of-requires c κs = search needs
 
-chain-length-requires : tie.Need-chain-length-requires
-chain-length-requires c κs = search needs
+survey-of-requires-2 : tie.Need-survey-of-requires-2
+survey-of-requires-2 c κs = search needs
 
-record-count-requires : tie.Need-record-count-requires
-record-count-requires c κs = search needs
-
-sub-steps : tie.Need-sub-steps
-sub-steps c = omega (arith, all-are c)
-
-sub-steps-2 : tie.Need-sub-steps-2
-sub-steps-2 c = omega (arith, all-are c, blocks-are c)
+refusal-of-requires : tie.Need-refusal-of-requires
+refusal-of-requires c κs =
+    let s = c .before in
+    let n = s .before in
+    (sym (n .before .has-wrong-size .ensures) ∙ n .if1 .left, s .survey-of .ensures, c .survey-of2 .ensures)
 
 returns-2 : tie.Need-returns-2
-returns-2 c =
-    let n = c .before .before .before in
-    reading-accepted _ _ _ (sym (n .before .refusal-of .ensures) ∙ n .if1 .left) (omega (arith, all-are c, blocks-are c)) (blocks-are c)
+returns-2 c = reading-refused _ _ (c .before .refusal-of .ensures) (c .if2 .taken)
+
+returns-3 : tie.Need-returns-3
+returns-3 c =
+    let t = c .before .before in
+    reading-accepted _ _ _ (sym (c .before .refusal-of .ensures) ∙ c .if2 .left) (steps-counted _ _ (t .before .survey-of .ensures))
+    (blocks-counted _ _ (t .survey-of2 .ensures))
 
 pub read-spec : {M : Type 1} → statement M
 read-spec =
     tie.close
     (tie.spec
-    refusal-of-requires
+    has-wrong-size-requires
     returns
-    first-block-requires
-    chain-length-requires
-    record-count-requires
-    sub-steps
-    sub-steps-2
-    returns-2)
+    survey-of-requires
+    survey-of-requires-2
+    refusal-of-requires
+    returns-2
+    returns-3)

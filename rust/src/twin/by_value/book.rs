@@ -1,13 +1,30 @@
 // Written by `twin_source` from crates/book/src/lib.rt.
 // The reader, layer 1 of document 01: whether a book is accepted, with how many steps and blocks, or the first cause for which it is refused.
-// Every call takes any bytes, ends, and has no `requires`; its result is what a definition of `specs/` gives. Assumes nothing.
-use crate::twin::by_value::book::chains::chain_length;
-use crate::twin::by_value::records::first_block;
-use crate::twin::by_value::records::record_count;
+// Every public call takes any bytes, ends, and has no `requires`; its result is what a definition of `specs/` gives. Assumes nothing.
+use crate::twin::by_value::book::chains::survey_of;
 
+mod bounds; // how large a book and its fields may be
 mod causes; // the causes 1 to 6, and the first of them that holds
 mod chains; // records that hang together by `next`
 mod ranges; // the ranges of a record's fields
+
+pub use bounds::MOST_BLOCKS;
+pub use bounds::MOST_RECORDS;
+
+// The chains of a book. One more chain is one more case here, in specs/Chains.antt and in src/chains.rt.
+#[derive(Clone, Copy)]
+pub enum Chain {
+    Steps,
+    Blocks,
+}
+
+// What one walk along a chain finds out: causes 3 and 4 on it, and how many records it has.
+#[derive(Clone, Copy)]
+pub struct Surveyed {
+    pub broken: bool,
+    pub outside: bool,
+    pub length: u16,
+}
 
 // The answer of `read`: accepted, with how many steps and blocks are on the two chains, or refused with document 01's number.
 #[derive(Clone, Copy)]
@@ -19,12 +36,17 @@ pub enum Reading {
 // Whether a book is accepted, and if not the lowest number 1 to 6 whose cause holds.
 pub fn read(book: &[u8]) -> Reading
 {
-    let number = causes::refusal_of(book);
+    if causes::has_wrong_size(book) {
+        return Reading::Refused(1);
+    }
+    let steps = survey_of(book, Chain::Steps);
+    let blocks = survey_of(book, Chain::Blocks);
+    let number = causes::refusal_of(book, steps, blocks);
     if number != 0 {
         return Reading::Refused(number);
     }
-    // each record but the head is on one of the two chains
-    let blocks = chain_length(book, first_block(book));
-    let steps = record_count(book) - 1 - blocks;
-    Reading::Accepted { steps, blocks }
+    Reading::Accepted {
+        steps: steps.length,
+        blocks: blocks.length,
+    }
 }

@@ -3,6 +3,7 @@
 // Nothing is judged here: every call takes any bytes, ends, and has no `requires`. A missing byte reads as 0, and a
 // record that the book ends within is neither a step nor a block. Assumes nothing.
 mod bytes; // numbers in the bytes
+mod layout; // where a book's bytes have what
 mod records; // the fields of the head and of a record
 
 pub use bytes::is_nonzero;

@@ -3,6 +3,7 @@
 use Prim.Native.Nat.{_-_, _≤_}
 use mathlib.Core.Path.{_≡_, refl}
 use borrow.Author.Tests.{lt-ltb, le-ltb}
+use Rattle.book.specs.Bounds.{portfolioNumbers}
 use Rattle.book.specs.Tests.{someBelow}
 use Rattle.book.specs.Refusals.{tooManyOf}
 use Rattle.book.proofs.Laws.{some-none, some-more}
@@ -11,7 +12,7 @@ use Rattle.book.proofs.causes.has_crowded_portfolio.Statement.{statemen
 use Rattle.book.proofs.causes.has_crowded_portfolio.Tie as tie
 
 abbrev Inv-loop : tie.InvT-loop
-Inv-loop book most counts p₀ p = (p ≤ 256) × (someBelow 256 (tooManyOf book) ≡ someBelow p (tooManyOf book))
+Inv-loop book most counts p₀ p = (p ≤ portfolioNumbers) × (someBelow portfolioNumbers (tooManyOf book) ≡ someBelow p (tooManyOf book))
 
 abbrev μ-loop : tie.MeasureT-loop
 μ-loop book most counts p₀ p = p
@@ -21,9 +22,6 @@ edition-of-requires c κs = search needs
 
 most-blocks-of-portfolio-requires : tie.Need-most-blocks-of-portfolio-requires Inv-loop μ-loop
 most-blocks-of-portfolio-requires c κs = search needs
-
-first-block-requires : tie.Need-first-block-requires Inv-loop μ-loop
-first-block-requires c κs = search needs
 
 counts-by-portfolio-requires : tie.Need-counts-by-portfolio-requires Inv-loop μ-loop
 counts-by-portfolio-requires c κs = search needs
@@ -44,11 +42,10 @@ returns : tie.Need-returns Inv-loop μ-loop
 unfolding tooManyOf
 returns c = let l = c .before .before in
     let q = l .before in
-    let m = q .before .before in
+    let m = q .before in
     rw (
       l .loop .inv .1,
       some-more _ _ (c .before .loop-test .taken),
-      ← (q .before .first-block .ensures),
       ← (q .counts-by-portfolio .ensures (l .loop .p - 1) (search needs)),
       ← (m .before .edition-of .ensures),
       ← (m .most-blocks-of-portfolio .ensures),
@@ -62,12 +59,11 @@ loop-again : tie.Need-loop-again Inv-loop μ-loop
 unfolding tooManyOf
 loop-again c = let l = c .before .before in
     let q = l .before in
-    let m = q .before .before in (
+    let m = q .before in (
       search needs,
       rw (
         l .loop .inv .1,
         some-more _ _ (c .before .loop-test .taken),
-        ← (q .before .first-block .ensures),
         ← (q .counts-by-portfolio .ensures (l .loop .p - 1) (search needs)),
         ← (m .before .edition-of .ensures),
         ← (m .most-blocks-of-portfolio .ensures),
@@ -86,7 +82,6 @@ has-crowded-portfolio-spec =
     μ-loop
     edition-of-requires
     most-blocks-of-portfolio-requires
-    first-block-requires
     counts-by-portfolio-requires
     loop-holds
     sub-p

@@ -1,33 +1,22 @@
--- `book::causes::refusal_of` meets its contract, by the law that cause 5 is a matter of lengths where 3 does not hold. Assumes nothing.
+-- `book::causes::refusal_of` meets its contract: the law of one cause more, once for each. Assumes nothing.
 use mathlib.Core.Path.{sym, _∙_}
-use Rattle.book.proofs.Refused.{refusal-size, refusal-sized, field-found, short-found}
+use native.Mathlib.Omega.{arith}
+use Rattle.book.proofs.Refused.{one-cause, none-found, after-all, without-size, broken-found, field-found, stray-found, many-found}
 use borrow.Author.Needs.{needs}
 use Rattle.book.proofs.causes.refusal_of.Statement.{statement}
 use Rattle.book.proofs.causes.refusal_of.Tie as tie
 
-has-wrong-size-requires : tie.Need-has-wrong-size-requires
-has-wrong-size-requires c κs = search needs
-
-returns : tie.Need-returns
-returns c = sym (refusal-size _ (sym (c .before .has-wrong-size .ensures) ∙ c .if1 .taken))
-
 has-wrong-head-requires : tie.Need-has-wrong-head-requires
 has-wrong-head-requires c κs = search needs
 
-has-broken-chain-requires : tie.Need-has-broken-chain-requires
-has-broken-chain-requires c κs = search needs
+next-found-requires : tie.Need-next-found-requires
+next-found-requires c κs = search needs
 
-first-step-requires : tie.Need-first-step-requires
-first-step-requires c κs = search needs
+next-found-requires-2 : tie.Need-next-found-requires-2
+next-found-requires-2 c κs = search needs
 
-survey-of-requires : tie.Need-survey-of-requires
-survey-of-requires c κs = search needs
-
-first-block-requires : tie.Need-first-block-requires
-first-block-requires c κs = search needs
-
-survey-of-requires-2 : tie.Need-survey-of-requires-2
-survey-of-requires-2 c κs = search needs
+next-found-requires-3 : tie.Need-next-found-requires-3
+next-found-requires-3 c κs = search needs
 
 record-count-requires : tie.Need-record-count-requires
 record-count-requires c κs = search needs
@@ -35,67 +24,52 @@ record-count-requires c κs = search needs
 are-short-requires : tie.Need-are-short-requires
 are-short-requires c κs = search needs
 
-has-too-many-blocks-requires : tie.Need-has-too-many-blocks-requires
-has-too-many-blocks-requires c κs = search needs
+next-found-requires-4 : tie.Need-next-found-requires-4
+next-found-requires-4 c κs = search needs
 
-first-of-requires : tie.Need-first-of-requires
-first-of-requires c κs = search needs
+has-crowded-portfolio-requires : tie.Need-has-crowded-portfolio-requires
+has-crowded-portfolio-requires c κs = search needs
 
-first-of-requires-2 : tie.Need-first-of-requires-2
-first-of-requires-2 c κs = search needs
+next-found-requires-5 : tie.Need-next-found-requires-5
+next-found-requires-5 c κs = search needs
 
-first-of-requires-3 : tie.Need-first-of-requires-3
-first-of-requires-3 c κs = search needs
-
-first-of-requires-4 : tie.Need-first-of-requires-4
-first-of-requires-4 c κs = search needs
-
-first-of-requires-5 : tie.Need-first-of-requires-5
-first-of-requires-5 c κs = search needs
-
-returns-2 : tie.Need-returns-2
-returns-2 c =
-    let four = c .before .before in
-    let six = four .before .before in
-    let short = six .before .before in
-    let blocks = short .before .before .before .before in
-    let steps = blocks .before .before in
-    let broken = steps .before .before in
-    let sized = broken .before .before in
-    let found-steps = steps .survey-of .ensures in
-    let found-blocks = blocks .survey-of2 .ensures in
-    let step = steps .before .first-step .ensures in
-    let block = blocks .before .first-block .ensures in
-    refusal-sized _ _ _ _ _ _ _ _ _ _ _ (sym (sized .before .has-wrong-size .ensures) ∙ sized .if1 .left)
-    (broken .before .has-wrong-head .ensures)
-    (broken .has-broken-chain .ensures)
-    (field-found _ _ _ (found-steps .1 ∙ rw step) (found-blocks .1 ∙ rw block))
-    (short-found _ _ _ _ _ (short .are-short .ensures) (found-steps .0 ∙ rw step) (found-blocks .0 ∙ rw block) (short .before .record-count .ensures))
-    (six .before .has-too-many-blocks .ensures)
-    (six .first-of .ensures)
-    (four .before .first-of2 .ensures)
-    (four .first-of3 .ensures)
-    (c .before .first-of4 .ensures)
-    (c .first-of5 .ensures)
+returns : tie.Need-returns
+returns c =
+    let crowded = c .before in
+    let stray = crowded .before .before in
+    let short = stray .before in
+    let outside = short .before .before in
+    let broken = outside .before .before .before in
+    let head = broken .before .before .before in
+    let start = head .before .before .before in
+    let b = start .args .book .now in
+    let pre = start .pre in
+    let one = without-size b (pre .0) in
+    let two = one-cause b _ _ 2 _ _ _ (omega arith) one (λ z. head .before .has-wrong-head .ensures) (head .next-found .ensures) in
+    let is-broken = broken-found b _ _ (pre .1) (pre .2) in
+    let three = one-cause b _ _ 3 _ _ _ (omega arith) two (λ z. is-broken) (broken .next-found2 .ensures) in
+    let four = one-cause b _ _ 4 _ _ _ (omega arith) three (λ z. field-found b _ _ (pre .1) (pre .2)) (outside .next-found3 .ensures) in
+    let five = one-cause b _ _ 5 _ _ _ (omega arith) four
+    (λ z.
+    let left = none-found _ _ 4 _ (omega arith) (outside .next-found3 .ensures) z in
+    let unbroken = none-found _ _ 3 _ (omega arith) (broken .next-found2 .ensures) (left .0) in
+    stray-found b _ _ _ _ (pre .1) (pre .2) (short .before .record-count .ensures) (short .are-short .ensures) (pre .0) (sym is-broken ∙ unbroken .1))
+    (stray .next-found4 .ensures)
+    in
+    let six = one-cause b _ _ 6 _ _ _ (omega arith) five (λ z. many-found b _ _ (pre .2) (crowded .has-crowded-portfolio .ensures)) (c .next-found5 .ensures) in
+    after-all b _ six
 
 pub refusal-of-spec : {M : Type 1} → statement M
 refusal-of-spec =
     tie.close
     (tie.spec
-    has-wrong-size-requires
-    returns
     has-wrong-head-requires
-    has-broken-chain-requires
-    first-step-requires
-    survey-of-requires
-    first-block-requires
-    survey-of-requires-2
+    next-found-requires
+    next-found-requires-2
+    next-found-requires-3
     record-count-requires
     are-short-requires
-    has-too-many-blocks-requires
-    first-of-requires
-    first-of-requires-2
-    first-of-requires-3
-    first-of-requires-4
-    first-of-requires-5
-    returns-2)
+    next-found-requires-4
+    has-crowded-portfolio-requires
+    next-found-requires-5
+    returns)

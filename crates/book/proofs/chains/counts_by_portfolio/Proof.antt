@@ -4,6 +4,7 @@ use Prim.Native.Nat.{ℕ, _+_, _≤_, _<_}
 use mathlib.Core.Path.{_≡_, _∙_}
 use native.Mathlib.Omega.{arith}
 use lib.ListN.{length, getD, length-set, getD-replicate}
+use Rattle.book.specs.Bounds.{portfolioNumbers}
 use Rattle.book.specs.Tests.{countIn}
 use Rattle.book.specs.Refusals.{ownedBy}
 use Rattle.book.specs.Chains.{chain, chainFrom}
@@ -13,26 +14,32 @@ use Rattle.book.proofs.chains.counts_by_portfolio.Statement.{statement}
 use Rattle.book.proofs.chains.counts_by_portfolio.Tie as tie
 
 abbrev Inv-loop : tie.InvT-loop
-Inv-loop book first counts₀ left₀ i₀ counts left i = (length counts ≡ 256)
-    × ((p : ℕ) → p < 256 → getD counts p 0 + left ≤ left₀)
-    × ((p : ℕ) → p < 256 → countIn (chain book first) (ownedBy book p) ≡ getD counts p 0 + countIn (chainFrom left book i) (ownedBy book p))
+Inv-loop book counts₀ left₀ i₀ counts left i = (length counts ≡ portfolioNumbers)
+    × ((p : ℕ) → p < portfolioNumbers → getD counts p 0 + left ≤ left₀)
+    × ((p : ℕ) → p < portfolioNumbers → countIn (chain book i₀) (ownedBy book p) ≡ getD counts p 0 + countIn (chainFrom left book i) (ownedBy book p))
 
 abbrev μ-loop : tie.MeasureT-loop
-μ-loop book first counts₀ left₀ i₀ counts left i = left
+μ-loop book counts₀ left₀ i₀ counts left i = left
 
 record-count-requires : tie.Need-record-count-requires Inv-loop μ-loop
 record-count-requires c κs = search needs
 
+first-on-requires : tie.Need-first-on-requires Inv-loop μ-loop
+first-on-requires c κs = search needs
+
 loop-holds : tie.Need-loop-holds Inv-loop μ-loop
 loop-holds c = (
   search needs,
-  λ p h. omega (arith, getD-replicate {A = ℕ} 256 p 0 0 h),
-  λ p h. rw (c .record-count .ensures) (omega (arith, getD-replicate {A = ℕ} 256 p 0 0 h)),
+  λ p h. omega (arith, getD-replicate {A = ℕ} portfolioNumbers p 0 0 h),
+  λ p h. rw (c .before .record-count .ensures) (omega (arith, getD-replicate {A = ℕ} portfolioNumbers p 0 0 h)),
 )
 
 returns : tie.Need-returns Inv-loop μ-loop
 unfolding countIn
-returns c = λ p h. let e = rw (chain-end _ _ _ (c .if1 .taken)) at (c .before .before .loop .inv .2 p h) in omega arith
+returns c = λ p h.
+    let v = c .before .before in
+    let e = rw (chain-end _ _ _ (c .if1 .taken), v .before .first-on .ensures) at (v .loop .inv .2 p h) in
+    omega arith
 
 portfolio-of-requires : tie.Need-portfolio-of-requires Inv-loop μ-loop
 portfolio-of-requires c κs = search needs
@@ -81,7 +88,10 @@ loop-again c = let o = c .before in
 
 returns-2 : tie.Need-returns-2 Inv-loop μ-loop
 unfolding countIn
-returns-2 c = λ p h. let e = rw (chain-none _ _ _ (c .loop-test .left)) at (c .before .loop .inv .2 p h) in omega arith
+returns-2 c = λ p h.
+    let v = c .before in
+    let e = rw (chain-none _ _ _ (c .loop-test .left), v .before .first-on .ensures) at (v .loop .inv .2 p h) in
+    omega arith
 
 pub counts-by-portfolio-spec : {M : Type 1} → statement M
 counts-by-portfolio-spec =
@@ -90,6 +100,7 @@ counts-by-portfolio-spec =
     Inv-loop
     μ-loop
     record-count-requires
+    first-on-requires
     loop-holds
     returns
     portfolio-of-requires

@@ -10,13 +10,36 @@ record-count-requires c κs = search needs
 kind-of-requires : tie.Need-kind-of-requires
 kind-of-requires c κs = search needs
 
+kind-on-requires : tie.Need-kind-on-requires
+kind-on-requires c κs = search needs
+
+is-numbered-requires : tie.Need-is-numbered-requires
+is-numbered-requires c κs = search needs
+
 number-of-requires : tie.Need-number-of-requires
 number-of-requires c κs = search needs
 
 returns : tie.Need-returns
 unfolding misplaced
-returns c = rw (c .number-of .ensures, c .before .kind-of .ensures, c .before .before .record-count .ensures)
+returns c =
+    let rising = c .before in
+    let belongs = rising .before in
+    let kind = belongs .before in
+    rw (
+      kind .before .record-count .ensures,
+      kind .kind-of .ensures,
+      belongs .kind-on .ensures,
+      rising .is-numbered .ensures,
+      c .number-of .ensures,
+    )
 
 pub is-misplaced-spec : {M : Type 1} → statement M
 is-misplaced-spec =
-    tie.close (tie.spec record-count-requires kind-of-requires number-of-requires returns)
+    tie.close
+    (tie.spec
+    record-count-requires
+    kind-of-requires
+    kind-on-requires
+    is-numbered-requires
+    number-of-requires
+    returns)

@@ -7,20 +7,20 @@ use native.Mathlib.Nat.{div-one, div-div-eq-div-mul, pow-suc}
 use native.Mathlib.Numerals.{add-one}
 use native.Mathlib.Omega.{arith}
 use borrow.Author.Tests.{eq-eqb, ne-eqb}
-use Rattle.records.specs.Records.{hourCount}
+use Rattle.records.specs.Records.{hoursSet}
 use Rattle.records.proofs.Laws.{hour-more}
 use borrow.Author.Needs.{needs}
 use Rattle.records.proofs.records.hour_count.Statement.{statement}
 use Rattle.records.proofs.records.hour_count.Tie as tie
 
 abbrev Inv-loop : tie.InvT-loop
-Inv-loop hours count₀ rest₀ h₀ count rest h = (h ≤ 24) × (rest ≡ hours / 2 ^ h) × (count ≡ hourCount h hours) × (count ≤ h)
+Inv-loop hours count₀ rest₀ h₀ count rest h = (h ≤ 24) × (rest ≡ hours / 2 ^ h) × (count ≡ hoursSet h hours) × (count ≤ h)
 
 abbrev μ-loop : tie.MeasureT-loop
 μ-loop hours count₀ rest₀ h₀ count rest h = 24 - h
 
 loop-holds : tie.Need-loop-holds Inv-loop μ-loop
-unfolding hourCount
+unfolding hoursSet
 loop-holds c = (search needs, sym (div-one _), refl, search needs)
 
 add-count : tie.Need-add-count Inv-loop μ-loop

@@ -11,6 +11,9 @@ mul-behind c = search needs
 add-behind : tie.Need-add-behind
 add-behind c = search needs
 
+cast-if1 : tie.Need-cast-if1
+cast-if1 c = search needs
+
 returns : tie.Need-returns
 unfolding recordAt
 returns c = rw (lt-ltb _ _ (c .if1 .taken))
@@ -61,6 +64,7 @@ record-at-spec =
     (tie.spec
     mul-behind
     add-behind
+    cast-if1
     returns
     kind-of-requires
     step-at-requires

@@ -1,88 +1,92 @@
 // Written by `twin_source` from crates/book/src/chains.rt.
-// The chains (document 01, "The book in bytes"): each is followed from its first record to the zero that ends it, for at most R records,
-// in a loop for each question asked of it, or two. Assumes nothing.
+// The chains (document 01, "The book in bytes"): what belongs on each, and the walks along one, from its first record to the zero that ends it, for at
+// most R records. Assumes nothing.
+use crate::twin::by_value::book::Chain;
+use crate::twin::by_value::book::Surveyed;
+use crate::twin::by_value::book::bounds::PORTFOLIO_NUMBERS;
 use crate::twin::by_value::book::ranges::is_out_of_range;
+use crate::twin::by_value::records::BLOCK_KIND;
+use crate::twin::by_value::records::STEP_KIND;
+use crate::twin::by_value::records::first_block;
+use crate::twin::by_value::records::first_step;
 use crate::twin::by_value::records::kind_of;
 use crate::twin::by_value::records::next_of;
 use crate::twin::by_value::records::number_of;
 use crate::twin::by_value::records::portfolio_of;
 use crate::twin::by_value::records::record_count;
 
-// How many records the chain that starts at first has.
-pub fn chain_length(book: &[u8], first: u16) -> u16
+// The index of a chain's first record.
+fn first_on(book: &[u8], chain: Chain) -> u16
 {
-    let mut left = record_count(book);
-    let mut i = first;
-    let mut count = 0;
-    while 0 < left {
-        if i == 0 {
-            return count;
-        }
-        count += 1;
-        i = next_of(book, i);
-        left -= 1;
+    match chain {
+        Chain::Steps => first_step(book),
+        Chain::Blocks => first_block(book),
     }
-    count
 }
 
-// Cause 3 at record i of a chain of this kind, after the number last.
-fn is_misplaced(book: &[u8], kind: u8, rising: bool, last: u16, i: u16) -> bool
+// The kind of the records that belong on a chain.
+fn kind_on(chain: Chain) -> u8
 {
-    (record_count(book) <= i) | (kind_of(book, i) != kind) | (rising & (number_of(book, i) <= last))
+    match chain {
+        Chain::Steps => STEP_KIND,
+        Chain::Blocks => BLOCK_KIND,
+    }
 }
 
-// Cause 3 along the chain of this kind that starts at first: some record is misplaced.
-pub fn is_broken(book: &[u8], kind: u8, rising: bool, first: u16) -> bool
+// Whether the numbers along a chain must rise.
+fn is_numbered(chain: Chain) -> bool
+{
+    match chain {
+        Chain::Steps => true,
+        Chain::Blocks => true,
+    }
+}
+
+// Cause 3 at record i of a chain, after the number last.
+fn is_misplaced(book: &[u8], chain: Chain, last: u16, i: u16) -> bool
+{
+    (record_count(book) <= i)
+        | (kind_of(book, i) != kind_on(chain))
+        | (is_numbered(chain) & (number_of(book, i) <= last))
+}
+
+// Causes 3 and 4 along a chain, and its length, in one walk.
+pub fn survey_of(book: &[u8], chain: Chain) -> Surveyed
 {
     let mut left = record_count(book);
-    let mut i = first;
+    let mut i = first_on(book, chain);
     let mut last = 0;
+    let mut broken = false;
+    let mut outside = false;
+    let mut length = 0;
     while 0 < left {
         if i == 0 {
-            return false;
+            return Surveyed {
+                broken,
+                outside,
+                length,
+            };
         }
-        if is_misplaced(book, kind, rising, last, i) {
-            return true;
-        }
+        broken = broken | is_misplaced(book, chain, last, i);
+        outside = outside | is_out_of_range(book, i);
+        length += 1;
         last = number_of(book, i);
         i = next_of(book, i);
         left -= 1;
     }
-    false
-}
-
-// How many records a chain has, and cause 4 along it: some record has a field outside its range.
-#[derive(Clone, Copy)]
-pub struct Survey {
-    pub length: u16,
-    pub outside: bool,
-}
-
-// The survey of the chain that starts at first.
-pub fn survey_of(book: &[u8], first: u16) -> Survey
-{
-    let mut left = record_count(book);
-    let mut i = first;
-    let mut length = 0;
-    let mut outside = false;
-    while 0 < left {
-        if i == 0 {
-            return Survey { length, outside };
-        }
-        length += 1;
-        outside = outside | is_out_of_range(book, i);
-        i = next_of(book, i);
-        left -= 1;
+    Surveyed {
+        broken,
+        outside,
+        length,
     }
-    Survey { length, outside }
 }
 
-// How many records of the chain that starts at first each portfolio has.
-pub fn counts_by_portfolio(book: &[u8], first: u16) -> [u16; 256]
+// How many records of a chain each portfolio has.
+pub fn counts_by_portfolio(book: &[u8], chain: Chain) -> [u16; PORTFOLIO_NUMBERS]
 {
-    let mut counts = [0; 256];
+    let mut counts = [0; PORTFOLIO_NUMBERS];
     let mut left = record_count(book);
-    let mut i = first;
+    let mut i = first_on(book, chain);
     while 0 < left {
         if i == 0 {
             return counts;

@@ -1,6 +1,14 @@
 // Written by `twin_source` from crates/book/src/ranges.rt.
 // The ranges of a record's fields (document 01, "The book in bytes"): cause 4 at one record, and the limits of an edition. Assumes nothing.
+use crate::twin::by_value::book::bounds::BLOCK_QUANTITY;
+use crate::twin::by_value::book::bounds::BLOCKS_OF_PORTFOLIO;
+use crate::twin::by_value::book::bounds::FEWEST_HOURS;
+use crate::twin::by_value::book::bounds::LAST_PORTFOLIO;
+use crate::twin::by_value::book::bounds::MAX_PRICE;
+use crate::twin::by_value::book::bounds::MOST_STEP_QUANTITY;
 use crate::twin::by_value::records::Block;
+use crate::twin::by_value::records::LAST_HOUR;
+use crate::twin::by_value::records::LAST_SIDE;
 use crate::twin::by_value::records::Record;
 use crate::twin::by_value::records::Step;
 use crate::twin::by_value::records::edition_of;
@@ -14,12 +22,6 @@ pub fn is_within(low: u32, x: u32, high: u32) -> bool
 {
     (low <= x) & (x <= high)
 }
-
-// The largest quantity of a block in edition 1.
-const BLOCK_QUANTITY: u32 = 50;
-
-// The most blocks of one portfolio in edition 1.
-const BLOCKS_OF_PORTFOLIO: u16 = 5;
 
 // The largest quantity of a block; every edition has that of edition 1 today.
 fn most_block_quantity(edition: u8) -> u32
@@ -36,31 +38,31 @@ pub fn most_blocks_of_portfolio(edition: u8) -> u16
 // Whether a step's fields, its side apart, are in their ranges.
 fn step_fits(step: Step) -> bool
 {
-    is_within(1, step.hour as u32, 24)
-        & is_within(1, step.portfolio as u32, 255)
-        & is_within(1, step.price, 300000)
-        & is_within(1, step.quantity, 99999)
+    is_within(1, step.hour as u32, LAST_HOUR)
+        & is_within(1, step.portfolio as u32, LAST_PORTFOLIO)
+        & is_within(1, step.price, MAX_PRICE)
+        & is_within(1, step.quantity, MOST_STEP_QUANTITY)
 }
 
 // Whether a block's fields, its side and byte 6 apart, are in their ranges.
 fn block_fits(edition: u8, block: Block) -> bool
 {
-    is_within(1, block.portfolio as u32, 255)
-        & (2 <= hour_count(block.hours))
-        & is_within(1, block.price, 300000)
+    is_within(1, block.portfolio as u32, LAST_PORTFOLIO)
+        & (FEWEST_HOURS <= hour_count(block.hours))
+        & is_within(1, block.price, MAX_PRICE)
         & is_within(1, block.quantity as u32, most_block_quantity(edition))
 }
 
 // Whether record i, a step, has its fields in range.
 fn is_step_in_range(book: &[u8], i: u16, step: Step) -> bool
 {
-    is_within(0, side_byte(book, i) as u32, 1) & step_fits(step)
+    is_within(0, side_byte(book, i) as u32, LAST_SIDE) & step_fits(step)
 }
 
 // Whether record i, a block, has its fields in range.
 fn is_block_in_range(book: &[u8], i: u16, block: Block) -> bool
 {
-    is_within(0, side_byte(book, i) as u32, 1)
+    is_within(0, side_byte(book, i) as u32, LAST_SIDE)
         & (hour_byte(book, i) == 0)
         & block_fits(edition_of(book), block)
 }

@@ -9,69 +9,82 @@ use crate::twin::by_value::records::bytes::byte_at;
 use crate::twin::by_value::records::bytes::u16_at;
 use crate::twin::by_value::records::bytes::u24_at;
 use crate::twin::by_value::records::bytes::u32_at;
-
-// The kind of a step.
-pub const STEP: u8 = 1;
-
-// The kind of a block.
-pub const BLOCK: u8 = 2;
+use crate::twin::by_value::records::layout::BLOCK_HOURS_OFFSET;
+use crate::twin::by_value::records::layout::BLOCK_KIND;
+use crate::twin::by_value::records::layout::BLOCK_PRICE_OFFSET;
+use crate::twin::by_value::records::layout::BLOCK_QUANTITY_OFFSET;
+use crate::twin::by_value::records::layout::COUNT_OFFSET;
+use crate::twin::by_value::records::layout::DAY_HOURS_OFFSET;
+use crate::twin::by_value::records::layout::EDITION_OFFSET;
+use crate::twin::by_value::records::layout::FIRST_BLOCK_OFFSET;
+use crate::twin::by_value::records::layout::FIRST_STEP_OFFSET;
+use crate::twin::by_value::records::layout::HOUR_OFFSET;
+use crate::twin::by_value::records::layout::LAST_HOUR;
+use crate::twin::by_value::records::layout::NEXT_OFFSET;
+use crate::twin::by_value::records::layout::NUMBER_OFFSET;
+use crate::twin::by_value::records::layout::PORTFOLIO_OFFSET;
+use crate::twin::by_value::records::layout::RECORD_SIZE;
+use crate::twin::by_value::records::layout::SIDE_OFFSET;
+use crate::twin::by_value::records::layout::STEP_KIND;
+use crate::twin::by_value::records::layout::STEP_PRICE_OFFSET;
+use crate::twin::by_value::records::layout::STEP_QUANTITY_OFFSET;
 
 // The head's fields.
 pub fn record_count(book: &[u8]) -> u16
 {
-    u16_at(book, 0)
+    u16_at(book, COUNT_OFFSET)
 }
 
 pub fn first_step(book: &[u8]) -> u16
 {
-    u16_at(book, 2)
+    u16_at(book, FIRST_STEP_OFFSET)
 }
 
 pub fn first_block(book: &[u8]) -> u16
 {
-    u16_at(book, 4)
+    u16_at(book, FIRST_BLOCK_OFFSET)
 }
 
 pub fn day_hours(book: &[u8]) -> u8
 {
-    byte_at(book, 6)
+    byte_at(book, DAY_HOURS_OFFSET)
 }
 
 pub fn edition_of(book: &[u8]) -> u8
 {
-    byte_at(book, 7)
+    byte_at(book, EDITION_OFFSET)
 }
 
 // The fields that steps and blocks share.
 pub fn kind_of(book: &[u8], k: u16) -> u8
 {
-    byte_at(book, 16 * (k as u32))
+    byte_at(book, RECORD_SIZE * (k as u32))
 }
 
 pub fn side_byte(book: &[u8], k: u16) -> u8
 {
-    byte_at(book, 16 * (k as u32) + 1)
+    byte_at(book, RECORD_SIZE * (k as u32) + SIDE_OFFSET)
 }
 
 pub fn next_of(book: &[u8], k: u16) -> u16
 {
-    u16_at(book, 16 * (k as u32) + 2)
+    u16_at(book, RECORD_SIZE * (k as u32) + NEXT_OFFSET)
 }
 
 pub fn number_of(book: &[u8], k: u16) -> u16
 {
-    u16_at(book, 16 * (k as u32) + 4)
+    u16_at(book, RECORD_SIZE * (k as u32) + NUMBER_OFFSET)
 }
 
 // A step's hour; 0 in a block.
 pub fn hour_byte(book: &[u8], k: u16) -> u8
 {
-    byte_at(book, 16 * (k as u32) + 6)
+    byte_at(book, RECORD_SIZE * (k as u32) + HOUR_OFFSET)
 }
 
 pub fn portfolio_of(book: &[u8], k: u16) -> u8
 {
-    byte_at(book, 16 * (k as u32) + 7)
+    byte_at(book, RECORD_SIZE * (k as u32) + PORTFOLIO_OFFSET)
 }
 
 fn side_of(byte: u8) -> Side
@@ -82,14 +95,14 @@ fn side_of(byte: u8) -> Side
 // Record k read as a step, whatever its kind.
 pub fn step_at(book: &[u8], k: u16) -> Step
 {
-    let at = 16 * (k as u32);
+    let at = RECORD_SIZE * (k as u32);
     Step {
         side: side_of(side_byte(book, k)),
         number: number_of(book, k),
         hour: hour_byte(book, k),
         portfolio: portfolio_of(book, k),
-        price: u32_at(book, at + 8),
-        quantity: u32_at(book, at + 12),
+        price: u32_at(book, at + STEP_PRICE_OFFSET),
+        quantity: u32_at(book, at + STEP_QUANTITY_OFFSET),
     }
 }
 
@@ -102,7 +115,13 @@ pub fn block_quantity(book: &[u8], k: u16) -> u16
 // Record k read as a block, whatever its kind. `record_at` is its only caller: with a second one it stays a call, and each reading of a record is slower.
 fn block_at(book: &[u8], k: u16) -> Block
 {
-    let at = 16 * (k as u32);
+    u16_at(book, RECORD_SIZE * (k as u32) + BLOCK_QUANTITY_OFFSET)
+}
+
+// Record k read as a block, whatever its kind. `record_at` is its only caller: with a second one it stays a call, and each reading of a record is slower.
+fn block_at(book: &[u8], k: u16) -> Block
+{
+    let at = RECORD_SIZE * (k as u32);
     Block {
         side: side_of(side_byte(book, k)),
         number: number_of(book, k),
@@ -116,15 +135,15 @@ fn block_at(book: &[u8], k: u16) -> Block
 // Record k as its kind says, where it is whole.
 pub fn record_at(book: &[u8], k: u16) -> Record
 {
-    let behind = 16 * (k as usize) + 16;
-    if book.len() < behind {
+    let behind = RECORD_SIZE * (k as u32) + RECORD_SIZE;
+    if book.len() < behind as usize {
         return Record::Other;
     }
     let kind = kind_of(book, k);
-    if kind == STEP {
+    if kind == STEP_KIND {
         return Record::Step(step_at(book, k));
     }
-    if kind == BLOCK {
+    if kind == BLOCK_KIND {
         return Record::Block(block_at(book, k));
     }
     Record::Other
@@ -136,7 +155,7 @@ pub fn hour_count(hours: u32) -> u32
     let mut count = 0;
     let mut rest = hours;
     let mut h: u32 = 0;
-    while h < 24 {
+    while h < LAST_HOUR {
         if rest % 2 == 1 {
             count += 1;
         }

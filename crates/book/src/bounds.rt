@@ -1,0 +1,35 @@
+// How large a book and its fields may be (document 01, "The book in bytes" and "Refused books and calls"). No code, no contract; the same numbers for
+// the contracts stand in specs/Bounds.antt, the price and the limits of an edition in the rules.
+
+// The most records of a book, head included: R is 1 to 2,048.
+pub const MOST_RECORDS: u16 = 2048;
+
+// The hours of a day, in the head: 24.
+pub const NORMAL_HOURS: u8 = 24;
+
+// The edition, in the head: 1.
+pub const FIRST_EDITION: u8 = 1;
+
+// The last portfolio: 1 to 255.
+pub const LAST_PORTFOLIO: u32 = 255;
+
+// The numbers that a portfolio's byte can be.
+pub const PORTFOLIO_NUMBERS: usize = 256;
+
+// The highest price: 1 to 300000.
+pub const MAX_PRICE: u32 = 300000;
+
+// The largest quantity of a step: 1 to 99,999.
+pub const MOST_STEP_QUANTITY: u32 = 99999;
+
+// The fewest hours of a block: at least two are set.
+pub const FEWEST_HOURS: u32 = 2;
+
+// The largest quantity of a block in edition 1: 1 to 50.
+pub const BLOCK_QUANTITY: u32 = 50;
+
+// The most blocks of one portfolio in edition 1.
+pub const BLOCKS_OF_PORTFOLIO: u16 = 5;
+
+// The most blocks of a book.
+pub const MOST_BLOCKS: u16 = 32;
