@@ -9,7 +9,8 @@ use lib.ListN.{length, take, getD}
 use lib.Seq.{slice}
 use Rattle.records.specs.Records.{recordCount}
 use Rattle.book.specs.Refusals.{Accepted}
-use Rattle.rules.specs.Orders.{Step}
+use Rattle.records.specs.Layout.{lastHour}
+use Rattle.rules.specs.Orders.{Step, maxPrice}
 use Rattle.rules.specs.Execution.{execution}
 use Rattle.rules.specs.Day.{taken, decisions, overBlocks, sells, buys, sumTo, blocksValue, blocksCost}
 use Rattle.rules.specs.Outcome.{outcome}
@@ -17,13 +18,20 @@ use Rattle.rules.proofs.PricingLaws.{net}
 use Rattle.rules.proofs.DualityLaws.{value, cost}
 use Rattle.orders.specs.Bridge.{dayFrom}
 use Rattle.orders.specs.Columns.{StepColumns, BlockColumns, stepsFrom, blocksFrom}
+use Rattle.orders.specs.Layout.{stepPlaces, blockPlaces}
 use Rattle.orders.specs.declared.Steps.{Steps}
 use Rattle.orders.specs.declared.Blocks.{Blocks}
 use Rattle.pricing.specs.Curves.{tradersFrom}
+use Rattle.search.specs.Layout.{mostQuantity}
 use Rattle.search.specs.Search.{Small, FirstSmall, StepsSized}
 use Rattle.search.specs.Meaning.{DayOf}
+use Rattle.result.specs.Layout.{resultSize}
 use Rattle.result.specs.Result.{beside, resultBytes}
 use Rattle.search.specs.declared.Day as code-day
+
+-- ROOM, for safe arithmetic: what the steps of an hour, or all blocks, are worth at most.
+abbrev pub mostWorth : ℕ
+mostWorth = 2 ^ 46
 
 -- AN HOUR out of its columns
 -- What its steps get at a price, and what that is worth, whatever hour the columns are of.
@@ -31,15 +39,15 @@ pub record HourDone (sides prices quantities : List ℕ) (sales purchases price 
   pub gets : (h : ℕ) → out ≡ execution (net (stepsFrom h sides prices quantities) sales purchases) price
   pub valueIs : (h : ℕ) → value-r ≡ value (stepsFrom h sides prices quantities) out
   pub costIs : (h : ℕ) → cost-r ≡ cost (stepsFrom h sides prices quantities) out
-  pub valueFits : value-r ≤ 2 ^ 46
-  pub costFits : cost-r ≤ 2 ^ 46
+  pub valueFits : value-r ≤ mostWorth
+  pub costFits : cost-r ≤ mostWorth
 
 -- What quantities of an hour's steps are worth; the steps' own quantities play no part in that.
 pub record SumsOf (sides prices values : List ℕ) (value-r cost-r : ℕ) : Type 0 where
   pub valueIs : (h : ℕ) → value-r ≡ value (stepsFrom h sides prices values) values
   pub costIs : (h : ℕ) → cost-r ≡ cost (stepsFrom h sides prices values) values
-  pub valueFits : value-r ≤ 2 ^ 46
-  pub costFits : cost-r ≤ 2 ^ 46
+  pub valueFits : value-r ≤ mostWorth
+  pub costFits : cost-r ≤ mostWorth
 
 -- The same for the part of the columns from one place to another; what stands in front of it stays.
 pub record HourPut (sides prices quantities : List ℕ) (from to sales purchases price : ℕ) (before values : List ℕ)
@@ -72,8 +80,8 @@ pub record HoursDone (ends : List ℕ) (steps : ℕ → List Step) (sales purcha
   pub gets : take (getD ends n 0) values ≡ inTurn (getsAt steps sales purchases price) n
   pub valueIs : value-r ≡ sumTo n (λ h. value (steps h) (getsAt steps sales purchases price h))
   pub costIs : cost-r ≡ sumTo n (λ h. cost (steps h) (getsAt steps sales purchases price h))
-  pub valueFits : value-r ≤ n * 2 ^ 46
-  pub costFits : cost-r ≤ n * 2 ^ 46
+  pub valueFits : value-r ≤ n * mostWorth
+  pub costFits : cost-r ≤ n * mostWorth
 
 -- THE BLOCKS of a set given as bits: their value and cost, whatever their numbers.
 pub record WorthOf (sides hours prices quantities : List ℕ) (set value-r cost-r : ℕ) : Type 0 where
@@ -81,37 +89,37 @@ pub record WorthOf (sides hours prices quantities : List ℕ) (set value-r cost-
       value-r ≡ blocksValue day-hours (taken (blocksFrom b records sides hours prices quantities) (decisions (length sides) set))
   pub costIs : (b records : List ℕ) (day-hours : ℕ) → length records ≡ length sides →
       cost-r ≡ blocksCost day-hours (taken (blocksFrom b records sides hours prices quantities) (decisions (length sides) set))
-  pub valueFits : value-r ≤ 2 ^ 46
-  pub costFits : cost-r ≤ 2 ^ 46
+  pub valueFits : value-r ≤ mostWorth
+  pub costFits : cost-r ≤ mostWorth
 
 -- WHAT IS ASKED of the blocks, for safe arithmetic and indexing, by the columns that trades go by
 pub record TradersSized (sides hours quantities : List ℕ) : Type 0 where
-  pub few : length sides ≤ 32
+  pub few : length sides ≤ blockPlaces
   pub asManyHours : length sides ≡ length hours
   pub asManyQuantities : length sides ≡ length quantities
-  pub quantitiesFit : Small 50 quantities
+  pub quantitiesFit : Small mostQuantity quantities
 
 -- .. of the prices of the hours
-abbrev pub Priced : List ℕ → Type 0
-Priced prices = (h : ℕ) → h < 24 → 1 ≤ getD prices h 0
+abbrev pub HoursPriced : List ℕ → Type 0
+HoursPriced prices = (h : ℕ) → h < lastHour → 1 ≤ getD prices h 0
 
 -- .. and of the buffer of a book of so many records
 abbrev pub Buffer : ℕ → List ℕ → Type 0
-Buffer count result = (1 ≤ count) × (count ≤ 2048) × (length result ≡ 196 + 4 * count)
+Buffer count result = (1 ≤ count) × (count ≤ stepPlaces) × (length result ≡ resultSize count)
 
 -- THE ROWS: each step's value beside its record, and each taken block's quantity beside its own.
 abbrev pub RowsOf : (records values brecords bquantities : List ℕ) (set : ℕ) (rows : List ℕ) → Type 0
 RowsOf records values brecords bquantities set rows =
     (bvalues : List ℕ) → length bvalues ≡ length brecords →
     ((i : ℕ) → i < length brecords → getD bvalues i 0 ≡ cond (eqb (set / 2 ^ i % 2) 1) (getD bquantities i 0) 0) →
-    (k : ℕ) → k < 2048 → getD rows k 0 ≡ beside k records values (beside k brecords bvalues 0)
+    (k : ℕ) → k < stepPlaces → getD rows k 0 ≡ beside k records values (beside k brecords bvalues 0)
 
 -- THE RESULT, where the columns are an accepted book's, the set is the published one and the day is its day
 abbrev pub StepsOf : List ℕ → Steps → Type 0
 StepsOf b steps = StepColumns b (steps .ends) (steps .records) (steps .sides) (steps .prices) (steps .quantities)
 
 abbrev pub BlocksOf : List ℕ → Blocks → Type 0
-BlocksOf b blocks = BlockColumns 32 b (blocks .count) (blocks .records) (blocks .sides) (blocks .hours) (blocks .prices) (blocks .quantities)
+BlocksOf b blocks = BlockColumns blockPlaces b (blocks .count) (blocks .records) (blocks .sides) (blocks .hours) (blocks .prices) (blocks .quantities)
 
 abbrev pub PublishedFrom : (count : ℕ) (steps : Steps) (brecords bsides bhours bprices bquantities : List ℕ) (set : ℕ) (day : code-day.Day)
     (result : List ℕ) → Type 0
@@ -128,9 +136,9 @@ PublishedIn count steps blocks set day result =
 -- WHAT IS ASKED of a call, all of it for safe arithmetic and indexing: it holds of an accepted book's columns, set and day.
 pub record Publishable (count : ℕ) (steps : Steps) (blocks : Blocks) (day : code-day.Day) (result : List ℕ) : Type 0 where
   pub stepsFit : StepsSized (steps .ends) (steps .sides) (steps .prices) (steps .quantities)
-  pub inRecords : getD (steps .ends) 24 0 ≤ length (steps .records)
-  pub fewBlocks : blocks .count ≤ 32
-  pub blockPricesFit : FirstSmall (blocks .count) 300000 (blocks .prices)
-  pub blockQuantitiesFit : FirstSmall (blocks .count) 50 (blocks .quantities)
-  pub priced : Priced (day .prices)
+  pub inRecords : getD (steps .ends) lastHour 0 ≤ length (steps .records)
+  pub fewBlocks : blocks .count ≤ blockPlaces
+  pub blockPricesFit : FirstSmall (blocks .count) maxPrice (blocks .prices)
+  pub blockQuantitiesFit : FirstSmall (blocks .count) mostQuantity (blocks .quantities)
+  pub priced : HoursPriced (day .prices)
   pub buffer : Buffer count result

@@ -5,6 +5,7 @@ ghost use lib.ListN.{length};
 ghost use Rattle.records.specs.Records.{recordCount};
 ghost use Rattle.book.specs.Refusals.{Accepted};
 ghost use Rattle.result.specs.Promise.{Promise};
+ghost use Rattle.result.specs.Layout.{resultSize};
 ghost use Rattle.result.specs.Result.{resultBytes};
 use crate::publish::publish;
 use book::Reading;
@@ -13,15 +14,20 @@ use orders::blocks_of;
 use orders::steps_of;
 use records::record_count;
 use result::Clearing;
+use result::RECORD_ROW;
+use result::RECORD_ROWS;
 use search::find;
 use search::layout::TABLE;
 use setup::prepare;
 
 mod publish; // the published set as the result
 
+// The refusal of a result buffer of another size.
+const WRONG_BUFFER: u8 = 7;
+
 // The outcome of an accepted book into a result of the right size.
 fn clear_accepted(book: &[u8], result: &mut [u8])
-    requires { ⌜ Accepted (now book) × (length (now result) ≡ 196 + 4 * recordCount (now book)) ⌝ }
+    requires { ⌜ Accepted (now book) × (length (now result) ≡ resultSize (recordCount (now book))) ⌝ }
     ensures { λ _. ⌜ now (result .exit) ≡ resultBytes (now (book .entry)) ⌝ }
 {
     let count = record_count(book) as usize;
@@ -69,11 +75,11 @@ pub fn clear(book: &[u8], result: &mut [u8]) -> Clearing
             steps: _,
             blocks: _,
         } => {
-            if result.len() == 196 + 4 * (record_count(book) as usize) {
+            if result.len() == RECORD_ROWS + RECORD_ROW * (record_count(book) as usize) {
                 clear_accepted(book, result);
                 Clearing::Published
             } else {
-                Clearing::Refused(7)
+                Clearing::Refused(WRONG_BUFFER)
             }
         }
     }

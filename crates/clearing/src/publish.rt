@@ -5,14 +5,22 @@ ghost use Prim.Native.Nat.{_+_, _-_, _*_, _^_, _≤_};
 ghost use lib.ListN.{length, getD};
 ghost use lib.Dec.{eqb};
 ghost use Rattle.records.specs.Records.{hoursSet};
+ghost use Rattle.records.specs.Layout.{lastHour};
+ghost use Rattle.book.specs.Bounds.{mostStepQuantity};
+ghost use Rattle.rules.specs.Orders.{maxPrice};
 ghost use Rattle.rules.specs.Hour.{bySide, when};
 ghost use Rattle.orders.specs.Columns.{sideFor};
 ghost use Rattle.pricing.specs.Curves.{Columns};
+ghost use Rattle.orders.specs.Layout.{blockPlaces};
+ghost use Rattle.search.specs.Layout.{lastPlace, mostLimit, mostQuantity};
 ghost use Rattle.search.specs.Search.{Small, ofHour, PartSized, StepsSized, stepsAt};
-ghost use Rattle.clearing.specs.Publish.{HourDone, HourPut, SumsOf, WorthOf, HoursDone, TradersSized, Priced};
+ghost use Rattle.clearing.specs.Publish.{HourDone, HourPut, SumsOf, WorthOf, HoursDone, TradersSized, HoursPriced};
 ghost use Rattle.clearing.specs.Publish.{salesAt, buysAt, Buffer, RowsOf, PublishedFrom, PublishedIn, Publishable};
 use orders::Blocks;
 use orders::Steps;
+use orders::layout::HOURS;
+use orders::layout::STEP_PLACES;
+use pricing::BIAS;
 use pricing::blocks::trades_of;
 use pricing::execution::amounts_at;
 use pricing::execution::share_out;
@@ -45,7 +53,7 @@ impl Sums {
 
 // The sums of the columns' steps with a quantity for each.
 fn sums_of(sides: &[u8], prices: &[u32], values: &[u32]) -> Sums
-    requires { ⌜ Columns (now sides) (now prices) (now values) × Small 300000 (now prices) × Small 99999 (now values) ⌝ }
+    requires { ⌜ Columns (now sides) (now prices) (now values) × Small maxPrice (now prices) × Small mostStepQuantity (now values) ⌝ }
     ensures { λ r. ⌜ SumsOf (now (sides .entry)) (now (prices .entry)) (now (values .entry)) (r .value) (r .cost) ⌝ }
 {
     let mut sums = Sums { value: 0, cost: 0 };
@@ -68,12 +76,12 @@ fn fill_hour(
     price: u32,
     out: &mut [u32],
 ) -> Sums
-    requires { ⌜ Columns (now sides) (now prices) (now quantities) × (length (now sides) ≡ length (now out)) × (1 ≤ price) × (sales ≤ 1600)
-        × (buys ≤ 1600) × Small 300000 (now prices) × Small 99999 (now quantities) ⌝ }
+    requires { ⌜ Columns (now sides) (now prices) (now quantities) × (length (now sides) ≡ length (now out)) × (1 ≤ price) × (sales ≤ lastPlace)
+        × (buys ≤ lastPlace) × Small maxPrice (now prices) × Small mostStepQuantity (now quantities) ⌝ }
     ensures { λ r. ⌜ HourDone (now (sides .entry)) (now (prices .entry)) (now (quantities .entry)) sales buys price (now (out .exit)) (r .value)
         (r .cost) ⌝ }
 {
-    let net = (2097152 + sales - buys) as u32;
+    let net = (BIAS + sales - buys) as u32;
     let amounts = amounts_at(sides, prices, quantities, net, price);
     share_out(sides, prices, quantities, price, amounts, out);
     sums_of(sides, prices, out)
@@ -91,8 +99,8 @@ fn put_hour(
     price: u32,
     values: &mut [u32],
 ) -> Sums
-    requires { ⌜ PartSized (now sides) (now prices) (now quantities) from to × (to ≤ length (now values)) × (1 ≤ price) × (sales ≤ 1600)
-        × (buys ≤ 1600) ⌝ }
+    requires { ⌜ PartSized (now sides) (now prices) (now quantities) from to × (to ≤ length (now values)) × (1 ≤ price) × (sales ≤ lastPlace)
+        × (buys ≤ lastPlace) ⌝ }
     ensures { λ r. ⌜ HourPut (now (sides .entry)) (now (prices .entry)) (now (quantities .entry)) from to sales buys price (now (values .entry))
         (now (values .exit)) (r .value) (r .cost) ⌝ }
 {
@@ -109,8 +117,8 @@ fn put_hour(
 
 // What a block is worth: its quantity times its limit over all its hours, if it is chosen (1 for yes).
 fn block_worth(chosen: u32, hours: u32, price: u32, quantity: u32) -> u64
-    requires { ⌜ (price ≤ 300000) × (quantity ≤ 50) ⌝ }
-    ensures { λ r. ⌜ (r ≡ when (eqb chosen 1) (quantity * (price * hoursSet 24 hours))) × (r ≤ 360000000) ⌝ }
+    requires { ⌜ (price ≤ maxPrice) × (quantity ≤ mostQuantity) ⌝ }
+    ensures { λ r. ⌜ (r ≡ when (eqb chosen 1) (quantity * (price * hoursSet lastHour hours))) × (r ≤ mostQuantity * mostLimit) ⌝ }
 {
     if chosen == 1 {
         let limit = price * hour_count(hours);
@@ -121,7 +129,7 @@ fn block_worth(chosen: u32, hours: u32, price: u32, quantity: u32) -> u64
 
 // The value and the cost of the blocks that the set holds, the lowest bit for the first block.
 fn blocks_worth(sides: &[u8], hours: &[u32], prices: &[u32], quantities: &[u32], set: u32) -> Sums
-    requires { ⌜ TradersSized (now sides) (now hours) (now quantities) × (length (now sides) ≡ length (now prices)) × Small 300000 (now prices) ⌝ }
+    requires { ⌜ TradersSized (now sides) (now hours) (now quantities) × (length (now sides) ≡ length (now prices)) × Small maxPrice (now prices) ⌝ }
     ensures { λ r. ⌜ WorthOf (now (sides .entry)) (now (hours .entry)) (now (prices .entry)) (now (quantities .entry)) set (r .value) (r .cost) ⌝ }
 {
     let mut sums = Sums { value: 0, cost: 0 };
@@ -143,15 +151,15 @@ fn fill_hours(
     bhours: &[u32],
     bquantities: &[u32],
     set: u32,
-    middles: [u32; 24],
+    middles: [u32; HOURS],
     values: &mut [u32],
 ) -> Sums
     requires { ⌜ StepsSized (steps .ends) (steps .sides) (steps .prices) (steps .quantities) × TradersSized (now bsides) (now bhours) (now bquantities)
-        × Priced middles × (getD (steps .ends) 24 0 ≤ length (now values)) ⌝ }
+        × HoursPriced middles × (getD (steps .ends) lastHour 0 ≤ length (now values)) ⌝ }
     ensures { λ r. ⌜ HoursDone (steps .ends) (stepsAt (steps .ends) (steps .sides) (steps .prices) (steps .quantities))
         (salesAt (now (bsides .entry)) (now (bhours .entry)) (now (bquantities .entry)) set)
         (buysAt (now (bsides .entry)) (now (bhours .entry)) (now (bquantities .entry)) set)
-        (ofHour middles) 24 (now (values .exit)) (r .value) (r .cost) ⌝ }
+        (ofHour middles) lastHour (now (values .exit)) (r .value) (r .cost) ⌝ }
 {
     let sides = steps.sides;
     let prices = steps.prices;
@@ -160,7 +168,7 @@ fn fill_hours(
     let mut value: u64 = 0;
     let mut cost: u64 = 0;
     let mut h: usize = 0;
-    while h < 24 {
+    while h < HOURS {
         let from = ends[h] as usize;
         let to = ends[h + 1] as usize;
         let trades = trades_of(bsides, bhours, bquantities, set, (h + 1) as u32);
@@ -196,13 +204,13 @@ fn rows_of(
     brecords: &[u16],
     bquantities: &[u32],
     set: u32,
-) -> [u32; 2048]
-    requires { ⌜ (length (now records) ≡ length (now values)) × (length (now brecords) ≡ length (now bquantities)) × (length (now brecords) ≤ 32) ⌝ }
+) -> [u32; STEP_PLACES]
+    requires { ⌜ (length (now records) ≡ length (now values)) × (length (now brecords) ≡ length (now bquantities)) × (length (now brecords) ≤ blockPlaces) ⌝ }
     ensures { λ r. ⌜ RowsOf (now (records .entry)) (now (values .entry)) (now (brecords .entry)) (now (bquantities .entry)) set r ⌝ }
 {
     let m = brecords.len();
     let bvalues = block_values(m, bquantities, set);
-    let rows = with_rows([0; 2048], brecords, &bvalues[..m]);
+    let rows = with_rows([0; STEP_PLACES], brecords, &bvalues[..m]);
     with_rows(rows, records, values)
 }
 
@@ -219,18 +227,18 @@ fn publish_columns(
     day: Day,
     result: &mut [u8],
 )
-    requires { ⌜ StepsSized (steps .ends) (steps .sides) (steps .prices) (steps .quantities) × (getD (steps .ends) 24 0 ≤ length (steps .records))
+    requires { ⌜ StepsSized (steps .ends) (steps .sides) (steps .prices) (steps .quantities) × (getD (steps .ends) lastHour 0 ≤ length (steps .records))
         × TradersSized (now bsides) (now bhours) (now bquantities) × (length (now bsides) ≡ length (now brecords))
-        × (length (now bsides) ≡ length (now bprices)) × Small 300000 (now bprices) × Priced (day .prices) × Buffer count (now result) ⌝ }
+        × (length (now bsides) ≡ length (now bprices)) × Small maxPrice (now bprices) × HoursPriced (day .prices) × Buffer count (now result) ⌝ }
     ensures { λ _. ⌜ PublishedFrom count steps (now (brecords .entry)) (now (bsides .entry)) (now (bhours .entry)) (now (bprices .entry))
         (now (bquantities .entry)) set day (now (result .exit)) ⌝ }
 {
     let records = steps.records;
     let ends = steps.ends;
-    let n = ends[24] as usize;
+    let n = ends[HOURS] as usize;
     let middles = day.prices;
     let traded = day.quantities;
-    let mut values = [0; 2048];
+    let mut values = [0; STEP_PLACES];
     let sums = fill_hours(
         steps,
         bsides,

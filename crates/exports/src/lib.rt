@@ -12,8 +12,21 @@ use clearing::clear;
 use pricing::HourAnswer;
 use pricing::price;
 use result::Clearing;
+use sheet::MOST_SHEET;
 use sheet::sheet;
 use text::put_text;
+
+// The parts of the answer of a pricing call: which it is; L, H and the price.
+const ANSWER: u32 = 0;
+
+const LOW: u32 = 1;
+
+const HIGH: u32 = 2;
+
+const PRICE: u32 = 3;
+
+// What the first part says of an hour that does not clear.
+const NOT_CLEARING: u32 = 9;
 
 // The book's refusal, 0 for an accepted book.
 #[no_mangle]
@@ -37,16 +50,16 @@ pub extern "C" fn auction_price(book: &[u8], set: u32, hour: u32, part: u32) -> 
 {
     let answer = price(book, set, hour);
     match answer {
-        HourAnswer::Refused(number) => { if part == 0 { number as u32 } else { 0 } }
-        HourAnswer::NotClearing => { if part == 0 { 9 } else { 0 } }
+        HourAnswer::Refused(number) => { if part == ANSWER { number as u32 } else { 0 } }
+        HourAnswer::NotClearing => { if part == ANSWER { NOT_CLEARING } else { 0 } }
         HourAnswer::Cleared { low, high, price } => {
-            if part == 1 {
+            if part == LOW {
                 low
             } else {
-                if part == 2 {
+                if part == HIGH {
                     high
                 } else {
-                    if part == 3 { price } else { 0 }
+                    if part == PRICE { price } else { 0 }
                 }
             }
         }
@@ -73,7 +86,7 @@ pub extern "C" fn auction_sheet(book: &[u8], out: &mut [u8]) -> u32
     ensures answer { λ r. ⌜ r ≡ length (sheetOf (now (book .entry))) ⌝ }
     ensures bytes { λ _. ⌜ now (out .exit) ≡ bufferAfter (sheetOf (now (book .entry))) (now (out .entry)) ⌝ }
 {
-    let mut bytes = [0u8; 781];
+    let mut bytes = [0u8; MOST_SHEET];
     let count = sheet(book, &mut bytes);
     if out.len() < count {
         return count as u32;

@@ -6,6 +6,7 @@ use mathlib.Core.Bool.{Bool, cond, not, _||_}
 use mathlib.Core.Path.{_≡_}
 use lib.Dec.{eqb, leb}
 use lib.ListN.{length}
+use Rattle.records.specs.Layout.{lastHour}
 use Rattle.book.specs.Tests.{within}
 use Rattle.book.specs.Chains.{blockOrder}
 use Rattle.book.specs.Refusals.{ownCauses, firstCause}
@@ -32,7 +33,7 @@ numberOf (Refused n) = n
 
 -- 8: hour outside 1 to 24, or a set that names a block position not there.
 unfoldable pub wrongCall : List ℕ → ℕ → ℕ → Bool
-wrongCall b set hour = not (within 1 hour 24) || leb (2 ^ length (blockOrder b)) set
+wrongCall b set hour = not (within 1 hour lastHour) || leb (2 ^ length (blockOrder b)) set
 
 -- The causes of a pricing call in the order in which they are looked for: the book's own, then 8.
 unfoldable pub priceCauses : List ℕ → ℕ → ℕ → List (Bool × ℕ)

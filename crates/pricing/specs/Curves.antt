@@ -3,6 +3,8 @@ use Prim.Native.Nat.{ℕ, _+_, _*_, _^_, _≤_, _<_, min}
 use mathlib.Core.List.{List, [], _∷_, map}
 use mathlib.Core.Path.{_≡_}
 use lib.ListN.{length, getD}
+use Rattle.book.specs.Bounds.{mostStepQuantity}
+use Rattle.orders.specs.Layout.{stepPlaces}
 use Rattle.orders.specs.Columns.{sideFor, stepsFrom, blockOf}
 use Rattle.rules.specs.Orders.{Step, Block, maxPrice}
 use Rattle.rules.specs.Hour.{Hour, buysAbove, buysFrom, sellsTo}
@@ -30,15 +32,15 @@ pub record LeastCovered (margin : ℕ) (hour : Hour) (r : ℕ) : Type 0 where
 
 -- No quantity is above a step's largest.
 abbrev pub QuantitiesInRange : List ℕ → Type 0
-QuantitiesInRange quantities = (i : ℕ) → getD quantities i 0 ≤ 99999
+QuantitiesInRange quantities = (i : ℕ) → getD quantities i 0 ≤ mostStepQuantity
 
 -- What the columns' steps buy over one price and sell to another, whatever hour they are of.
 pub record TotalsOf (sides prices quantities : List ℕ) (over to above upto : ℕ) : Type 0 where
   pub buys : (h : ℕ) → above ≡ buysAbove over (stepsFrom h sides prices quantities)
   pub sells : (h : ℕ) → upto ≡ sellsTo to (stepsFrom h sides prices quantities)
-  pub aboveFits : above ≤ 2048 * 2 ^ 32
-  pub uptoFits : upto ≤ 2048 * 2 ^ 32
-  pub aboveSmall : QuantitiesInRange quantities → above ≤ 2048 * 99999
+  pub aboveFits : above ≤ stepPlaces * 2 ^ 32
+  pub uptoFits : upto ≤ stepPlaces * 2 ^ 32
+  pub aboveSmall : QuantitiesInRange quantities → above ≤ stepPlaces * mostStepQuantity
 
 -- The same with one price for both.
 abbrev pub TotalsAt : List ℕ → List ℕ → List ℕ → ℕ → ℕ → ℕ → Type 0
@@ -48,7 +50,7 @@ TotalsAt sides prices quantities price above upto = TotalsOf sides prices quanti
 pub record Columns (sides prices quantities : List ℕ) : Type 0 where
   pub asManyPrices : length sides ≡ length prices
   pub asManyQuantities : length sides ≡ length quantities
-  pub notTooMany : length sides ≤ 2048
+  pub notTooMany : length sides ≤ stepPlaces
 
 -- Blocks out of the columns that trades go by (sides, hours, quantities); their numbers and prices play no part in an hour's totals.
 unfoldable pub tradersFrom : List ℕ → List ℕ → List ℕ → List Block

@@ -3,6 +3,7 @@ ghost use mathlib.Core.Path.{_≡_};
 ghost use Prim.Native.Nat.{_+_, _^_, _≤_};
 ghost use mathlib.Core.Bool.{_&&_};
 ghost use lib.Dec.{eqb};
+ghost use Rattle.records.specs.Layout.{lastHour};
 ghost use Rattle.rules.specs.Hour.{bySide, when};
 ghost use Rattle.orders.specs.Columns.{sideFor};
 ghost use Rattle.pricing.specs.Curves.{Columns, TradesOf};
@@ -32,7 +33,7 @@ impl Trades {
 
 // The trades of the blocks that the set holds, the lowest bit for the first block.
 pub fn trades_of(sides: &[u8], hours: &[u32], quantities: &[u32], set: u32, hour: u32) -> Trades
-    requires { ⌜ Columns (now sides) (now hours) (now quantities) × (1 ≤ hour) × (hour ≤ 24) ⌝ }
+    requires { ⌜ Columns (now sides) (now hours) (now quantities) × (1 ≤ hour) × (hour ≤ lastHour) ⌝ }
     ensures { λ r. ⌜ TradesOf (now (sides .entry)) (now (hours .entry)) (now (quantities .entry)) set hour (r .sales) (r .buys) ⌝ }
 {
     let mut trades = Trades { sales: 0, buys: 0 };

@@ -3,7 +3,7 @@ ghost use mathlib.Core.Path.{_≡_};
 ghost use Prim.Native.Nat.{_+_, _-_, _≤_, min};
 ghost use Rattle.rules.specs.Execution.{inFull, buyingAt, sellingAt};
 ghost use lib.ListN.{length};
-ghost use Rattle.pricing.specs.Curves.{stepFor, Columns, QuantitiesInRange, TradedAt, AmountsOf, SharedOut};
+ghost use Rattle.pricing.specs.Curves.{bias, stepFor, Columns, QuantitiesInRange, TradedAt, AmountsOf, SharedOut};
 use crate::hour::totals_at;
 use crate::hour::totals_between;
 
@@ -59,7 +59,7 @@ pub fn traded_at(
     buys: u32,
     price: u32,
 ) -> u32
-    requires { ⌜ Columns (now sides) (now prices) (now quantities) × QuantitiesInRange (now quantities) × (buys ≤ 1600000) ⌝ }
+    requires { ⌜ Columns (now sides) (now prices) (now quantities) × QuantitiesInRange (now quantities) × (buys ≤ bias) ⌝ }
     ensures { λ r. ⌜ TradedAt (now (sides .entry)) (now (prices .entry)) (now (quantities .entry)) sales buys price r ⌝ }
 {
     let totals = totals_between(sides, prices, quantities, one_less(price), price);

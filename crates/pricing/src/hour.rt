@@ -7,7 +7,9 @@ ghost use Rattle.rules.specs.Hour.{bySide, when};
 ghost use Rattle.orders.specs.Columns.{sideFor};
 ghost use Rattle.pricing.specs.Curves.{Columns, TotalsOf, TotalsAt, hourWith, LeastCovered};
 ghost use Rattle.pricing.specs.Answers.{AnswerOf};
+use crate::BIAS;
 use crate::HourAnswer;
+use book::MAX_PRICE;
 
 // What steps buy strictly above one price, and sell at or below another, or the same.
 pub struct Totals {
@@ -77,11 +79,11 @@ pub fn least_covered(sides: &[u8], prices: &[u32], quantities: &[u32], net: u32,
     ensures { λ r. ⌜ ((h : ℕ) → LeastCovered margin (hourWith h (now (sides .entry)) (now (prices .entry)) (now (quantities .entry)) net) r) ⌝ }
 {
     let mut low: u32 = 1;
-    let mut high: u32 = 300000;
+    let mut high: u32 = MAX_PRICE;
     while low < high {
         let middle = (low + high) / 2;
         let totals = totals_at(sides, prices, quantities, middle);
-        if totals.above + 2097152 + (margin as u64) <= totals.upto + (net as u64) {
+        if totals.above + BIAS + (margin as u64) <= totals.upto + (net as u64) {
             high = middle;
         } else {
             low = middle + 1;
@@ -96,11 +98,11 @@ pub fn answer_of(sides: &[u8], prices: &[u32], quantities: &[u32], net: u32) -> 
     ensures { λ r. ⌜ AnswerOf (now (sides .entry)) (now (prices .entry)) (now (quantities .entry)) net r ⌝ }
 {
     let lowest = totals_at(sides, prices, quantities, 0);
-    let highest = totals_at(sides, prices, quantities, 300000);
-    if lowest.above + 2097152 < (net as u64) {
+    let highest = totals_at(sides, prices, quantities, MAX_PRICE);
+    if lowest.above + BIAS < (net as u64) {
         return HourAnswer::NotClearing;
     }
-    if highest.upto + (net as u64) < 2097152 {
+    if highest.upto + (net as u64) < BIAS {
         return HourAnswer::NotClearing;
     }
     let low = least_covered(sides, prices, quantities, net, 0);

@@ -5,6 +5,8 @@ ghost use lib.Dec.{leb};
 ghost use Rattle.book.specs.Refusals.{Accepted};
 ghost use Rattle.rules.specs.Hour.{pricing};
 ghost use Rattle.rules.specs.Day.{stepsIn};
+ghost use Rattle.records.specs.Layout.{lastHour};
+ghost use Rattle.orders.specs.Layout.{blockPlaces};
 ghost use Rattle.orders.specs.Bridge.{dayFrom};
 ghost use Rattle.pricing.specs.Curves.{bias};
 ghost use Rattle.pricing.specs.Answers.{answerFor, NetOf, hourAnswer};
@@ -13,11 +15,22 @@ use crate::hour::answer_of;
 use book::Reading;
 use book::read;
 use orders::blocks_of;
+use orders::layout::BLOCK_PLACES;
 use orders::steps_of;
+use records::LAST_HOUR;
 
 pub mod blocks;
 pub mod execution;
 pub mod hour;
+
+// N is held as one number that is never negative: this, plus block sales, less block purchases.
+pub const BIAS: u64 = 2097152;
+
+// The bits of a set, one for each block that a book may have.
+const SET_BITS: u32 = BLOCK_PLACES as u32;
+
+// The refusal of a call whose hour or set is not there.
+const WRONG_CALL: u8 = 8;
 
 // What pricing an hour gives: L, H and the price; that the hour does not clear; or a refusal with its number.
 pub enum HourAnswer {
@@ -28,9 +41,9 @@ pub enum HourAnswer {
 
 // Whether the set names a block position that is not there: a bit at or past the count.
 fn names_absent(set: u32, count: u32) -> bool
-    ensures { λ r. ⌜ (count ≤ 32 → r ≡ leb (2 ^ count) set) ⌝ }
+    ensures { λ r. ⌜ (count ≤ blockPlaces → r ≡ leb (2 ^ count) set) ⌝ }
 {
-    if count < 32 {
+    if count < SET_BITS {
         (set >> count) != 0
     } else {
         false
@@ -39,7 +52,7 @@ fn names_absent(set: u32, count: u32) -> bool
 
 // N of an hour under a set of an accepted book's blocks: the bias, plus block sales, less block purchases.
 fn net_in(book: &[u8], set: u32, hour: u32) -> u32
-    requires { ⌜ Accepted (now book) × (1 ≤ hour) × (hour ≤ 24) ⌝ }
+    requires { ⌜ Accepted (now book) × (1 ≤ hour) × (hour ≤ lastHour) ⌝ }
     ensures { λ r. ⌜ NetOf (now (book .entry)) set hour r ⌝ }
 {
     let found = blocks_of(book);
@@ -54,12 +67,12 @@ fn net_in(book: &[u8], set: u32, hour: u32) -> u32
         set,
         hour,
     );
-    (2097152 + trades.sales - trades.buys) as u32
+    (BIAS + trades.sales - trades.buys) as u32
 }
 
 // The answer of an hour of an accepted book, for N.
 fn answer_in(book: &[u8], hour: u32, net: u32) -> HourAnswer
-    requires { ⌜ Accepted (now book) × (1 ≤ hour) × (hour ≤ 24) ⌝ }
+    requires { ⌜ Accepted (now book) × (1 ≤ hour) × (hour ≤ lastHour) ⌝ }
     ensures { λ r. ⌜ r ≡ answerFor (pricing (record { steps = stepsIn hour (dayFrom (now (book .entry)) .steps); blockSales = net; blockBuys = bias })) ⌝ }
 {
     let steps = steps_of(book);
@@ -86,8 +99,8 @@ pub fn price(book: &[u8], set: u32, hour: u32) -> HourAnswer
     match reading {
         Reading::Refused(number) => HourAnswer::Refused(number),
         Reading::Accepted { steps: _, blocks } => {
-            if (hour < 1) | (24 < hour) | names_absent(set, blocks as u32) {
-                HourAnswer::Refused(8)
+            if (hour < 1) | (LAST_HOUR < hour) | names_absent(set, blocks as u32) {
+                HourAnswer::Refused(WRONG_CALL)
             } else {
                 answer_in(book, hour, net_in(book, set, hour))
             }

@@ -11,13 +11,14 @@ use Rattle.book.specs.Refusals.{ownCauses, firstCause}
 use Rattle.rules.specs.Contender.{BeatsAll}
 use Rattle.rules.specs.OutcomeRules.{OutcomeRules}
 use Rattle.orders.specs.Bridge.{dayFrom}
+use Rattle.result.specs.Layout.{resultSize}
 use Rattle.result.specs.Result.{resultBytes, welfareIn, priceIn, tradedIn, rowIn, stepRowsIn, takenIn}
 use Rattle.result.specs.declared.Clearing.{Clearing}
 use Rattle.result.specs.declared.Clearing.the-variants.{Published, Refused}
 
 -- 7: a result buffer not of 196 + 4 × R bytes.
 unfoldable pub wrongBuffer : List ℕ → List ℕ → Bool
-wrongBuffer b result = not (eqb (length result) (196 + 4 * recordCount b))
+wrongBuffer b result = not (eqb (length result) (resultSize (recordCount b)))
 
 -- The number for which a clearing is refused: the book's own causes, then 7; 0, which is ours, where it is not.
 unfoldable pub clearRefusal : List ℕ → List ℕ → ℕ

@@ -6,6 +6,7 @@ use lib.Dec.{eqb}
 use Rattle.records.specs.Bytes.{u32At}
 use Rattle.records.specs.Records.{recordCount, blockAt}
 use Rattle.book.specs.Chains.{stepOrder, blockOrder}
+use Rattle.result.specs.Layout.{welfareSize, half, hourRowSize, tradedOffset, recordRowSize, recordRowsOffset}
 use Rattle.rules.specs.Outcome.{published}
 use Rattle.orders.specs.Bridge.{ordersOf}
 
@@ -42,29 +43,29 @@ rowOf b k =
 -- A number of each record from k on, n of them, as 4 bytes each.
 unfoldable pub recordRows : (ℕ → ℕ) → ℕ → ℕ → List ℕ
 recordRows row zero k = []
-recordRows row (suc n) k = bytesOf 4 (row k) ++ recordRows row n (suc k)
+recordRows row (suc n) k = bytesOf recordRowSize (row k) ++ recordRows row n (suc k)
 
 -- The result: 8 bytes welfare, the hours 1 to 24, the records 1 to R − 1.
 unfoldable pub resultBytes : List ℕ → List ℕ
 resultBytes b =
-    bytesOf 8 (published (ordersOf b) .welfare)
+    bytesOf welfareSize (published (ordersOf b) .welfare)
     ++ (hourRows (published (ordersOf b) .prices) (published (ordersOf b) .traded) ++ recordRows (rowOf b) (recordCount b - 1) 1)
 
 -- READ AGAIN
 -- The 8 bytes of the welfare.
 unfoldable pub welfareIn : List ℕ → ℕ
-welfareIn result = u32At result 0 * 2 ^ 32 + u32At result 4
+welfareIn result = u32At result 0 * 2 ^ 32 + u32At result half
 
 -- The price and the traded quantity of hour h.
 unfoldable pub priceIn : List ℕ → ℕ → ℕ
-priceIn result h = u32At result (8 * h)
+priceIn result h = u32At result (hourRowSize * h)
 
 unfoldable pub tradedIn : List ℕ → ℕ → ℕ
-tradedIn result h = u32At result (8 * h + 4)
+tradedIn result h = u32At result (hourRowSize * h + tradedOffset)
 
 -- The row of record k.
 unfoldable pub rowIn : List ℕ → ℕ → ℕ
-rowIn result k = u32At result (196 + 4 * k)
+rowIn result k = u32At result (recordRowsOffset + recordRowSize * k)
 
 -- The executed quantities of the steps, in chain order.
 unfoldable pub stepRowsIn : List ℕ → List ℕ → List ℕ

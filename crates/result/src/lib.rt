@@ -6,16 +6,28 @@ ghost use mathlib.Core.Path.{_≡_};
 ghost use Prim.Native.Nat.{ℕ, _+_, _-_, _*_, _/_, _%_, _^_, _<_, _≤_};
 ghost use lib.Dec.{eqb};
 ghost use lib.ListN.{length, getD};
+ghost use Rattle.orders.specs.Layout.{stepPlaces, blockPlaces};
+ghost use Rattle.result.specs.Layout.{welfareSize, resultSize};
 ghost use Rattle.result.specs.Result.{bytesOf, hourRows, recordRows, beside};
 ghost use Rattle.result.specs.Rows.{rowAt};
 ghost use Rattle.text.specs.Buffer.{splice};
 
+mod layout; // where a result's bytes have what
 mod numbers; // the numbers of a result read again
 
+use crate::layout::HALF;
+use crate::layout::HOUR_ROW;
+use crate::layout::TRADED;
+use crate::layout::WELFARE_SIZE;
+pub use layout::RECORD_ROW;
+pub use layout::RECORD_ROWS;
 pub use numbers::price_in;
 pub use numbers::row_in;
 pub use numbers::traded_in;
 pub use numbers::welfare_in;
+use orders::layout::BLOCK_PLACES;
+use orders::layout::HOURS;
+use orders::layout::STEP_PLACES;
 
 // What a clearing answers: the outcome is published, or refused with its number.
 pub enum Clearing {
@@ -36,34 +48,34 @@ fn put32(result: &mut [u8], at: usize, value: u32)
 
 // Eight bytes from `at` on.
 fn put64(result: &mut [u8], at: usize, value: u64)
-    requires { ⌜ at + 8 ≤ length (now result) ⌝ }
-    ensures { λ _. ⌜ now (result .exit) ≡ splice (now (result .entry)) at (bytesOf 8 value) ⌝ }
+    requires { ⌜ at + welfareSize ≤ length (now result) ⌝ }
+    ensures { λ _. ⌜ now (result .exit) ≡ splice (now (result .entry)) at (bytesOf welfareSize value) ⌝ }
 {
     put32(result, at, (value / 4294967296) as u32);
-    put32(result, at + 4, (value % 4294967296) as u32);
+    put32(result, at + HALF, (value % 4294967296) as u32);
 }
 
 // The rows of the hours: hour h + 1 from byte 8 + 8 * h on.
-fn put_hours(result: &mut [u8], prices: [u32; 24], quantities: [u32; 24])
-    requires { ⌜ 200 ≤ length (now result) ⌝ }
-    ensures { λ _. ⌜ now (result .exit) ≡ splice (now (result .entry)) 8 (hourRows prices quantities) ⌝ }
+fn put_hours(result: &mut [u8], prices: [u32; HOURS], quantities: [u32; HOURS])
+    requires { ⌜ resultSize 1 ≤ length (now result) ⌝ }
+    ensures { λ _. ⌜ now (result .exit) ≡ splice (now (result .entry)) welfareSize (hourRows prices quantities) ⌝ }
 {
     let mut h: usize = 0;
-    while h < 24 {
-        put32(result, 8 + 8 * h, prices[h]);
-        put32(result, 8 + 8 * h + 4, quantities[h]);
+    while h < HOURS {
+        put32(result, WELFARE_SIZE + HOUR_ROW * h, prices[h]);
+        put32(result, WELFARE_SIZE + HOUR_ROW * h + TRADED, quantities[h]);
         h += 1;
     }
 }
 
 // The rows of the records 1 to count - 1: record k from byte 196 + 4 * k on.
-fn put_records(result: &mut [u8], count: usize, rows: &[u32; 2048])
-    requires { ⌜ (1 ≤ count) × (count ≤ 2048) × (length (now result) ≡ 196 + 4 * count) ⌝ }
-    ensures { λ _. ⌜ now (result .exit) ≡ splice (now (result .entry)) 200 (recordRows (rowAt (now (rows .entry))) (count - 1) 1) ⌝ }
+fn put_records(result: &mut [u8], count: usize, rows: &[u32; STEP_PLACES])
+    requires { ⌜ (1 ≤ count) × (count ≤ stepPlaces) × (length (now result) ≡ resultSize count) ⌝ }
+    ensures { λ _. ⌜ now (result .exit) ≡ splice (now (result .entry)) (resultSize 1) (recordRows (rowAt (now (rows .entry))) (count - 1) 1) ⌝ }
 {
     let mut k: usize = 1;
     while k < count {
-        put32(result, 196 + 4 * k, rows[k]);
+        put32(result, RECORD_ROWS + RECORD_ROW * k, rows[k]);
         k += 1;
     }
 }
@@ -73,12 +85,12 @@ pub fn write_result(
     result: &mut [u8],
     count: usize,
     welfare: u64,
-    prices: [u32; 24],
-    quantities: [u32; 24],
-    rows: &[u32; 2048],
+    prices: [u32; HOURS],
+    quantities: [u32; HOURS],
+    rows: &[u32; STEP_PLACES],
 )
-    requires { ⌜ (1 ≤ count) × (count ≤ 2048) × (length (now result) ≡ 196 + 4 * count) ⌝ }
-    ensures { λ _. ⌜ now (result .exit) ≡ bytesOf 8 welfare ++ (hourRows prices quantities ++ recordRows (rowAt (now (rows .entry))) (count - 1) 1) ⌝ }
+    requires { ⌜ (1 ≤ count) × (count ≤ stepPlaces) × (length (now result) ≡ resultSize count) ⌝ }
+    ensures { λ _. ⌜ now (result .exit) ≡ bytesOf welfareSize welfare ++ (hourRows prices quantities ++ recordRows (rowAt (now (rows .entry))) (count - 1) 1) ⌝ }
 {
     put64(result, 0, welfare);
     put_hours(result, prices, quantities);
@@ -86,16 +98,16 @@ pub fn write_result(
 }
 
 // The rows with each value at its record, from the last to the first, so that a record's first value stays.
-pub fn with_rows(rows: [u32; 2048], records: &[u16], values: &[u32]) -> [u32; 2048]
+pub fn with_rows(rows: [u32; STEP_PLACES], records: &[u16], values: &[u32]) -> [u32; STEP_PLACES]
     requires { ⌜ length (now records) ≡ length (now values) ⌝ }
-    ensures { λ r. ⌜ ((k : ℕ) → k < 2048 → getD r k 0 ≡ beside k (now (records .entry)) (now (values .entry)) (getD rows k 0)) ⌝ }
+    ensures { λ r. ⌜ ((k : ℕ) → k < stepPlaces → getD r k 0 ≡ beside k (now (records .entry)) (now (values .entry)) (getD rows k 0)) ⌝ }
 {
     let mut filled = rows;
     let mut i = records.len();
     while 0 < i {
         i -= 1;
         let k = records[i] as usize;
-        if k < 2048 {
+        if k < STEP_PLACES {
             filled[k] = values[i];
         }
     }
@@ -103,11 +115,11 @@ pub fn with_rows(rows: [u32; 2048], records: &[u16], values: &[u32]) -> [u32; 20
 }
 
 // The row of each block: its quantity if its bit of the set is 1, else 0.
-pub fn block_values(count: usize, quantities: &[u32], set: u32) -> [u32; 32]
-    requires { ⌜ (count ≤ length (now quantities)) × (count ≤ 32) ⌝ }
+pub fn block_values(count: usize, quantities: &[u32], set: u32) -> [u32; BLOCK_PLACES]
+    requires { ⌜ (count ≤ length (now quantities)) × (count ≤ blockPlaces) ⌝ }
     ensures { λ r. ⌜ ((i : ℕ) → i < count → getD r i 0 ≡ cond (eqb (set / 2 ^ i % 2) 1) (getD (now (quantities .entry)) i 0) 0) ⌝ }
 {
-    let mut values = [0u32; 32];
+    let mut values = [0u32; BLOCK_PLACES];
     let mut i: usize = 0;
     while i < count {
         if (set >> i) % 2 == 1 {

@@ -2,34 +2,49 @@
 // byte reads as 0. Assumes nothing.
 ghost use mathlib.Core.Path.{_≡_};
 ghost use Rattle.result.specs.Result.{welfareIn, priceIn, tradedIn, rowIn};
+use crate::layout;
 use records::u32_at;
+
+// The places of a result's numbers, as the reader of bytes takes them.
+const HALF: u32 = layout::HALF as u32;
+
+const HOUR_ROW: u32 = layout::HOUR_ROW as u32;
+
+const TRADED: u32 = layout::TRADED as u32;
+
+const RECORD_ROW: u32 = layout::RECORD_ROW as u32;
+
+const RECORD_ROWS: u32 = layout::RECORD_ROWS as u32;
+
+// What the higher half of the welfare counts.
+const HIGHER: u64 = 4294967296;
 
 // The welfare: the 8 bytes at the start.
 pub fn welfare_in(result: &[u8]) -> u64
     ensures { λ r. ⌜ r ≡ welfareIn (now (result .entry)) ⌝ }
 {
     let high = u32_at(result, 0);
-    let low = u32_at(result, 4);
-    (high as u64) * 4294967296 + (low as u64)
+    let low = u32_at(result, HALF);
+    (high as u64) * HIGHER + (low as u64)
 }
 
 // The price of hour h.
 pub fn price_in(result: &[u8], h: u8) -> u32
     ensures { λ r. ⌜ r ≡ priceIn (now (result .entry)) h ⌝ }
 {
-    u32_at(result, 8 * (h as u32))
+    u32_at(result, HOUR_ROW * (h as u32))
 }
 
 // The traded quantity of hour h, 4 bytes behind its price.
 pub fn traded_in(result: &[u8], h: u8) -> u32
     ensures { λ r. ⌜ r ≡ tradedIn (now (result .entry)) h ⌝ }
 {
-    u32_at(result, 8 * (h as u32) + 4)
+    u32_at(result, HOUR_ROW * (h as u32) + TRADED)
 }
 
 // The row of record k.
 pub fn row_in(result: &[u8], k: u16) -> u32
     ensures { λ r. ⌜ r ≡ rowIn (now (result .entry)) k ⌝ }
 {
-    u32_at(result, 196 + 4 * (k as u32))
+    u32_at(result, RECORD_ROWS + RECORD_ROW * (k as u32))
 }

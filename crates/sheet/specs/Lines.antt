@@ -3,6 +3,7 @@ use Prim.Native.Nat.{ℕ}
 use mathlib.Core.Bool.{Bool}
 use mathlib.Core.List.{List, [], _∷_, _++_}
 use lib.Dec.{eqb}
+use Rattle.records.specs.Layout.{lastHour}
 use Rattle.records.specs.Records.{number, blockAt}
 use Rattle.orders.specs.Columns.{blockRecords}
 use Rattle.result.specs.Result.{welfareIn, priceIn, tradedIn, rowIn}
@@ -11,7 +12,7 @@ use Rattle.sheet.specs.Sheet.{hourLines, blockLine}
 
 -- The lines of the hours, with the numbers in a result.
 abbrev pub hourLinesIn : List ℕ → List ℕ
-hourLinesIn result = hourLines 24 (priceIn result) (tradedIn result)
+hourLinesIn result = hourLines lastHour (priceIn result) (tradedIn result)
 
 -- The block of record k is taken: its row holds its quantity.
 unfoldable pub takenAt : List ℕ → List ℕ → ℕ → Bool

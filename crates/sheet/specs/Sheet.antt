@@ -5,11 +5,16 @@ use mathlib.Core.Bool.{Bool, cond}
 use mathlib.Core.List.{List, [], _∷_, _++_}
 use lib.Dec.{eqb}
 use lib.ListN.{getD}
+use Rattle.records.specs.Layout.{lastHour}
 use Rattle.book.specs.Refusals.{refusal}
 use Rattle.rules.specs.Orders.{Block}
 use Rattle.rules.specs.Outcome.{Published, published}
 use Rattle.orders.specs.Bridge.{ordersOf, dayFrom}
 use Rattle.text.specs.Text.{text, field, semicolon, lineFeed}
+
+-- The most bytes of a sheet.
+abbrev pub mostSheet : ℕ
+mostSheet = 781
 
 -- A line of an hour: hour, price, traded quantity.
 unfoldable pub hourLine : ℕ → ℕ → ℕ → List ℕ
@@ -38,7 +43,7 @@ blockLines (s ∷ blocks) (taken ∷ chosen) = blockLine (s .number) taken ++ bl
 unfoldable pub outcomeSheet : List Block → Published → List ℕ
 outcomeSheet blocks outcome =
     text "hour;cents;tenths\n"
-    ++ (hourLines 24 (ofHour (outcome .prices)) (ofHour (outcome .traded))
+    ++ (hourLines lastHour (ofHour (outcome .prices)) (ofHour (outcome .traded))
     ++ (text "block;taken\n" ++ (blockLines blocks (outcome .chosen) ++ (text "welfare;" ++ field (outcome .welfare) lineFeed))))
 
 -- The line of a refusal.

@@ -5,6 +5,7 @@ ghost use Rattle.sheet.specs.Lines.{takenAt, hourLinesIn, allBlockLines,
 ghost use Rattle.sheet.specs.Sheet.{hourLine, blockLine};
 ghost use Rattle.text.specs.Text.{HasRoom, Put};
 use orders::blocks_of;
+use orders::layout::LAST_HOUR_BYTE;
 use records::block_quantity;
 use records::number_of;
 use result::price_in;
@@ -32,7 +33,7 @@ fn put_hours(out: &mut [u8], at: usize, result: &[u8]) -> usize
 {
     let mut end = at;
     let mut h: u8 = 0;
-    while h < 24 {
+    while h < LAST_HOUR_BYTE {
         h += 1;
         let price = price_in(result, h);
         let traded = traded_in(result, h);

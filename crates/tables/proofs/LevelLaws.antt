@@ -15,7 +15,7 @@ use Rattle.rules.specs.Contender.{PricesInRange}
 use Rattle.rules.proofs.PricingLaws.{DemandMet, Clearable, net}
 use Rattle.rules.proofs.TableLaws.{lowOf, unitPrice, unit-first, unit-is, unit-falls, unit-net, unit-low}
 use Rattle.orders.specs.Columns.{stepsFrom}
-use Rattle.tables.specs.Tables.{UnitPrices, PriceTable, keyPrice, keyQuantity, keyAbove, aboveIn, amountIn, KeysOf, NextLevel, RunFilled, NotRising, InRange}
+use Rattle.tables.specs.Tables.{UnitPrices, PriceTable, keyPrice, keyQuantity, keyAbove, aboveIn, amountIn, KeysOf, NextLevel, RunFilled, NotRising, PricesFit}
 use Rattle.rules.proofs.CurveLaws.{when-le}
 use native.Mathlib.Numerals.{add-one}
 
@@ -238,7 +238,7 @@ module _ (l : List Step) (off : ℕ) (table : List ℕ) (t : UnitPrices l off ta
   pub table-not-rising : NotRising table
   table-not-rising i k = rw (t (i + 1) k, t i (omega arith)) (unit-falls l i (suc off) (i + 1) (suc off) (omega arith))
 
-  pub table-in-range : InRange table
+  pub table-in-range : PricesFit table
   table-in-range i k = rw (t i k) (unit-first (net l i (suc off)) .inRange)
 
   pub unit-at : (i : ℕ) → i + 1 < length table → unitPrice (net l i off) ≡ getD table (i + 1) 0

@@ -6,12 +6,20 @@ use mathlib.Core.Logic.{_↔_}
 use mathlib.Core.Path.{_≡_}
 use lib.Dec.{ltb}
 use lib.ListN.{length, getD}
+use Rattle.orders.specs.Layout.{stepPlaces}
 use Rattle.orders.specs.Columns.{stepsFrom}
 use Rattle.rules.specs.Orders.{Step, maxPrice}
 use Rattle.rules.specs.Hour.{when, buysAbove, sellsTo, allBuys, allSells}
 use Rattle.rules.specs.Contender.{PricesInRange}
 use Rattle.rules.proofs.PricingLaws.{Clearable, net}
 use Rattle.rules.proofs.TableLaws.{unitPrice}
+
+-- ROOM, for safe arithmetic: the most places of an hour's table, so that each gap is below 2 to the power 32, and the most that its blocks buy.
+abbrev pub mostPlaces : ℕ
+mostPlaces = 8192
+
+abbrev pub mostOff : ℕ
+mostOff = 1000000
 
 -- THE PRICE TABLE
 -- Each place has the unit price of the N before its own: H at its own, and L at that of the place before.
@@ -23,14 +31,17 @@ abbrev pub PriceTable : List ℕ → List ℕ → List ℕ → ℕ → List ℕ 
 PriceTable sides prices quantities off table = (h : ℕ) → UnitPrices (stepsFrom h sides prices quantities) off table
 
 -- THE STEPS IN FALLING PRICE, buys and sells alike. A step's price and quantity are one number, its key: sorting keys sorts steps by price.
+abbrev pub keyUnit : ℕ
+keyUnit = 4294967296
+
 abbrev pub keyOf : ℕ → ℕ → ℕ
-keyOf price quantity = price * 4294967296 + quantity
+keyOf price quantity = price * keyUnit + quantity
 
 abbrev pub keyPrice : ℕ → ℕ
-keyPrice key = key / 4294967296
+keyPrice key = key / keyUnit
 
 abbrev pub keyQuantity : ℕ → ℕ
-keyQuantity key = key % 4294967296
+keyQuantity key = key % keyUnit
 
 -- What a key trades above price p.
 abbrev pub keyAbove : ℕ → ℕ → ℕ
@@ -66,7 +77,7 @@ pub record Reordered (before : List ℕ) (n : ℕ) (after : List ℕ) : Type 0 w
 pub record Keyed (sides prices quantities keys : List ℕ) (sold : ℕ) : Type 0 where
   pub aboveIs : (h p : ℕ) → buysAbove p (stepsFrom h sides prices quantities) + sold
       ≡ aboveIn p keys (length sides) + sellsTo p (stepsFrom h sides prices quantities)
-  pub soldFits : sold ≤ 2048 * 2 ^ 32
+  pub soldFits : sold ≤ stepPlaces * 2 ^ 32
 
 -- The same in falling order.
 pub record KeysOf (sides prices quantities keys : List ℕ) (sold : ℕ) : Type 0 where
@@ -95,8 +106,8 @@ pub record RunFilled (before : List ℕ) (from to price : ℕ) (after : List ℕ
 pub record AllOf (sides prices quantities : List ℕ) (buys sells : ℕ) : Type 0 where
   pub allBought : (h : ℕ) → PricesInRange (stepsFrom h sides prices quantities) → buys ≡ allBuys (stepsFrom h sides prices quantities)
   pub allSold : (h : ℕ) → PricesInRange (stepsFrom h sides prices quantities) → sells ≡ allSells (stepsFrom h sides prices quantities)
-  pub buysFit : buys ≤ 2048 * 2 ^ 32
-  pub sellsFit : sells ≤ 2048 * 2 ^ 32
+  pub buysFit : buys ≤ stepPlaces * 2 ^ 32
+  pub sellsFit : sells ≤ stepPlaces * 2 ^ 32
 
 -- Of the places 0 to most, those from first to last are the ones at which steps that buy and sell so much clear; none where first is above last.
 pub record ClearRange (buys sells off most first last : ℕ) : Type 0 where
@@ -110,8 +121,8 @@ abbrev pub NotRising : List ℕ → Type 0
 NotRising table = (i : ℕ) → i + 1 < length table → getD table (i + 1) 0 ≤ getD table i 0
 
 -- A table of prices, none above the highest.
-abbrev pub InRange : List ℕ → Type 0
-InRange table = (i : ℕ) → i < length table → getD table i 0 ≤ maxPrice
+abbrev pub PricesFit : List ℕ → Type 0
+PricesFit table = (i : ℕ) → i < length table → getD table i 0 ≤ maxPrice
 
 -- From one place to the next, first to last, the gap at a price changes by the price less the unit price.
 abbrev pub Gaps : List ℕ → ℕ → ℕ → ℕ → List ℕ → Type 0
@@ -131,13 +142,13 @@ pub record BestPlace (table : List ℕ) (price first last m : ℕ) : Type 0 wher
   pub above : Above table price first m
   pub turns : m < last → getD table (m + 1) 0 ≤ price
 
--- A table of prices, a price, two places of it, and room for as many gaps, at most 8,192: then each gap is below 2 to the power 32.
+-- A table of prices, a price, two places of it, and room for as many gaps.
 pub record GapsFor (table : List ℕ) (price first last : ℕ) (out : List ℕ) : Type 0 where
   pub ordered : first ≤ last
   pub inside : last < length out
   pub asMany : length table ≡ length out
-  pub few : length out ≤ 8192
-  pub inRange : InRange table
+  pub few : length out ≤ mostPlaces
+  pub inRange : PricesFit table
   pub priceInRange : price ≤ maxPrice
 
 -- Gaps from m, which has 0, upwards; and down from there, the places from m on left as they were.

@@ -8,6 +8,7 @@ mod causes; // the causes 1 to 6, and the first of them that holds
 mod chains; // records that hang together by `next`
 mod ranges; // the ranges of a record's fields
 
+pub use bounds::MAX_PRICE;
 pub use bounds::MOST_BLOCKS;
 pub use bounds::MOST_RECORDS;
 

@@ -7,11 +7,16 @@ use crate::twin::by_value::orders::blocks_of;
 use crate::twin::by_value::orders::steps_of;
 use crate::twin::by_value::records::record_count;
 use crate::twin::by_value::result::Clearing;
+use crate::twin::by_value::result::RECORD_ROW;
+use crate::twin::by_value::result::RECORD_ROWS;
 use crate::twin::by_value::search::find;
 use crate::twin::by_value::search::layout::TABLE;
 use crate::twin::by_value::setup::prepare;
 
 mod publish; // the published set as the result
+
+// The refusal of a result buffer of another size.
+const WRONG_BUFFER: u8 = 7;
 
 // The outcome of an accepted book into a result of the right size.
 fn clear_accepted(book: &[u8], result: &mut [u8])
@@ -21,7 +26,6 @@ fn clear_accepted(book: &[u8], result: &mut [u8])
     let sides = steps.sides;
     let prices = steps.prices;
     let quantities = steps.quantities;
-    let records = steps.records;
     let ends = steps.ends;
     let blocks = blocks_of(book);
     let mut unit_prices = [0; TABLE];
@@ -48,18 +52,7 @@ fn clear_accepted(book: &[u8], result: &mut [u8])
         &ends,
         blocks.count as u32,
     );
-    publish(
-        count,
-        &sides,
-        &prices,
-        &quantities,
-        &records,
-        ends,
-        blocks,
-        best.set,
-        best.day,
-        result,
-    );
+    publish(count, steps, blocks, best.set, best.day, result);
 }
 
 // The auction's outcome for a book, written to the result; or the first refusal whose cause holds, and the result as it was.
@@ -72,11 +65,11 @@ pub fn clear(book: &[u8], result: &mut [u8]) -> Clearing
             steps: _,
             blocks: _,
         } => {
-            if result.len() == 196 + 4 * (record_count(book) as usize) {
+            if result.len() == RECORD_ROWS + RECORD_ROW * (record_count(book) as usize) {
                 clear_accepted(book, result);
                 Clearing::Published
             } else {
-                Clearing::Refused(7)
+                Clearing::Refused(WRONG_BUFFER)
             }
         }
     }

@@ -5,11 +5,22 @@ use crate::twin::by_value::pricing::hour::answer_of;
 use crate::twin::by_value::book::Reading;
 use crate::twin::by_value::book::read;
 use crate::twin::by_value::orders::blocks_of;
+use crate::twin::by_value::orders::layout::BLOCK_PLACES;
 use crate::twin::by_value::orders::steps_of;
+use crate::twin::by_value::records::LAST_HOUR;
 
 pub mod blocks;
 pub mod execution;
 pub mod hour;
+
+// N is held as one number that is never negative: this, plus block sales, less block purchases.
+pub const BIAS: u64 = 2097152;
+
+// The bits of a set, one for each block that a book may have.
+const SET_BITS: u32 = BLOCK_PLACES as u32;
+
+// The refusal of a call whose hour or set is not there.
+const WRONG_CALL: u8 = 8;
 
 // What pricing an hour gives: L, H and the price; that the hour does not clear; or a refusal with its number.
 #[derive(Clone, Copy)]
@@ -22,7 +33,7 @@ pub enum HourAnswer {
 // Whether the set names a block position that is not there: a bit at or past the count.
 fn names_absent(set: u32, count: u32) -> bool
 {
-    if count < 32 {
+    if count < SET_BITS {
         (set >> count) != 0
     } else {
         false
@@ -44,7 +55,7 @@ fn net_in(book: &[u8], set: u32, hour: u32) -> u32
         set,
         hour,
     );
-    (2097152 + trades.sales - trades.buys) as u32
+    (BIAS + trades.sales - trades.buys) as u32
 }
 
 // The answer of an hour of an accepted book, for N.
@@ -73,8 +84,8 @@ pub fn price(book: &[u8], set: u32, hour: u32) -> HourAnswer
     match reading {
         Reading::Refused(number) => HourAnswer::Refused(number),
         Reading::Accepted { steps: _, blocks } => {
-            if (hour < 1) | (24 < hour) | names_absent(set, blocks as u32) {
-                HourAnswer::Refused(8)
+            if (hour < 1) | (LAST_HOUR < hour) | names_absent(set, blocks as u32) {
+                HourAnswer::Refused(WRONG_CALL)
             } else {
                 answer_in(book, hour, net_in(book, set, hour))
             }

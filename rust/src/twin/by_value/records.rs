@@ -8,8 +8,13 @@ mod records; // the fields of the head and of a record
 
 pub use bytes::is_nonzero;
 pub use bytes::u32_at;
-pub use records::BLOCK;
-pub use records::STEP;
+pub use layout::BLOCK_KIND;
+pub use layout::HEAD_REST_OFFSET;
+pub use layout::HEAD_REST_SIZE;
+pub use layout::LAST_HOUR;
+pub use layout::LAST_SIDE;
+pub use layout::RECORD_SIZE;
+pub use layout::STEP_KIND;
 pub use records::block_quantity;
 pub use records::day_hours;
 pub use records::edition_of;

@@ -2,12 +2,22 @@
 // The result of a clearing: the answer, and the result's bytes: 8 bytes welfare, the price and the traded quantity of each hour, the row of each record.
 // Numbers stand high byte first. What a clearing promises of them is in specs/Promise. Assumes nothing.
 
+mod layout; // where a result's bytes have what
 mod numbers; // the numbers of a result read again
 
+use crate::twin::by_value::result::layout::HALF;
+use crate::twin::by_value::result::layout::HOUR_ROW;
+use crate::twin::by_value::result::layout::TRADED;
+use crate::twin::by_value::result::layout::WELFARE_SIZE;
+pub use layout::RECORD_ROW;
+pub use layout::RECORD_ROWS;
 pub use numbers::price_in;
 pub use numbers::row_in;
 pub use numbers::traded_in;
 pub use numbers::welfare_in;
+use crate::twin::by_value::orders::layout::BLOCK_PLACES;
+use crate::twin::by_value::orders::layout::HOURS;
+use crate::twin::by_value::orders::layout::STEP_PLACES;
 
 // What a clearing answers: the outcome is published, or refused with its number.
 #[derive(Clone, Copy)]
@@ -29,26 +39,26 @@ fn put32(result: &mut [u8], at: usize, value: u32)
 fn put64(result: &mut [u8], at: usize, value: u64)
 {
     put32(result, at, (value / 4294967296) as u32);
-    put32(result, at + 4, (value % 4294967296) as u32);
+    put32(result, at + HALF, (value % 4294967296) as u32);
 }
 
 // The rows of the hours: hour h + 1 from byte 8 + 8 * h on.
-fn put_hours(result: &mut [u8], prices: [u32; 24], quantities: [u32; 24])
+fn put_hours(result: &mut [u8], prices: [u32; HOURS], quantities: [u32; HOURS])
 {
     let mut h: usize = 0;
-    while h < 24 {
-        put32(result, 8 + 8 * h, prices[h]);
-        put32(result, 8 + 8 * h + 4, quantities[h]);
+    while h < HOURS {
+        put32(result, WELFARE_SIZE + HOUR_ROW * h, prices[h]);
+        put32(result, WELFARE_SIZE + HOUR_ROW * h + TRADED, quantities[h]);
         h += 1;
     }
 }
 
 // The rows of the records 1 to count - 1: record k from byte 196 + 4 * k on.
-fn put_records(result: &mut [u8], count: usize, rows: &[u32; 2048])
+fn put_records(result: &mut [u8], count: usize, rows: &[u32; STEP_PLACES])
 {
     let mut k: usize = 1;
     while k < count {
-        put32(result, 196 + 4 * k, rows[k]);
+        put32(result, RECORD_ROWS + RECORD_ROW * k, rows[k]);
         k += 1;
     }
 }
@@ -58,9 +68,9 @@ pub fn write_result(
     result: &mut [u8],
     count: usize,
     welfare: u64,
-    prices: [u32; 24],
-    quantities: [u32; 24],
-    rows: &[u32; 2048],
+    prices: [u32; HOURS],
+    quantities: [u32; HOURS],
+    rows: &[u32; STEP_PLACES],
 )
 {
     put64(result, 0, welfare);
@@ -69,14 +79,14 @@ pub fn write_result(
 }
 
 // The rows with each value at its record, from the last to the first, so that a record's first value stays.
-pub fn with_rows(rows: [u32; 2048], records: &[u16], values: &[u32]) -> [u32; 2048]
+pub fn with_rows(rows: [u32; STEP_PLACES], records: &[u16], values: &[u32]) -> [u32; STEP_PLACES]
 {
     let mut filled = rows;
     let mut i = records.len();
     while 0 < i {
         i -= 1;
         let k = records[i] as usize;
-        if k < 2048 {
+        if k < STEP_PLACES {
             filled[k] = values[i];
         }
     }
@@ -84,9 +94,9 @@ pub fn with_rows(rows: [u32; 2048], records: &[u16], values: &[u32]) -> [u32; 20
 }
 
 // The row of each block: its quantity if its bit of the set is 1, else 0.
-pub fn block_values(count: usize, quantities: &[u32], set: u32) -> [u32; 32]
+pub fn block_values(count: usize, quantities: &[u32], set: u32) -> [u32; BLOCK_PLACES]
 {
-    let mut values = [0u32; 32];
+    let mut values = [0u32; BLOCK_PLACES];
     let mut i: usize = 0;
     while i < count {
         if (set >> i) % 2 == 1 {

@@ -1,15 +1,34 @@
 // Written by `twin_source` from crates/search/src/lib.rt.
 // The search over the blocks: each first taken and then left out, by loss at fixed hourly prices. Its tables hold, for each hour (a row of 1,602 places,
 // hour 1 first), the hour's prices and gaps at each place; a place is what the taken blocks sell and the left-out blocks would buy in the hour.
+use crate::twin::by_value::search::layout::AGAINST;
+use crate::twin::by_value::search::layout::AHEAD;
+use crate::twin::by_value::search::layout::BEHIND;
+use crate::twin::by_value::search::layout::BLOCK_ROWS;
+use crate::twin::by_value::search::layout::FIRST;
+use crate::twin::by_value::search::layout::GAIN;
+use crate::twin::by_value::search::layout::HOUR_LIST;
+use crate::twin::by_value::search::layout::HOURS;
+use crate::twin::by_value::search::layout::LAST;
+use crate::twin::by_value::search::layout::LIMIT;
+use crate::twin::by_value::search::layout::ROW;
+use crate::twin::by_value::search::layout::RUNS;
+use crate::twin::by_value::search::layout::TURN;
 use crate::twin::by_value::pricing::execution::traded_at;
 
 pub mod layout;
 
+// The threshold of the first pass: the published set seldom loses as much.
+const FIRST_LIMIT: u64 = 1024;
+
+// The threshold of the last pass, 2 to the power of 39: more than 32 blocks and 24 hours can lose, each of them less than 2 to the power of 32.
+const LAST_LIMIT: u64 = 549755813888;
+
 // The price and the traded quantity of each hour.
 #[derive(Clone, Copy)]
 pub struct Day {
-    pub prices: [u32; 24],
-    pub quantities: [u32; 24],
+    pub prices: [u32; HOURS],
+    pub quantities: [u32; HOURS],
 }
 
 // The least loss so far with its set and day; at first a threshold.
@@ -26,12 +45,12 @@ fn bit(at: u32) -> u32
 }
 
 // The places with a quantity more in each hour of a block.
-pub fn moved(places: [u32; 24], hours: u32, quantity: u32) -> [u32; 24]
+pub fn moved(places: [u32; HOURS], hours: u32, quantity: u32) -> [u32; HOURS]
 {
     let mut r = places;
     let mut h: usize = 0;
     let mut rest = hours;
-    while h < 24 {
+    while h < HOURS {
         r[h] += (rest % 2) * quantity;
         rest = rest / 2;
         h += 1;
@@ -45,7 +64,7 @@ pub fn price_sum(prices: &[u32], hours: u32) -> u32
     let mut sum: u32 = 0;
     let mut h: usize = 0;
     let mut rest = hours;
-    while h < 24 {
+    while h < HOURS {
         sum += (rest % 2) * prices[h];
         rest = rest / 2;
         h += 1;
@@ -60,11 +79,11 @@ struct Gaps {
     sum: u64,
 }
 
-fn gaps_at(gap: &[u32], first: &[u32], last: &[u32], places: [u32; 24]) -> Gaps
+fn gaps_at(gap: &[u32], first: &[u32], last: &[u32], places: [u32; HOURS]) -> Gaps
 {
     let mut sum: u64 = 0;
     let mut h: usize = 0;
-    while h < 24 {
+    while h < HOURS {
         let place = places[h];
         if (place < first[h]) | (last[h] < place) {
             return Gaps {
@@ -72,7 +91,7 @@ fn gaps_at(gap: &[u32], first: &[u32], last: &[u32], places: [u32; 24]) -> Gaps
                 sum: 0,
             };
         }
-        let cell = gap[h * 1602 + (place as usize)];
+        let cell = gap[h * ROW + (place as usize)];
         sum += cell as u64;
         h += 1;
     }
@@ -83,12 +102,12 @@ fn gaps_at(gap: &[u32], first: &[u32], last: &[u32], places: [u32; 24]) -> Gaps
 }
 
 // The price of each hour at its place.
-pub fn prices_at(unit_prices: &[u32], places: [u32; 24]) -> [u32; 24]
+pub fn prices_at(unit_prices: &[u32], places: [u32; HOURS]) -> [u32; HOURS]
 {
-    let mut prices = [0; 24];
+    let mut prices = [0; HOURS];
     let mut h: usize = 0;
-    while h < 24 {
-        let at = h * 1602 + (places[h] as usize);
+    while h < HOURS {
+        let at = h * ROW + (places[h] as usize);
         prices[h] = (unit_prices[at] + unit_prices[at + 1]) / 2;
         h += 1;
     }
@@ -114,7 +133,7 @@ fn keeps_limits(blocks: &[u32], count: usize, set: u32, high: &[u32], low: &[u32
         i -= 1;
         let chosen = (set >> (i as u32)) % 2;
         if chosen == 1 {
-            if !keeps_limit(blocks[i], blocks[32 + i], blocks[96 + i], high, low) {
+            if !keeps_limit(blocks[i], blocks[RUNS + i], blocks[LIMIT + i], high, low) {
                 return false;
             }
         }
@@ -127,7 +146,7 @@ fn keeps_limits(blocks: &[u32], count: usize, set: u32, high: &[u32], low: &[u32
 pub struct Node {
     pub set: u32,
     pub loss: u64,
-    pub places: [u32; 24],
+    pub places: [u32; HOURS],
 }
 
 // 1 where the test passes, else 0.
@@ -137,13 +156,13 @@ fn number_of(test: bool) -> u32
 }
 
 // The places with what block i trades in each hour more, where the test passes.
-fn moved_where(test: bool, places: [u32; 24], blocks: &[u32], i: usize) -> [u32; 24]
+fn moved_where(test: bool, places: [u32; HOURS], blocks: &[u32], i: usize) -> [u32; HOURS]
 {
     let times = number_of(test);
-    let row = 256 + 24 * i;
+    let row = BLOCK_ROWS + HOURS * i;
     let mut r = places;
     let mut h: usize = 0;
-    while h < 24 {
+    while h < HOURS {
         r[h] += times * blocks[row + h];
         h += 1;
     }
@@ -153,15 +172,15 @@ fn moved_where(test: bool, places: [u32; 24], blocks: &[u32], i: usize) -> [u32;
 // What blocks sell and buy in each hour.
 #[derive(Clone, Copy)]
 pub struct Trades {
-    pub sales: [u32; 24],
-    pub buys: [u32; 24],
+    pub sales: [u32; HOURS],
+    pub buys: [u32; HOURS],
 }
 
 // What the first count blocks that the set holds sell and buy.
 fn set_trades(blocks: &[u32], count: usize, set: u32) -> Trades
 {
-    let mut sales = [0; 24];
-    let mut buys = [0; 24];
+    let mut sales = [0; HOURS];
+    let mut buys = [0; HOURS];
     let mut i = count;
     while 0 < i {
         i -= 1;
@@ -197,20 +216,20 @@ fn hour_traded(
 }
 
 // What is traded in each hour at its price.
-fn traded_in(
+fn hours_traded(
     sides: &[u8],
     prices: &[u32],
     quantities: &[u32],
     ends: &[u16],
     trades: Trades,
-    middles: [u32; 24],
-) -> [u32; 24]
+    middles: [u32; HOURS],
+) -> [u32; HOURS]
 {
     let sales = trades.sales;
     let buys = trades.buys;
-    let mut traded = [0; 24];
+    let mut traded = [0; HOURS];
     let mut h: usize = 0;
-    while h < 24 {
+    while h < HOURS {
         traded[h] = hour_traded(
             sides,
             prices,
@@ -242,7 +261,7 @@ fn decide(
 ) -> Best
 {
     let places = node.places;
-    let gaps = gaps_at(gap, &hours[0..24], &hours[24..48], places);
+    let gaps = gaps_at(gap, &hours[FIRST..LAST], &hours[LAST..TURN], places);
     if !gaps.clears {
         return best;
     }
@@ -255,7 +274,7 @@ fn decide(
         return best;
     }
     let trades = set_trades(blocks, count as usize, node.set);
-    let traded = traded_in(sides, prices, quantities, ends, trades, middles);
+    let traded = hours_traded(sides, prices, quantities, ends, trades, middles);
     let day = Day {
         prices: middles,
         quantities: traded,
@@ -275,7 +294,7 @@ fn take(blocks: &[u32], at: u32, node: Node) -> Node
     let moved = moved_where(blocks[i] != 0, places, blocks, i);
     Node {
         set: node.set + bit(at),
-        loss: node.loss + (blocks[128 + i] as u64),
+        loss: node.loss + (blocks[AGAINST + i] as u64),
         places: moved,
     }
 }
@@ -288,7 +307,7 @@ fn leave(blocks: &[u32], at: u32, node: Node) -> Node
     let moved = moved_where(blocks[i] == 0, places, blocks, i);
     Node {
         set: node.set,
-        loss: node.loss + (blocks[160 + i] as u64),
+        loss: node.loss + (blocks[GAIN + i] as u64),
         places: moved,
     }
 }
@@ -317,7 +336,7 @@ fn is_ruled_out(blocks: &[u32], i: usize, was: bool, high: &[u32], low: &[u32]) 
     if was {
         return true;
     }
-    !keeps_limit(blocks[i], blocks[32 + i], blocks[96 + i], high, low)
+    !keeps_limit(blocks[i], blocks[RUNS + i], blocks[LIMIT + i], high, low)
 }
 
 // The undecided blocks that are out, from the last one on to the one at number at, whose bit is the lowest.
@@ -343,8 +362,8 @@ pub struct Moves {
 fn moves_of(blocks: &[u32], i: usize, out: bool, loss: u64, limit: u64) -> Moves
 {
     let buys = blocks[i] == 0;
-    let left_out = out | (limit <= loss + (blocks[128 + i] as u64));
-    let taken = limit <= loss + (blocks[160 + i] as u64);
+    let left_out = out | (limit <= loss + (blocks[AGAINST + i] as u64));
+    let taken = limit <= loss + (blocks[GAIN + i] as u64);
     Moves {
         must: (left_out & buys) | (taken & !buys),
         may: !left_out & !taken,
@@ -354,20 +373,26 @@ fn moves_of(blocks: &[u32], i: usize, out: bool, loss: u64, limit: u64) -> Moves
 // The least place of each hour, and what its undecided blocks are free to add.
 #[derive(Clone, Copy)]
 pub struct Rest {
-    pub least: [u32; 24],
-    pub free: [u32; 24],
+    pub least: [u32; HOURS],
+    pub free: [u32; HOURS],
 }
 
 // The least places and what is free with block i more, where it must move them on, or may.
-fn with_block(least: [u32; 24], free: [u32; 24], moves: Moves, blocks: &[u32], i: usize) -> Rest
+fn with_moves(
+    least: [u32; HOURS],
+    free: [u32; HOURS],
+    moves: Moves,
+    blocks: &[u32],
+    i: usize,
+) -> Rest
 {
     let must = number_of(moves.must);
     let may = number_of(moves.may);
-    let row = 256 + 24 * i;
+    let row = BLOCK_ROWS + HOURS * i;
     let mut more = least;
     let mut freer = free;
     let mut h: usize = 0;
-    while h < 24 {
+    while h < HOURS {
         let traded = blocks[row + h];
         more[h] += must * traded;
         freer[h] += may * traded;
@@ -387,16 +412,16 @@ fn rest_of(
     out: u32,
     loss: u64,
     limit: u64,
-    places: [u32; 24],
+    places: [u32; HOURS],
 ) -> Rest
 {
     let mut least = places;
-    let mut free = [0; 24];
+    let mut free = [0; HOURS];
     let mut i = count;
     while at < i {
         i -= 1;
         let moves = moves_of(blocks, i, is_out(out, i - at), loss, limit);
-        let more = with_block(least, free, moves, blocks, i);
+        let more = with_moves(least, free, moves, blocks, i);
         least = more.least;
         free = more.free;
     }
@@ -407,17 +432,17 @@ fn rest_of(
 #[derive(Clone, Copy)]
 pub struct Reach {
     pub balances: bool,
-    pub from: [u32; 24],
-    pub to: [u32; 24],
+    pub from: [u32; HOURS],
+    pub to: [u32; HOURS],
 }
 
-fn reach_of(first: &[u32], last: &[u32], least: [u32; 24], free: [u32; 24]) -> Reach
+fn reach_of(first: &[u32], last: &[u32], least: [u32; HOURS], free: [u32; HOURS]) -> Reach
 {
     let mut balances = true;
-    let mut from = [0; 24];
-    let mut to = [0; 24];
+    let mut from = [0; HOURS];
+    let mut to = [0; HOURS];
     let mut h: usize = 0;
-    while h < 24 {
+    while h < HOURS {
         let lowest = larger(least[h], first[h]);
         let highest = smaller(least[h] + free[h], last[h]);
         from[h] = lowest;
@@ -428,32 +453,32 @@ fn reach_of(first: &[u32], last: &[u32], least: [u32; 24], free: [u32; 24]) -> R
     Reach { balances, from, to }
 }
 
-// What the node reaches with its undecided blocks, from number at on.
+// What a branch at these places reaches with its undecided blocks, from number at on.
 fn reach_at(
     hours: &[u32],
     blocks: &[u32],
     count: usize,
     at: usize,
     out: u32,
-    node: Node,
+    loss: u64,
     limit: u64,
+    places: [u32; HOURS],
 ) -> Reach
 {
-    let places = node.places;
-    let rest = rest_of(blocks, count, at, out, node.loss, limit, places);
+    let rest = rest_of(blocks, count, at, out, loss, limit, places);
     let least = rest.least;
     let free = rest.free;
-    reach_of(&hours[0..24], &hours[24..48], least, free)
+    reach_of(&hours[FIRST..LAST], &hours[LAST..TURN], least, free)
 }
 
 // The sum of the hours' least gaps over the places from `from` to `to`.
-fn least_gaps(gap: &[u32], turn: &[u32], from: [u32; 24], to: [u32; 24]) -> u64
+fn least_gaps(gap: &[u32], turn: &[u32], from: [u32; HOURS], to: [u32; HOURS]) -> u64
 {
     let mut sum: u64 = 0;
     let mut h: usize = 0;
-    while h < 24 {
+    while h < HOURS {
         let place = smaller(larger(turn[h], from[h]), to[h]);
-        sum += gap[h * 1602 + (place as usize)] as u64;
+        sum += gap[h * ROW + (place as usize)] as u64;
         h += 1;
     }
     sum
@@ -468,9 +493,9 @@ fn is_forced(blocks: &[u32], at: usize, set: u32, loss: u64, limit: u64) -> bool
     let i = at - 1;
     let taken = (set >> (i as u32)) % 2 == 1;
     let other = if taken {
-        blocks[160 + i]
+        blocks[GAIN + i]
     } else {
-        blocks[128 + i]
+        blocks[AGAINST + i]
     };
     limit <= loss + (other as u64)
 }
@@ -511,13 +536,23 @@ fn judge(
             out: out,
         };
     }
-    let reach = reach_at(hours, blocks, count as usize, at, out, node, limit);
+    let places = node.places;
+    let reach = reach_at(
+        hours,
+        blocks,
+        count as usize,
+        at,
+        out,
+        node.loss,
+        limit,
+        places,
+    );
     if !reach.balances {
         return drop;
     }
     let from = reach.from;
     let to = reach.to;
-    if limit <= node.loss + least_gaps(gap, &hours[48..72], from, to) {
+    if limit <= node.loss + least_gaps(gap, &hours[TURN..HOUR_LIST], from, to) {
         return drop;
     }
     let high = prices_at(unit_prices, from);
@@ -534,7 +569,7 @@ fn judge(
 // Whether a twin that is taken before block i is left out.
 fn is_barred(blocks: &[u32], i: usize, set: u32) -> bool
 {
-    let ahead = blocks[192 + i];
+    let ahead = blocks[AHEAD + i];
     if ahead == 0 {
         return false;
     }
@@ -544,7 +579,7 @@ fn is_barred(blocks: &[u32], i: usize, set: u32) -> bool
 // Whether a twin that is taken after block i is taken.
 fn is_due(blocks: &[u32], i: usize, set: u32) -> bool
 {
-    let behind = blocks[224 + i];
+    let behind = blocks[BEHIND + i];
     if behind == 0 {
         return false;
     }
@@ -672,16 +707,16 @@ pub fn find(
 ) -> Best
 {
     let day = Day {
-        prices: [0; 24],
-        quantities: [0; 24],
+        prices: [0; HOURS],
+        quantities: [0; HOURS],
     };
     let root = Node {
         set: 0,
         loss: 0,
-        places: [0; 24],
+        places: [0; HOURS],
     };
-    let mut limit: u64 = 1024;
-    while limit < 549755813888 {
+    let mut limit = FIRST_LIMIT;
+    while limit < LAST_LIMIT {
         let start = Best {
             limit: limit,
             set: 0,

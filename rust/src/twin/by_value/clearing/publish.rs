@@ -2,6 +2,10 @@
 // The publication: what the steps of each hour get at its price, the welfare, and with them and the day the result's
 // bytes. Assumes nothing.
 use crate::twin::by_value::orders::Blocks;
+use crate::twin::by_value::orders::Steps;
+use crate::twin::by_value::orders::layout::HOURS;
+use crate::twin::by_value::orders::layout::STEP_PLACES;
+use crate::twin::by_value::pricing::BIAS;
 use crate::twin::by_value::pricing::blocks::trades_of;
 use crate::twin::by_value::pricing::execution::amounts_at;
 use crate::twin::by_value::pricing::execution::share_out;
@@ -55,7 +59,7 @@ fn fill_hour(
     out: &mut [u32],
 ) -> Sums
 {
-    let net = (2097152 + sales - buys) as u32;
+    let net = (BIAS + sales - buys) as u32;
     let amounts = amounts_at(sides, prices, quantities, net, price);
     share_out(sides, prices, quantities, price, amounts, out);
     sums_of(sides, prices, out)
@@ -112,29 +116,30 @@ fn blocks_worth(sides: &[u8], hours: &[u32], prices: &[u32], quantities: &[u32],
 
 // What the steps of each hour get, hour after hour, into values, and the value and the cost of all of it.
 fn fill_hours(
-    sides: &[u8],
-    prices: &[u32],
-    quantities: &[u32],
-    ends: [u16; 25],
+    steps: Steps,
     bsides: &[u8],
     bhours: &[u32],
     bquantities: &[u32],
     set: u32,
-    middles: [u32; 24],
+    middles: [u32; HOURS],
     values: &mut [u32],
 ) -> Sums
 {
+    let sides = steps.sides;
+    let prices = steps.prices;
+    let quantities = steps.quantities;
+    let ends = steps.ends;
     let mut value: u64 = 0;
     let mut cost: u64 = 0;
     let mut h: usize = 0;
-    while h < 24 {
+    while h < HOURS {
         let from = ends[h] as usize;
         let to = ends[h + 1] as usize;
         let trades = trades_of(bsides, bhours, bquantities, set, (h + 1) as u32);
         let sums = put_hour(
-            sides,
-            prices,
-            quantities,
+            &sides,
+            &prices,
+            &quantities,
             from,
             to,
             trades.sales,
@@ -162,22 +167,18 @@ fn rows_of(
     brecords: &[u16],
     bquantities: &[u32],
     set: u32,
-) -> [u32; 2048]
+) -> [u32; STEP_PLACES]
 {
     let m = brecords.len();
     let bvalues = block_values(m, bquantities, set);
-    let rows = with_rows([0; 2048], brecords, &bvalues[..m]);
+    let rows = with_rows([0; STEP_PLACES], brecords, &bvalues[..m]);
     with_rows(rows, records, values)
 }
 
-// The result out of the columns, the set and its day.
+// The result out of the steps, the blocks' columns, the set and its day.
 fn publish_columns(
     count: usize,
-    sides: &[u8],
-    prices: &[u32],
-    quantities: &[u32],
-    records: &[u16],
-    ends: [u16; 25],
+    steps: Steps,
     brecords: &[u16],
     bsides: &[u8],
     bhours: &[u32],
@@ -188,15 +189,14 @@ fn publish_columns(
     result: &mut [u8],
 )
 {
-    let n = ends[24] as usize;
+    let records = steps.records;
+    let ends = steps.ends;
+    let n = ends[HOURS] as usize;
     let middles = day.prices;
     let traded = day.quantities;
-    let mut values = [0; 2048];
-    let steps = fill_hours(
-        sides,
-        prices,
-        quantities,
-        ends,
+    let mut values = [0; STEP_PLACES];
+    let sums = fill_hours(
+        steps,
         bsides,
         bhours,
         bquantities,
@@ -205,24 +205,13 @@ fn publish_columns(
         &mut values,
     );
     let worth = blocks_worth(bsides, bhours, bprices, bquantities, set);
-    let welfare = less(steps.value + worth.value, steps.cost + worth.cost);
+    let welfare = less(sums.value + worth.value, sums.cost + worth.cost);
     let rows = rows_of(&records[..n], &values[..n], brecords, bquantities, set);
     write_result(result, count, welfare, middles, traded, &rows);
 }
 
-// The result of a book of so many records: its steps' columns, its blocks, the published set and its day.
-pub fn publish(
-    count: usize,
-    sides: &[u8],
-    prices: &[u32],
-    quantities: &[u32],
-    records: &[u16],
-    ends: [u16; 25],
-    blocks: Blocks,
-    set: u32,
-    day: Day,
-    result: &mut [u8],
-)
+// The result of a book of so many records: its steps, its blocks, the published set and its day.
+pub fn publish(count: usize, steps: Steps, blocks: Blocks, set: u32, day: Day, result: &mut [u8])
 {
     let m = blocks.count;
     let brecords = blocks.records;
@@ -232,11 +221,7 @@ pub fn publish(
     let bquantities = blocks.quantities;
     publish_columns(
         count,
-        sides,
-        prices,
-        quantities,
-        records,
-        ends,
+        steps,
         &brecords[..m],
         &bsides[..m],
         &bhours[..m],

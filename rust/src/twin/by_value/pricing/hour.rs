@@ -1,6 +1,8 @@
 // Written by `twin_source` from crates/pricing/src/hour.rt.
 // The price of an hour from its columns and N: the totals of its steps at a price, and the two ends of the clearing prices by bisection.
+use crate::twin::by_value::pricing::BIAS;
 use crate::twin::by_value::pricing::HourAnswer;
+use crate::twin::by_value::book::MAX_PRICE;
 
 // What steps buy strictly above one price, and sell at or below another, or the same.
 #[derive(Clone, Copy)]
@@ -62,11 +64,11 @@ pub fn totals_at(sides: &[u8], prices: &[u32], quantities: &[u32], price: u32) -
 pub fn least_covered(sides: &[u8], prices: &[u32], quantities: &[u32], net: u32, margin: u32) -> u32
 {
     let mut low: u32 = 1;
-    let mut high: u32 = 300000;
+    let mut high: u32 = MAX_PRICE;
     while low < high {
         let middle = (low + high) / 2;
         let totals = totals_at(sides, prices, quantities, middle);
-        if totals.above + 2097152 + (margin as u64) <= totals.upto + (net as u64) {
+        if totals.above + BIAS + (margin as u64) <= totals.upto + (net as u64) {
             high = middle;
         } else {
             low = middle + 1;
@@ -79,11 +81,11 @@ pub fn least_covered(sides: &[u8], prices: &[u32], quantities: &[u32], net: u32,
 pub fn answer_of(sides: &[u8], prices: &[u32], quantities: &[u32], net: u32) -> HourAnswer
 {
     let lowest = totals_at(sides, prices, quantities, 0);
-    let highest = totals_at(sides, prices, quantities, 300000);
-    if lowest.above + 2097152 < (net as u64) {
+    let highest = totals_at(sides, prices, quantities, MAX_PRICE);
+    if lowest.above + BIAS < (net as u64) {
         return HourAnswer::NotClearing;
     }
-    if highest.upto + (net as u64) < 2097152 {
+    if highest.upto + (net as u64) < BIAS {
         return HourAnswer::NotClearing;
     }
     let low = least_covered(sides, prices, quantities, net, 0);

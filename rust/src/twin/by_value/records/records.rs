@@ -109,12 +109,6 @@ pub fn step_at(book: &[u8], k: u16) -> Step
 // The quantity of record k read as a block, whatever its kind.
 pub fn block_quantity(book: &[u8], k: u16) -> u16
 {
-    u16_at(book, 16 * (k as u32) + 14)
-}
-
-// Record k read as a block, whatever its kind. `record_at` is its only caller: with a second one it stays a call, and each reading of a record is slower.
-fn block_at(book: &[u8], k: u16) -> Block
-{
     u16_at(book, RECORD_SIZE * (k as u32) + BLOCK_QUANTITY_OFFSET)
 }
 
@@ -126,8 +120,8 @@ fn block_at(book: &[u8], k: u16) -> Block
         side: side_of(side_byte(book, k)),
         number: number_of(book, k),
         portfolio: portfolio_of(book, k),
-        hours: u24_at(book, at + 8),
-        price: u24_at(book, at + 11),
+        hours: u24_at(book, at + BLOCK_HOURS_OFFSET),
+        price: u24_at(book, at + BLOCK_PRICE_OFFSET),
         quantity: block_quantity(book, k),
     }
 }
