@@ -59,7 +59,7 @@ fn has_crowded_portfolio(book: &[u8]) -> bool
 }
 
 // One cause more: the number that those before it gave, else, where it holds, its own.
-fn found_in(before: u8, holds: bool, number: u8) -> u8
+fn next_found(before: u8, holds: bool, number: u8) -> u8
 {
     if before != 0 {
         return before;
@@ -70,11 +70,11 @@ fn found_in(before: u8, holds: bool, number: u8) -> u8
 // The number of the first cause that holds, where 1 does not; 0 where none does. What the walks along the chains found is handed in.
 pub fn refusal_of(book: &[u8], steps: Surveyed, blocks: Surveyed) -> u8
 {
-    let head = found_in(0, has_wrong_head(book), 2);
-    let broken = found_in(head, steps.broken | blocks.broken, 3);
-    let outside = found_in(broken, steps.outside | blocks.outside, 4);
+    let head = next_found(0, has_wrong_head(book), 2);
+    let broken = next_found(head, steps.broken | blocks.broken, 3);
+    let outside = next_found(broken, steps.outside | blocks.outside, 4);
     let short = are_short(steps.length, blocks.length, record_count(book));
-    let stray = found_in(outside, short, 5);
+    let stray = next_found(outside, short, 5);
     let many = (MOST_BLOCKS < blocks.length) | has_crowded_portfolio(book);
-    found_in(stray, many, 6)
+    next_found(stray, many, 6)
 }
