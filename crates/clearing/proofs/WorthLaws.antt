@@ -17,7 +17,7 @@ use Rattle.rules.specs.Day as day
 use Rattle.orders.specs.Columns.{sideFor, blockOf, blocksFrom}
 use Rattle.orders.proofs.BridgeLaws.{hour-count}
 use Rattle.pricing.specs.Curves.{tradersFrom}
-use Rattle.search.specs.Search.{Small}
+use Rattle.places.specs.Hours.{Small}
 use Rattle.clearing.specs.Publish.{WorthOf, TradersSized, salesAt, buysAt}
 use Rattle.clearing.proofs.SumLaws.{product-le}
 

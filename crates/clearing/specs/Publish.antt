@@ -19,7 +19,8 @@ use Rattle.orders.specs.Bridge.{dayFrom}
 use Rattle.orders.specs.Columns.{StepColumns, BlockColumns, stepsFrom, blocksFrom}
 use Rattle.orders.specs.declared.Blocks.{Blocks}
 use Rattle.pricing.specs.Curves.{tradersFrom}
-use Rattle.search.specs.Search.{Small, FirstSmall, StepsSized}
+use Rattle.places.specs.Hours.{Small, FirstSmall}
+use Rattle.places.specs.Steps.{StepsSized}
 use Rattle.search.specs.Meaning.{DayOf}
 use Rattle.result.specs.Result.{beside, resultBytes}
 use Rattle.search.specs.declared.Day as code-day

@@ -6,7 +6,7 @@ use lib.ListN.{length, getD}
 use Rattle.rules.specs.Outcome.{outcome}
 use Rattle.orders.specs.Bridge.{dayFrom}
 use Rattle.orders.proofs.HourLaws.{ends-fit}
-use Rattle.search.specs.Search.{StepsSized}
+use Rattle.places.specs.Steps.{StepsSized}
 use Rattle.search.specs.Meaning.{DayOf}
 use Rattle.setup.proofs.SetupLaws.{steps-held, blocks-held}
 use Rattle.clearing.proofs.PublishLaws.{columns-steps}
