@@ -11,8 +11,8 @@ use Rattle.rules.specs.Orders.{Step}
 use Rattle.rules.specs.Day.{sumTo}
 use Rattle.rules.proofs.DualityLaws.{value, cost}
 use Rattle.pricing.specs.Curves.{TradesOf}
-use Rattle.search.specs.Search.{stepsAt}
-use Rattle.search.proofs.StepLaws.{mid-slice, steps-next}
+use Rattle.places.specs.Steps.{stepsAt}
+use Rattle.places.proofs.StepLaws.{mid-slice, steps-next}
 use Rattle.clearing.specs.Publish.{HourDone, HourPut, TradersSized, HoursDone, salesAt, buysAt, inTurn, getsAt}
 use Rattle.clearing.proofs.WorthLaws.{trades-fit}
 

@@ -26,15 +26,16 @@ use Rattle.orders.proofs.FrontLaws.{step-records-front, block-records-front, bl
 use Rattle.orders.proofs.HourLaws.{hour-from-columns}
 use Rattle.orders.proofs.PlaceLaws.{block-place}
 use Rattle.orders.proofs.BridgeLaws.{blocks-from-columns, block-count, day-blocks, prices-in-range, hours-in-range}
-use Rattle.search.specs.Search.{FirstSmall, ofHour, stepsAt}
+use Rattle.places.specs.Hours.{FirstSmall, ofHour}
+use Rattle.places.specs.Steps.{stepsAt}
 use Rattle.search.specs.Meaning.{DayOf, StepsAre}
 use Rattle.search.specs.declared.Day as code-day
 use Rattle.result.specs.Rows.{rowAt}
 use Rattle.result.specs.Result.{bytesOf, hourRows, recordRows, beside, blockRows, rowOf, resultBytes}
 use Rattle.clearing.specs.Publish.{TradersSized, HoursDone, WorthOf, RowsOf, salesAt, buysAt, inTurn, getsAt}
 use Rattle.result.proofs.RowLaws.{records-same}
-use Rattle.search.proofs.StepLaws.{small-take}
-use Rattle.search.proofs.BranchLaws.{sumTo-in, daySum-plain}
+use Rattle.places.proofs.StepLaws.{small-take}
+use Rattle.search.proofs.CountsOnce.{sumTo-in, daySum-plain}
 use Rattle.result.proofs.RowsLaws.{
   hourAfterHour,
   publishedBlocks,

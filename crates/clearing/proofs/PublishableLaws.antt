@@ -19,10 +19,11 @@ use Rattle.orders.proofs.BridgeLaws.{prices-in-range, hours-in-range}
 use Rattle.orders.proofs.HourLaws.{ends-start, ends-rise, ends-fit}
 use Rattle.orders.proofs.PlaceLaws.{step-place, block-place}
 use Rattle.search.specs.Meaning.{DayOf}
-use Rattle.search.specs.Search.{StepsSized}
+use Rattle.places.specs.Steps.{StepsSized}
 use Rattle.clearing.specs.Publish.{BlocksOf, Publishable}
 use Rattle.search.specs.declared.Day as code-day
-use Rattle.search.proofs.TradedLaws.{counts, price-positive}
+use Rattle.search.proofs.CountsOnce.{counts}
+use Rattle.search.proofs.TradedLaws.{price-positive}
 use Rattle.result.proofs.RowsLaws.{publishedBlocks}
 
 module _ (b : List ℕ) (a : Accepted b) where

@@ -17,7 +17,7 @@ use Rattle.rules.proofs.ExecutionLaws.{execution-within, execution-net}
 use Rattle.orders.specs.Columns.{sideFor, stepsFrom}
 use Rattle.pricing.specs.Curves.{hourWith, Columns, ExecutedOf}
 use Rattle.pricing.proofs.TotalsLaws.{side-sell, restOf, rest-more, rest-end}
-use Rattle.search.specs.Search.{Small}
+use Rattle.places.specs.Hours.{Small}
 use Rattle.clearing.specs.Publish.{SumsOf, HourDone}
 
 -- ONE STEP, by its side

@@ -1,6 +1,6 @@
 -- THE PUBLICATION out of columns: what the steps of each hour get, hour after hour, and what it is worth; the result's bytes from them and from the day.
 -- These are the contracts of the functions of src/publish.rt; the promise of the clearing itself is in Promise. Definitions only. Assumes nothing.
-use Prim.Native.Nat.{ℕ, zero, suc, _+_, _*_, _/_, _%_, _^_, _≤_, _<_}
+use Prim.Native.Nat.{ℕ, zero, suc, _*_, _/_, _%_, _^_, _≤_, _<_}
 use mathlib.Core.Bool.{cond}
 use mathlib.Core.List.{List, [], _++_}
 use mathlib.Core.Path.{_≡_}
@@ -22,8 +22,9 @@ use Rattle.orders.specs.Layout.{stepPlaces, blockPlaces}
 use Rattle.orders.specs.declared.Steps.{Steps}
 use Rattle.orders.specs.declared.Blocks.{Blocks}
 use Rattle.pricing.specs.Curves.{tradersFrom}
-use Rattle.search.specs.Layout.{mostQuantity}
-use Rattle.search.specs.Search.{Small, FirstSmall, StepsSized}
+use Rattle.places.specs.Layout.{mostQuantity}
+use Rattle.places.specs.Hours.{Small, FirstSmall}
+use Rattle.places.specs.Steps.{StepsSized}
 use Rattle.search.specs.Meaning.{DayOf}
 use Rattle.result.specs.Layout.{resultSize}
 use Rattle.result.specs.Result.{beside, resultBytes}

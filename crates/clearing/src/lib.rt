@@ -12,12 +12,12 @@ use book::Reading;
 use book::read;
 use orders::blocks_of;
 use orders::steps_of;
+use places::layout::TABLE;
 use records::record_count;
 use result::Clearing;
 use result::RECORD_ROW;
 use result::RECORD_ROWS;
 use search::find;
-use search::layout::TABLE;
 use setup::prepare;
 
 mod publish; // the published set as the result

@@ -12,8 +12,8 @@ use Rattle.records.specs.Records.{holdsHour, hoursSet}
 use Rattle.rules.specs.Orders.{Side, buy, sell, maxPrice}
 use Rattle.rules.specs.Hour.{bySide, when}
 use Rattle.rules.proofs.CurveLaws.{when-le}
-use Rattle.search.specs.Layout.{mostQuantity, mostLimit, dayHours}
-use Rattle.search.specs.Search.{Small}
+use Rattle.places.specs.Layout.{mostQuantity, mostLimit, dayHours}
+use Rattle.places.specs.Hours.{Small}
 
 -- a number for each side stays below what both do
 pub side-le : (side : Side) (a b m : ℕ) → a ≤ m → b ≤ m → bySide side a b ≤ m

@@ -4,21 +4,20 @@ ghost use Prim.Native.Nat.{ℕ, _≤_};
 ghost use mathlib.Core.Path.{_≡_};
 ghost use lib.ListN.{length};
 ghost use Rattle.rules.specs.Orders.{maxPrice};
-ghost use Rattle.search.specs.Layout.{mostBlocks, mostQuantity, mostLimit, lastPlace, tableSize};
-ghost use Rattle.search.specs.Search.{Small, FirstSmall};
+ghost use Rattle.places.specs.Layout.{mostBlocks, mostQuantity, mostLimit, lastPlace, tableSize};
+ghost use Rattle.places.specs.Hours.{Small, FirstSmall};
 use crate::losses::empty_loss;
 use crate::moves::MOVES;
 use crate::moves::ROUND;
 use crate::moves::Trail;
 use crate::moves::moved_on;
+use places::cells::prices_at;
+use places::layout::HOURS;
+use places::layout::MOST_BLOCKS;
 use records::hour_count;
-use search::layout::HOURS;
-use search::layout::MOST_BLOCKS;
-use search::prices_at;
 
 pub mod losses; // what the empty set loses at given prices
 pub mod moves; // prices on their way
-pub mod numbers; // numbers by a test or a side
 
 // What each block asks for over its hours: its price times their number.
 fn limits_of(

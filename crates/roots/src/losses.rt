@@ -3,14 +3,14 @@ ghost use Prim.Native.Nat.{ℕ, _+_, _-_, _*_, _≤_};
 ghost use mathlib.Core.Path.{_≡_};
 ghost use lib.ListN.{length, getD};
 ghost use Rattle.rules.specs.Orders.{maxPrice};
-ghost use Rattle.search.specs.Layout.{dayHours, mostBlocks, mostQuantity, mostLimit, lastPlace, rowSize, tableSize};
-ghost use Rattle.search.specs.Search.{Small, FirstSmall};
-use crate::numbers::by_side;
-use crate::numbers::less;
-use search::layout::HOURS;
-use search::layout::MOST_BLOCKS;
-use search::layout::ROW;
-use search::price_sum;
+ghost use Rattle.places.specs.Layout.{dayHours, mostBlocks, mostQuantity, mostLimit, lastPlace, rowSize, tableSize};
+ghost use Rattle.places.specs.Hours.{Small, FirstSmall};
+use places::layout::HOURS;
+use places::layout::MOST_BLOCKS;
+use places::layout::ROW;
+use places::limits::price_sum;
+use places::numbers::by_side;
+use places::numbers::less;
 
 // What an hour at the place from loses at a price below its own: how far the prices of the places above stand over it.
 fn gap_up(unit_prices: &[u32], row: usize, from: usize, price: u32) -> u64

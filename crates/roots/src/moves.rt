@@ -3,15 +3,15 @@ ghost use Prim.Native.Nat.{ℕ, _+_, _*_, _≤_, _<_};
 ghost use mathlib.Core.Path.{_≡_};
 ghost use lib.ListN.{length, getD};
 ghost use Rattle.rules.specs.Orders.{maxPrice};
-ghost use Rattle.search.specs.Layout.{mostBlocks, mostQuantity, lastPlace, tableSize};
-ghost use Rattle.search.specs.Search.{Small, FirstSmall};
+ghost use Rattle.places.specs.Layout.{mostBlocks, mostQuantity, lastPlace, tableSize};
+ghost use Rattle.places.specs.Hours.{Small, FirstSmall};
 ghost use Rattle.roots.specs.Roots.{allMoves, roundMoves};
-use crate::numbers::choose;
-use search::layout::HOURS;
-use search::layout::MOST_BLOCKS;
-use search::moved;
-use search::price_sum;
-use search::prices_at;
+use places::added::moved;
+use places::cells::prices_at;
+use places::layout::HOURS;
+use places::layout::MOST_BLOCKS;
+use places::limits::price_sum;
+use places::numbers::choose;
 
 // The moves of a round, after which the prices are tried.
 pub const ROUND: u32 = 7;

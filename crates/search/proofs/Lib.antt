@@ -1,8 +1,8 @@
--- Laws of the search: columns of 24 hours, a decided set at its tables and what it trades, branches, what they can reach, a pass over all blocks.
-pub mod HourColumnLaws
-pub mod LeafLaws
-pub mod StepLaws
+-- Laws of the search: hours that count once, decisions made for certain, a decided set and what it trades, branches, why one is dropped, a pass over all blocks.
+pub mod CountsOnce
+pub mod DecisionLaws
 pub mod TradedLaws
+pub mod DecidedLaws
 pub mod BranchLaws
-pub mod ReachLaws
+pub mod DropLaws
 pub mod PassLaws

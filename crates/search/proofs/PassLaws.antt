@@ -6,7 +6,6 @@ use mathlib.Core.Bool.{false}
 use native.Mathlib.Omega.{arith}
 use lib.ListN.{length, drop, getD, replicate, length-replicate}
 use lib.Pow.{shr-le, pow-pos}
-use Rattle.search.specs.Layout.{dayHours, gainColumn, lastLimit, mostBlocks, rowSize}
 use Rattle.rules.specs.Orders.{Step, Block}
 use Rattle.rules.specs.Day.{Day, daySum, sumTo, taken, decisions, overBlocks, hourOf}
 use Rattle.rules.specs.Outcome.{outcome}
@@ -15,17 +14,19 @@ use Rattle.rules.proofs.DayLaws.{empty-lawful}
 use Rattle.rules.proofs.BoundLaws.{gain}
 use Rattle.rules.proofs.NeighbourLaws.{slack}
 use Rattle.rules.proofs.LossLaws.{gaps, wholeOf, lossOf, losses-none, losses-empty, bound-with}
-use Rattle.rules.proofs.LossSearchLaws as by-loss
 use Rattle.rules.proofs.TwinLaws.{InTurn, outcome-in-turn}
 use Rattle.rules.proofs.PlaceLaws.{place, place-none}
-use Rattle.search.specs.Search.{cell, isOut}
+use Rattle.rules.proofs.LossSearchLaws as by-loss
+use Rattle.places.specs.Layout.{dayHours, mostBlocks, lastLimit, rowSize, gainColumn}
+use Rattle.places.specs.Hours.{cell}
+use Rattle.places.specs.Reach.{isOut}
+use Rattle.search.specs.Meaning.{Fits, Known, Turning, Branch, lossAbove, bestAs, DayOf, Outcome, StepsAre, ExploredFrom}
 use Rattle.search.specs.Tables.{Tables}
-use Rattle.search.specs.Meaning.{Fits, Known, Turning, Branch, lossAbove, bestAs, DayOf, StepsAre, Outcome, ExploredFrom}
+use Rattle.places.proofs.NumberLaws.{zeros}
+use Rattle.search.proofs.CountsOnce.{counts, sumTo-in, sumTo-add, daySum-plain}
+use Rattle.search.proofs.DecidedLaws.{gap-of-lawful, rest-below}
 use Rattle.search.specs.declared.Best.{Best}
 use Rattle.search.specs.declared.Node.{Node}
-use Rattle.search.proofs.LeafLaws.{zeros}
-use Rattle.search.proofs.TradedLaws.{counts}
-use Rattle.search.proofs.BranchLaws.{sumTo-in, sumTo-add, daySum-plain, gap-of-lawful, rest-below}
 
 -- THE ROOT: nothing is decided
 abbrev pub root : Node

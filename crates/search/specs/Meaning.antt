@@ -6,7 +6,7 @@ use lib.Dec.{eqb}
 use mathlib.Core.List.{List, _∷_, _++_}
 use mathlib.Core.Path.{_≡_}
 use lib.ListN.{length, drop, getD}
-use Rattle.search.specs.Layout.{blockListSize, dayHours, lastPlace, mostAdded, mostBlocks, tableSize}
+use Rattle.places.specs.Layout.{blockListSize, dayHours, lastPlace, mostAdded, mostBlocks, tableSize}
 use Rattle.records.specs.Records.{holdsHour}
 use Rattle.orders.specs.Columns.{sideFor}
 use Rattle.rules.specs.Orders.{Step, Block, maxPrice}
@@ -21,7 +21,9 @@ use Rattle.rules.proofs.LossLaws.{against, losses, lossOf}
 use Rattle.rules.proofs.LossSearchLaws as by-loss
 use Rattle.rules.proofs.PlaceLaws.{place, hourAt}
 use Rattle.rules.proofs.TwinLaws.{Ahead, InTurn}
-use Rattle.search.specs.Search.{Small, cell, ofHour, sideAt, hoursAt, limitAt, againstAt, gainAt, aheadAt, behindAt, rowQuantity, isOut}
+use Rattle.places.specs.Hours.{Small, cell, ofHour}
+use Rattle.places.specs.Blocks.{BlocksSized, sideAt, hoursAt, limitAt, againstAt, gainAt, aheadAt, behindAt, rowQuantity}
+use Rattle.places.specs.Reach.{isOut}
 use Rattle.search.specs.Tables.{Tables}
 use Rattle.search.specs.declared.Day as code-day
 use Rattle.search.specs.declared.Best.{Best}
@@ -29,11 +31,6 @@ use Rattle.search.specs.declared.Node.{Node}
 use Rattle.rules.specs.Hour.{when}
 
 -- SIZES, for safe arithmetic and indexing
-pub record BlocksSized (blocks : List ℕ) : Type 0 where
-  pub columns : length blocks ≡ blockListSize
-  pub rowsFit : (i h : ℕ) → rowQuantity blocks i h ≤ mostAdded
-  pub twinsFit : (i : ℕ) → i < mostBlocks → (aheadAt blocks i ≤ mostBlocks) × (behindAt blocks i ≤ mostBlocks)
-
 pub record Sized (t : Tables) : Type 0 where
   pub priceRows : length (t .unitPrices) ≡ tableSize
   pub gapRows : length (t .gaps) ≡ tableSize

@@ -2,7 +2,7 @@
 -- Definitions only. Assumes nothing.
 use Prim.Native.Nat.{ℕ}
 use mathlib.Core.List.{List}
-use Rattle.search.specs.Search.{clearsFirst, clearsLast, gapsTurn}
+use Rattle.places.specs.Hours.{clearsFirst, clearsLast, gapsTurn}
 
 pub record Tables : Type 0 where
   -- A row of places for each hour. Each place has the unit price of the N before its own: the hour's greatest price at its place, and the least price at

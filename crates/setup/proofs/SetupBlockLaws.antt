@@ -9,14 +9,15 @@ use native.Mathlib.Nat.{lt-of-not-le}
 use native.Mathlib.Numerals.{add-one}
 use lib.ListN.{length, getD, set, replicate, length-set}
 use lib.Seq.{getD-set-same, getD-set-other}
-use Rattle.search.specs.Layout.{againstColumn, aheadColumn, dayHours, gainColumn, hoursColumn, limitColumn, mostBlocks, mostQuantity, quantityColumn}
+use Rattle.places.specs.Layout.{againstColumn, aheadColumn, dayHours, gainColumn, hoursColumn, limitColumn, mostBlocks, mostQuantity, quantityColumn}
 use Rattle.records.specs.Records.{holdsHour, hoursSet}
 use Rattle.orders.specs.Columns.{sideFor}
 use Rattle.rules.specs.Orders.{Side, buy, sell}
 use Rattle.rules.specs.Hour.{bySide, when}
-use Rattle.search.specs.Search.{Small, sideAt, hoursAt, quantityAt, limitAt, againstAt, gainAt, sumOfHours}
+use Rattle.places.specs.Hours.{Small, sumOfHours}
+use Rattle.places.specs.Blocks.{sideAt, hoursAt, quantityAt, limitAt, againstAt, gainAt}
 use Rattle.setup.specs.Setup.{BlocksHeld, sumBelow, blocksTrade, TradedBy, written, Written}
-use Rattle.search.proofs.LeafLaws.{zeros}
+use Rattle.places.proofs.NumberLaws.{zeros}
 use Rattle.roots.proofs.SizeLaws.{side-le, chosen-le, moved-most}
 
 -- WHAT THE BLOCKS TRADE in each hour

@@ -9,7 +9,7 @@ use native.Mathlib.Decide.{decLe}
 use native.Mathlib.Nat.{lt-of-not-le}
 use lib.ListN.{length, take, drop, getD, length-map, drop-of-length-le}
 use lib.Seq.{getD-take, getD-drop, slice}
-use Rattle.search.specs.Layout.{dayHours, lastPlace, mostBlocks, mostQuantity, mostSteps, rowSize, tableSize}
+use Rattle.places.specs.Layout.{dayHours, lastPlace, mostBlocks, mostQuantity, mostSteps, rowSize, tableSize}
 use Rattle.records.specs.Records.{number, hoursSet, holdsHour}
 use Rattle.book.specs.Refusals.{Accepted}
 use Rattle.book.proofs.Members.{Each}
@@ -37,9 +37,10 @@ use Rattle.rules.proofs.TwinLaws.{limitOf, Ahead, ahead-by-limits}
 use Rattle.tables.specs.Tables.{UnitPrices, NotRising}
 use Rattle.tables.proofs.LevelLaws.{table-in-range, table-not-rising}
 use Rattle.tables.proofs.GapLaws.{gap-table, gap-falls, gap-rises}
-use Rattle.search.specs.Search.{Small, cell, ofHour, sideAt, quantityAt, limitAt, aheadAt, behindAt, sumOfHours}
+use Rattle.places.specs.Hours.{Small, cell, ofHour, sumOfHours}
+use Rattle.places.specs.Blocks.{sideAt, quantityAt, limitAt, aheadAt, behindAt, BlocksSized}
 use Rattle.search.specs.Tables.{Tables}
-use Rattle.search.specs.Meaning.{BlocksSized, Sized, Shown, Known, Turning}
+use Rattle.search.specs.Meaning.{Sized, Shown, Known, Turning}
 use Rattle.setup.specs.Setup.{
   StepsHeld,
   BlocksHeld,
@@ -56,7 +57,7 @@ use Rattle.setup.specs.Setup.{
   TwinsAt,
   ReadyFor,
 }
-use Rattle.search.proofs.BranchLaws.{daySum-plain}
+use Rattle.search.proofs.CountsOnce.{daySum-plain}
 use Rattle.setup.proofs.SetupTwinLaws.{Completed, twins-back, no-worse-true, no-worse-false}
 use Rattle.setup.proofs.SetupTableLaws.{take-drop, row-length, range-holds}
 use Rattle.setup.proofs.SetupBlockLaws.{bought-within}

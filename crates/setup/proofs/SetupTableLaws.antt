@@ -8,14 +8,14 @@ use native.Mathlib.Nat.{lt-of-not-le}
 use lib.ListN.{length, take, drop, getD, set, replicate, length-set, length-take, length-drop}
 use lib.Seq.{length-take-le, take-take, take-nil, drop-nil, drop-at, take-at, getD-set-same, getD-set-other}
 use borrow.Rule.Slice.PartMut.{putMid, midOf, take-put, same-len-mid}
-use Rattle.search.specs.Layout.{dayHours, lastPlace, rowSize, tableSize}
+use Rattle.places.specs.Layout.{dayHours, lastPlace, rowSize, tableSize}
 use Rattle.rules.specs.Orders.{Step, buy, sell, maxPrice}
 use Rattle.orders.specs.Columns.{stepsFrom}
 use Rattle.tables.specs.Tables.{PriceTable, AllOf, ClearRange, NotRising, GapsFor, GapTable}
 use Rattle.tables.proofs.LevelLaws.{table-not-rising, table-in-range}
-use Rattle.search.specs.Search.{Small}
+use Rattle.places.specs.Hours.{Small}
 use Rattle.setup.specs.Setup.{StepsHeld, PartHeld, hourPart, tableRow, RowIs, RowsAre, Ranged, RangedAt, RangesAre}
-use Rattle.search.proofs.LeafLaws.{zeros}
+use Rattle.places.proofs.NumberLaws.{zeros}
 use Rattle.roots.proofs.SizeLaws.{set-small}
 
 -- PARTS

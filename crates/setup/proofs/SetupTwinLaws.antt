@@ -11,15 +11,15 @@ use lib.Dec.{leb, ltb, eqb}
 use lib.ListN.{length, take, drop, getD, set, replicate, length-set, length-take, length-drop}
 use lib.Seq.{getD-set-same, getD-set-other, getD-take, getD-drop, ext-getD}
 use borrow.Author.Tests.{leb-true, leb-false, ltb-true, eqb-true}
-use Rattle.search.specs.Layout.{againstColumn, aheadColumn, behindColumn, blockListSize, blockRows, dayHours, gainColumn, hourListSize, hoursColumn, lastColumn, limitColumn, mostBlocks, mostQuantity, quantityColumn, turnColumn}
+use Rattle.places.specs.Layout.{againstColumn, aheadColumn, behindColumn, blockListSize, blockRows, dayHours, gainColumn, hourListSize, hoursColumn, lastColumn, limitColumn, mostBlocks, mostQuantity, quantityColumn, turnColumn}
 use Rattle.records.specs.Records.{holdsHour}
 use Rattle.orders.specs.Columns.{sideFor}
 use Rattle.rules.specs.Orders.{Side, buy, sell}
 use Rattle.rules.specs.Hour.{bySide, when}
 use Rattle.rules.specs.Execution.{testSide}
 use Rattle.rules.proofs.Tests.{by-test, both}
-use Rattle.search.specs.Search.{clearsFirst, clearsLast, gapsTurn, sideAt, hoursAt, quantityAt, limitAt, aheadAt, behindAt, rowQuantity}
-use Rattle.search.specs.Meaning.{BlocksSized}
+use Rattle.places.specs.Hours.{clearsFirst, clearsLast, gapsTurn}
+use Rattle.places.specs.Blocks.{sideAt, hoursAt, quantityAt, limitAt, aheadAt, behindAt, rowQuantity, BlocksSized}
 use Rattle.setup.specs.Setup.{
   Written,
   Widened,
@@ -31,8 +31,8 @@ use Rattle.setup.specs.Setup.{
   TwinsEmpty,
   TwinsWritten,
 }
-use Rattle.search.proofs.HourColumnLaws.{bit-times, bit-times-le, hour-bit}
-use Rattle.search.proofs.LeafLaws.{zeros, below-next}
+use Rattle.places.proofs.HourColumnLaws.{bit-times, bit-times-le, hour-bit}
+use Rattle.places.proofs.NumberLaws.{zeros, below-next}
 
 -- THE HOURS' COLUMNS IN ONE LIST, hour by hour
 module _ (first last turn : List ℕ) where

@@ -1,7 +1,7 @@
 // The setup of the search: from a book's decoded columns to the tables of the hours and the columns of the blocks. Assumes nothing.
 ghost use mathlib.Core.Path.{_≡_};
 ghost use lib.ListN.{length};
-ghost use Rattle.search.specs.Layout.{tableSize};
+ghost use Rattle.places.specs.Layout.{tableSize};
 ghost use Rattle.search.specs.Tables.{tablesOf};
 ghost use Rattle.search.specs.Meaning.{Sized};
 ghost use Rattle.setup.specs.Setup.{StepsHeld, BlocksHeld, ReadyFor};
@@ -14,10 +14,10 @@ use crate::rows::fill_tables;
 use crate::rows::joined;
 use crate::twins::with_twins;
 use orders::Blocks;
+use places::layout::BLOCK_LIST;
+use places::layout::HOUR_LIST;
+use places::layout::HOURS;
 use roots::root_prices;
-use search::layout::BLOCK_LIST;
-use search::layout::HOUR_LIST;
-use search::layout::HOURS;
 
 pub mod blocks; // what they trade, their columns and rows
 pub mod rows; // the tables, ranges and gaps of the hours

@@ -3,15 +3,15 @@ ghost use mathlib.Core.Path.{_≡_};
 ghost use mathlib.Core.Bool.{true};
 ghost use Prim.Native.Nat.{ℕ, _≤_, _<_};
 ghost use lib.ListN.{length};
-ghost use Rattle.search.specs.Layout.{mostBlocks, blockListSize};
+ghost use Rattle.places.specs.Layout.{mostBlocks, blockListSize};
 ghost use Rattle.setup.specs.Setup.{TwinsAt, noWorse, TwinOf, TwinsEmpty, TwinsWritten};
-use roots::numbers::choose;
-use search::layout::AHEAD;
-use search::layout::BEHIND;
-use search::layout::BLOCK_LIST;
-use search::layout::LIMIT;
-use search::layout::QUANTITY;
-use search::layout::RUNS;
+use places::layout::AHEAD;
+use places::layout::BEHIND;
+use places::layout::BLOCK_LIST;
+use places::layout::LIMIT;
+use places::layout::QUANTITY;
+use places::layout::RUNS;
+use places::numbers::choose;
 
 // Whether two blocks are twins: of the same side, hours and quantity.
 fn are_twins(blocks: &[u32], a: usize, b: usize) -> bool

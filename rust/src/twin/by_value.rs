@@ -12,6 +12,9 @@ pub mod clearing;
 pub mod orders;
 #[allow(clippy::all, unused)]
 #[rustfmt::skip]
+pub mod places;
+#[allow(clippy::all, unused)]
+#[rustfmt::skip]
 pub mod pricing;
 #[allow(clippy::all, unused)]
 #[rustfmt::skip]

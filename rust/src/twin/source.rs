@@ -12,9 +12,9 @@ use std::path::{Path, PathBuf};
 use std::{fs, io};
 
 /// The proved crates that a clearing runs.
-pub const CRATES: [&str; 10] = [
-    "records", "book", "orders", "pricing", "tables", "search", "roots", "setup", "result",
-    "clearing",
+pub const CRATES: [&str; 11] = [
+    "records", "book", "orders", "pricing", "places", "tables", "search", "roots", "setup",
+    "result", "clearing",
 ];
 
 /// A file of the twin: where it stands in `src/twin/by_value`, and its text.
@@ -88,7 +88,7 @@ fn without_contracts(source: &str) -> Vec<&str> {
 /// Counts a node where the body of `explore` begins, and a cut one where it
 /// first returns, which is after its test.
 fn with_counters(code: Vec<&str>) -> Vec<&str> {
-    let Some(explore) = code.iter().position(|line| line.starts_with("fn explore(")) else {
+    let Some(explore) = code.iter().position(|line| line.starts_with("pub fn explore(")) else {
         return code;
     };
     let mut lines = code;

@@ -4,7 +4,7 @@ use native.Mathlib.Omega.{arith}
 use mathlib.Core.Path.{_≡_, sym}
 use lib.ListN.{length, getD}
 use Rattle.orders.proofs.HourLaws.{ends-fit}
-use Rattle.search.specs.Search.{StepsSized}
+use Rattle.places.specs.Steps.{StepsSized}
 use Rattle.setup.proofs.SetupLaws.{steps-held, blocks-held}
 use Rattle.clearing.proofs.PublishLaws.{columns-steps}
 use Rattle.clearing.proofs.PublishableLaws.{steps-sized, publishable}

@@ -3,9 +3,9 @@ use Prim.Native.Nat.{_-_, _<_}
 use mathlib.Core.Path.{_≡_, refl}
 use native.Mathlib.Omega.{arith}
 use lib.ListN.{length, getD, length-set}
-use Rattle.search.specs.Layout.{mostBlocks, mostLimit}
-use Rattle.search.specs.Search.{Small}
-use Rattle.search.proofs.LeafLaws.{zeros}
+use Rattle.places.specs.Layout.{mostBlocks, mostLimit}
+use Rattle.places.specs.Hours.{Small}
+use Rattle.places.proofs.NumberLaws.{zeros}
 use Rattle.roots.proofs.SizeLaws.{limit-fits}
 use Rattle.roots.proofs.SizeLaws.{set-small}
 use borrow.Author.Needs.{needs}

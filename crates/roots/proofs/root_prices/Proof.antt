@@ -2,15 +2,15 @@
 use Prim.Native.Nat.{_-_, _*_, _≤_}
 use mathlib.Core.Logic.{⊎-elim}
 use native.Mathlib.Omega.{arith}
-use Rattle.search.specs.Layout.{lastPlace}
+use Rattle.places.specs.Layout.{lastPlace}
 use Rattle.rules.specs.Orders.{maxPrice}
-use Rattle.search.specs.Search.{Small}
+use Rattle.places.specs.Hours.{Small}
 use borrow.Author.Needs.{needs}
 use Rattle.roots.proofs.root_prices.Statement.{statement}
 use Rattle.roots.proofs.root_prices.Tie as tie
 use Rattle.roots.proofs.root_prices.Reads as reads
 use Rattle.roots.proofs.root_prices.Lts as lts
-use Rattle.search.proofs.prices_at.Reads as prices-at-reads
+use Rattle.places.proofs.cells.prices_at.Reads as prices-at-reads
 use Rattle.roots.proofs.losses.empty_loss.Reads as empty-loss-reads
 use Rattle.roots.proofs.limits_of.Reads as limits-of-reads
 use Rattle.roots.proofs.moves.moved_on.Reads as moved-on-reads

@@ -2,7 +2,7 @@
 use Prim.Native.Nat.{ℕ, _-_, _*_, _^_, _≤_, _<_}
 use lib.ListN.{getD}
 use native.Mathlib.Omega.{arith}
-use Rattle.search.specs.Layout.{lastLimit}
+use Rattle.places.specs.Layout.{lastLimit}
 use Rattle.search.proofs.PassLaws.{root-fits, pass-is, pass-found}
 use borrow.Author.Needs.{needs}
 use Rattle.search.proofs.find.Statement.{statement}

@@ -3,9 +3,9 @@ use Prim.Native.Nat.{ℕ}
 use mathlib.Core.List.{List}
 use mathlib.Core.Path.{_≡_, _∙_}
 use lib.ListN.{length}
-use Rattle.search.specs.Layout.{tableSize}
+use Rattle.places.specs.Layout.{tableSize}
 use Rattle.rules.specs.Orders.{maxPrice}
-use Rattle.search.specs.Search.{Small}
+use Rattle.places.specs.Hours.{Small}
 use Rattle.setup.proofs.SetupLaws.{prices-small, set-up, ready}
 use Rattle.setup.proofs.SetupTwinLaws.{completed, blocks-sized, rows-empty, twins-empty}
 use Rattle.setup.proofs.SetupBlockLaws.{bought-within}

@@ -5,12 +5,12 @@ use crate::twin::by_value::book::Reading;
 use crate::twin::by_value::book::read;
 use crate::twin::by_value::orders::blocks_of;
 use crate::twin::by_value::orders::steps_of;
+use crate::twin::by_value::places::layout::TABLE;
 use crate::twin::by_value::records::record_count;
 use crate::twin::by_value::result::Clearing;
 use crate::twin::by_value::result::RECORD_ROW;
 use crate::twin::by_value::result::RECORD_ROWS;
 use crate::twin::by_value::search::find;
-use crate::twin::by_value::search::layout::TABLE;
 use crate::twin::by_value::setup::prepare;
 
 mod publish; // the published set as the result

@@ -6,14 +6,13 @@ use crate::twin::by_value::roots::moves::MOVES;
 use crate::twin::by_value::roots::moves::ROUND;
 use crate::twin::by_value::roots::moves::Trail;
 use crate::twin::by_value::roots::moves::moved_on;
+use crate::twin::by_value::places::cells::prices_at;
+use crate::twin::by_value::places::layout::HOURS;
+use crate::twin::by_value::places::layout::MOST_BLOCKS;
 use crate::twin::by_value::records::hour_count;
-use crate::twin::by_value::search::layout::HOURS;
-use crate::twin::by_value::search::layout::MOST_BLOCKS;
-use crate::twin::by_value::search::prices_at;
 
 pub mod losses; // what the empty set loses at given prices
 pub mod moves; // prices on their way
-pub mod numbers; // numbers by a test or a side
 
 // What each block asks for over its hours: its price times their number.
 fn limits_of(

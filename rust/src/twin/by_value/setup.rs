@@ -9,10 +9,10 @@ use crate::twin::by_value::setup::rows::fill_tables;
 use crate::twin::by_value::setup::rows::joined;
 use crate::twin::by_value::setup::twins::with_twins;
 use crate::twin::by_value::orders::Blocks;
+use crate::twin::by_value::places::layout::BLOCK_LIST;
+use crate::twin::by_value::places::layout::HOUR_LIST;
+use crate::twin::by_value::places::layout::HOURS;
 use crate::twin::by_value::roots::root_prices;
-use crate::twin::by_value::search::layout::BLOCK_LIST;
-use crate::twin::by_value::search::layout::HOUR_LIST;
-use crate::twin::by_value::search::layout::HOURS;
 
 pub mod blocks; // what they trade, their columns and rows
 pub mod rows; // the tables, ranges and gaps of the hours

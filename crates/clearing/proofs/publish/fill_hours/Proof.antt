@@ -3,8 +3,9 @@ use Prim.Native.Nat.{_+_, _-_, _≤_}
 use mathlib.Core.Path.{_≡_, refl, _∙_}
 use native.Mathlib.Omega.{arith}
 use lib.ListN.{length}
-use Rattle.search.specs.Search.{ofHour, stepsAt}
-use Rattle.search.proofs.StepLaws.{hour-inside, hour-part}
+use Rattle.places.specs.Hours.{ofHour}
+use Rattle.places.specs.Steps.{stepsAt}
+use Rattle.places.proofs.StepLaws.{hour-inside, hour-part}
 use Rattle.clearing.specs.Publish.{HoursDone, salesAt, buysAt}
 use Rattle.clearing.proofs.HoursLaws.{trades-are, trades-most, hours-none, hours-more}
 use borrow.Author.Needs.{needs}

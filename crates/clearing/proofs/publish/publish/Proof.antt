@@ -3,7 +3,7 @@ use mathlib.Core.Path.{_≡_, sym}
 use native.Mathlib.Omega.{arith}
 use lib.ListN.{length}
 use lib.Seq.{length-take-le}
-use Rattle.search.proofs.StepLaws.{small-take}
+use Rattle.places.proofs.StepLaws.{small-take}
 use Rattle.clearing.proofs.PublishLaws.{Fronts, fronts-sized, fronts-records, fronts-prices, fronts-columns, fronts-chosen}
 use borrow.Author.Needs.{needs}
 use Rattle.clearing.proofs.publish.publish.Statement.{statement}

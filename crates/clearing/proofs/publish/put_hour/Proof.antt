@@ -1,7 +1,7 @@
 -- `clearing::publish::put_hour` meets its contract: the part is an hour's columns, and what is put into it stands there. Assumes nothing.
 use mathlib.Core.Path.{sym, _∙_}
 use borrow.Rule.Slice.PartMut.{mid-len}
-use Rattle.search.proofs.StepLaws.{small-part, part-columns}
+use Rattle.places.proofs.StepLaws.{small-part, part-columns}
 use Rattle.clearing.proofs.HoursLaws.{hour-put}
 use borrow.Author.Needs.{needs}
 use Rattle.clearing.proofs.publish.put_hour.Statement.{statement}

@@ -1,6 +1,6 @@
 -- `roots::gain_of` meets its contract: at most 50 times 7,200,000. Assumes nothing.
 use native.Mathlib.Omega.{arith}
-use Rattle.search.specs.Layout.{mostLimit}
+use Rattle.places.specs.Layout.{mostLimit}
 use Rattle.orders.specs.Columns.{sideFor}
 use Rattle.roots.proofs.SizeLaws.{side-le, product-fits}
 use borrow.Author.Needs.{needs}
@@ -8,8 +8,8 @@ use Rattle.roots.proofs.losses.gain_of.Statement.{statement}
 use Rattle.roots.proofs.losses.gain_of.Tie as tie
 use Rattle.roots.proofs.losses.gain_of.Reads as reads
 use Rattle.roots.proofs.losses.gain_of.Lts as lts
-use Rattle.roots.proofs.numbers.by_side.Reads as by-side-reads
-use Rattle.roots.proofs.numbers.less.Reads as less-reads
+use Rattle.places.proofs.numbers.by_side.Reads as by-side-reads
+use Rattle.places.proofs.numbers.less.Reads as less-reads
 
 less-requires : tie.Need-less-requires
 less-requires c κs = search needs

@@ -2,12 +2,12 @@
 use Prim.Native.Nat.{_-_, _*_, _≤_}
 use native.Mathlib.Omega.{arith}
 use borrow.Author.Needs.{needs}
-use Rattle.search.specs.Layout.{mostLimit, mostQuantity}
+use Rattle.places.specs.Layout.{mostLimit, mostQuantity}
 use Rattle.roots.proofs.losses.gains_at.Statement.{statement}
 use Rattle.roots.proofs.losses.gains_at.Tie as tie
 use Rattle.roots.proofs.losses.gains_at.Reads as reads
 use Rattle.roots.proofs.losses.gains_at.Lts as lts
-use Rattle.search.proofs.price_sum.Reads as price-sum-reads
+use Rattle.places.proofs.limits.price_sum.Reads as price-sum-reads
 use Rattle.roots.proofs.losses.gain_of.Reads as gain-of-reads
 
 abbrev Inv-loop : tie.InvT-loop

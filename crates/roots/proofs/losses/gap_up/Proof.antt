@@ -2,7 +2,7 @@
 use Prim.Native.Nat.{_+_, _-_, _*_, _≤_}
 use native.Mathlib.Omega.{arith}
 use borrow.Author.Needs.{needs}
-use Rattle.search.specs.Layout.{rowSize}
+use Rattle.places.specs.Layout.{rowSize}
 use Rattle.rules.specs.Orders.{maxPrice}
 use Rattle.roots.proofs.losses.gap_up.Statement.{statement}
 use Rattle.roots.proofs.losses.gap_up.Tie as tie

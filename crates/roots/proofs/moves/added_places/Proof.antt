@@ -3,16 +3,16 @@ use Prim.Native.Nat.{ℕ, _+_, _-_, _*_, _≤_}
 use native.Mathlib.Omega.{arith}
 use lib.ListN.{getD}
 use lib.Dec.{leb}
-use Rattle.search.specs.Layout.{mostQuantity}
+use Rattle.places.specs.Layout.{mostQuantity}
 use Rattle.roots.proofs.SizeLaws.{chosen-le, moved-most}
 use borrow.Author.Needs.{needs}
 use Rattle.roots.proofs.moves.added_places.Statement.{statement}
 use Rattle.roots.proofs.moves.added_places.Tie as tie
 use Rattle.roots.proofs.moves.added_places.Reads as reads
 use Rattle.roots.proofs.moves.added_places.Lts as lts
-use Rattle.search.proofs.moved.Reads as moved-reads
-use Rattle.search.proofs.price_sum.Reads as price-sum-reads
-use Rattle.roots.proofs.numbers.choose.Reads as choose-reads
+use Rattle.places.proofs.added.moved.Reads as moved-reads
+use Rattle.places.proofs.limits.price_sum.Reads as price-sum-reads
+use Rattle.places.proofs.numbers.choose.Reads as choose-reads
 
 abbrev Inv-loop : tie.InvT-loop
 Inv-loop count hours limits quantities root places₀ i₀ places i = (i ≤ count) × ((j : ℕ) → getD places j 0 ≤ getD places₀ j 0 + i * mostQuantity)

@@ -4,9 +4,9 @@ use mathlib.Core.Path.{_≡_, refl}
 use native.Mathlib.Omega.{arith}
 use native.Mathlib.Nat.{div-le-of-le-mul}
 use lib.ListN.{length, length-set}
-use Rattle.search.specs.Layout.{dayHours, lastPlace}
-use Rattle.search.specs.Search.{Small}
-use Rattle.search.proofs.LeafLaws.{zeros}
+use Rattle.places.specs.Layout.{dayHours, lastPlace}
+use Rattle.places.specs.Hours.{Small}
+use Rattle.places.proofs.NumberLaws.{zeros}
 use Rattle.roots.proofs.SizeLaws.{set-small}
 use borrow.Author.Needs.{needs}
 use Rattle.roots.proofs.moves.averaged.Statement.{statement}

@@ -3,10 +3,10 @@ use Prim.Native.Nat.{_-_, _<_}
 use mathlib.Core.Path.{_≡_, refl}
 use native.Mathlib.Omega.{arith}
 use lib.ListN.{length, length-set}
-use Rattle.search.specs.Layout.{dayHours}
+use Rattle.places.specs.Layout.{dayHours}
 use Rattle.rules.specs.Orders.{maxPrice}
-use Rattle.search.specs.Search.{Small}
-use Rattle.search.proofs.LeafLaws.{zeros}
+use Rattle.places.specs.Hours.{Small}
+use Rattle.places.proofs.NumberLaws.{zeros}
 use Rattle.roots.proofs.SizeLaws.{set-small}
 use borrow.Author.Needs.{needs}
 use Rattle.roots.proofs.moves.closer.Statement.{statement}

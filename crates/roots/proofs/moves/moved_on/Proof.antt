@@ -1,15 +1,15 @@
 -- `roots::moved_on` meets its contract: each move ends at prices again, and the places so far add up to at most 1,600 for each. Assumes nothing.
 use Prim.Native.Nat.{_+_, _-_, _*_, _≤_}
 use native.Mathlib.Omega.{arith}
-use Rattle.search.specs.Layout.{lastPlace}
+use Rattle.places.specs.Layout.{lastPlace}
 use Rattle.rules.specs.Orders.{maxPrice}
-use Rattle.search.specs.Search.{Small}
+use Rattle.places.specs.Hours.{Small}
 use borrow.Author.Needs.{needs}
 use Rattle.roots.proofs.moves.moved_on.Statement.{statement}
 use Rattle.roots.proofs.moves.moved_on.Tie as tie
 use Rattle.roots.proofs.moves.moved_on.Reads as reads
 use Rattle.roots.proofs.moves.moved_on.Lts as lts
-use Rattle.search.proofs.prices_at.Reads as prices-at-reads
+use Rattle.places.proofs.cells.prices_at.Reads as prices-at-reads
 use Rattle.roots.proofs.moves.added_places.Reads as added-places-reads
 use Rattle.roots.proofs.moves.averaged.Reads as averaged-reads
 use Rattle.roots.proofs.moves.closer.Reads as closer-reads

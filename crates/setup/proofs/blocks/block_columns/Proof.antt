@@ -11,7 +11,7 @@ use Rattle.setup.proofs.blocks.block_columns.Tie as tie
 use Rattle.setup.proofs.blocks.block_columns.Reads as reads
 use Rattle.setup.proofs.blocks.block_columns.Lts as lts
 use Rattle.records.proofs.hour_count.Reads as hour-count-reads
-use Rattle.search.proofs.price_sum.Reads as price-sum-reads
+use Rattle.places.proofs.limits.price_sum.Reads as price-sum-reads
 use Rattle.setup.proofs.blocks.with_block.Reads as with-block-reads
 
 abbrev Inv-loop : tie.InvT-loop

@@ -1,6 +1,6 @@
 -- `setup::widened` meets its contract: the numbers before k are copied. Assumes nothing.
 use Prim.Native.Nat.{_-_}
-use Rattle.search.specs.Layout.{aheadColumn}
+use Rattle.places.specs.Layout.{aheadColumn}
 use Rattle.setup.proofs.SetupTwinLaws.{WidenedTo, widened-start, widened-next, widened-all}
 use borrow.Author.Needs.{needs}
 use Rattle.setup.proofs.blocks.widened.Statement.{statement}

@@ -1,6 +1,6 @@
 -- `setup::with_block` meets its contract: the losses fit. Assumes nothing.
 use native.Mathlib.Omega.{arith}
-use Rattle.search.specs.Layout.{mostLimit}
+use Rattle.places.specs.Layout.{mostLimit}
 use Rattle.orders.specs.Columns.{sideFor}
 use Rattle.setup.specs.Setup.{written}
 use Rattle.roots.proofs.SizeLaws.{side-le, product-fits}
@@ -9,8 +9,8 @@ use Rattle.setup.proofs.blocks.with_block.Statement.{statement}
 use Rattle.setup.proofs.blocks.with_block.Tie as tie
 use Rattle.setup.proofs.blocks.with_block.Reads as reads
 use Rattle.setup.proofs.blocks.with_block.Lts as lts
-use Rattle.roots.proofs.numbers.by_side.Reads as by-side-reads
-use Rattle.roots.proofs.numbers.less.Reads as less-reads
+use Rattle.places.proofs.numbers.by_side.Reads as by-side-reads
+use Rattle.places.proofs.numbers.less.Reads as less-reads
 
 less-requires : tie.Need-less-requires
 less-requires c κs = search needs

@@ -1,7 +1,7 @@
 -- `setup::with_rows` meets its contract: the numbers before k of the rows stand. Assumes nothing.
 use Prim.Native.Nat.{_-_, _*_}
 use native.Mathlib.Omega.{arith}
-use Rattle.search.specs.Layout.{dayHours}
+use Rattle.places.specs.Layout.{dayHours}
 use Rattle.setup.proofs.SetupTwinLaws.{RowsDone, trade-small, rows-begun, rows-more, rows-whole}
 use borrow.Author.Needs.{needs}
 use Rattle.setup.proofs.blocks.with_rows.Statement.{statement}

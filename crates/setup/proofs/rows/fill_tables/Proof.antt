@@ -2,7 +2,7 @@
 use Prim.Native.Nat.{_-_}
 use mathlib.Core.Path.{sym, _∙_}
 use native.Mathlib.Omega.{arith}
-use Rattle.search.specs.Layout.{dayHours}
+use Rattle.places.specs.Layout.{dayHours}
 use Rattle.setup.proofs.SetupTableLaws.{part-held, part-length, row-wide, RowsTo, rows-start, rows-next, rows-all}
 use borrow.Author.Needs.{needs}
 use Rattle.setup.proofs.rows.fill_tables.Statement.{statement}

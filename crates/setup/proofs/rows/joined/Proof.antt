@@ -1,6 +1,6 @@
 -- `setup::joined` meets its contract: the hours before h stand in the three columns. Assumes nothing.
 use Prim.Native.Nat.{_-_}
-use Rattle.search.specs.Layout.{dayHours}
+use Rattle.places.specs.Layout.{dayHours}
 use Rattle.setup.proofs.SetupTwinLaws.{JoinedTo, joined-start, joined-next, joined-all}
 use borrow.Author.Needs.{needs}
 use Rattle.setup.proofs.rows.joined.Statement.{statement}

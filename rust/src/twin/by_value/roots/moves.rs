@@ -1,11 +1,11 @@
 // Written by `twin_source` from crates/roots/src/moves.rt.
 // Prices on their way to those at which the blocks that gain are taken: a third of the way with each move, towards the prices at the average place so far.
-use crate::twin::by_value::roots::numbers::choose;
-use crate::twin::by_value::search::layout::HOURS;
-use crate::twin::by_value::search::layout::MOST_BLOCKS;
-use crate::twin::by_value::search::moved;
-use crate::twin::by_value::search::price_sum;
-use crate::twin::by_value::search::prices_at;
+use crate::twin::by_value::places::added::moved;
+use crate::twin::by_value::places::cells::prices_at;
+use crate::twin::by_value::places::layout::HOURS;
+use crate::twin::by_value::places::layout::MOST_BLOCKS;
+use crate::twin::by_value::places::limits::price_sum;
+use crate::twin::by_value::places::numbers::choose;
 
 // The moves of a round, after which the prices are tried.
 pub const ROUND: u32 = 7;

@@ -1,21 +1,21 @@
 // Written by `twin_source` from crates/setup/src/blocks.rt.
 // The blocks for the search: what they trade in each hour, their six columns at the root prices, and a row of hours for each.
+use crate::twin::by_value::places::added::moved;
+use crate::twin::by_value::places::layout::AGAINST;
+use crate::twin::by_value::places::layout::AHEAD;
+use crate::twin::by_value::places::layout::BLOCK_LIST;
+use crate::twin::by_value::places::layout::BLOCK_ROWS;
+use crate::twin::by_value::places::layout::GAIN;
+use crate::twin::by_value::places::layout::HOURS;
+use crate::twin::by_value::places::layout::LIMIT;
+use crate::twin::by_value::places::layout::MOST_BLOCKS;
+use crate::twin::by_value::places::layout::QUANTITY;
+use crate::twin::by_value::places::layout::RUNS;
+use crate::twin::by_value::places::limits::price_sum;
+use crate::twin::by_value::places::numbers::by_side;
+use crate::twin::by_value::places::numbers::choose;
+use crate::twin::by_value::places::numbers::less;
 use crate::twin::by_value::records::hour_count;
-use crate::twin::by_value::roots::numbers::by_side;
-use crate::twin::by_value::roots::numbers::choose;
-use crate::twin::by_value::roots::numbers::less;
-use crate::twin::by_value::search::layout::AGAINST;
-use crate::twin::by_value::search::layout::AHEAD;
-use crate::twin::by_value::search::layout::BLOCK_LIST;
-use crate::twin::by_value::search::layout::BLOCK_ROWS;
-use crate::twin::by_value::search::layout::GAIN;
-use crate::twin::by_value::search::layout::HOURS;
-use crate::twin::by_value::search::layout::LIMIT;
-use crate::twin::by_value::search::layout::MOST_BLOCKS;
-use crate::twin::by_value::search::layout::QUANTITY;
-use crate::twin::by_value::search::layout::RUNS;
-use crate::twin::by_value::search::moved;
-use crate::twin::by_value::search::price_sum;
 
 // How much the first six columns hold, those in front of the twins'.
 const SIX_COLUMNS: usize = AHEAD;

@@ -1,10 +1,10 @@
 // Written by `twin_source` from crates/setup/src/rows.rt.
 // The hours for the search: the price table of each, the places at which it clears, and its gaps there, row after row; and the hours' three columns.
-use crate::twin::by_value::search::layout::HOUR_LIST;
-use crate::twin::by_value::search::layout::HOURS;
-use crate::twin::by_value::search::layout::LAST;
-use crate::twin::by_value::search::layout::ROW;
-use crate::twin::by_value::search::layout::TURN;
+use crate::twin::by_value::places::layout::HOUR_LIST;
+use crate::twin::by_value::places::layout::HOURS;
+use crate::twin::by_value::places::layout::LAST;
+use crate::twin::by_value::places::layout::ROW;
+use crate::twin::by_value::places::layout::TURN;
 use crate::twin::by_value::tables::all_totals;
 use crate::twin::by_value::tables::clear_range;
 use crate::twin::by_value::tables::fill_gaps;

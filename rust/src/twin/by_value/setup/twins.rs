@@ -1,12 +1,12 @@
 // Written by `twin_source` from crates/setup/src/twins.rt.
 // The twins for the search: for each block the earlier one of the same side, hours and quantity that is taken before it, and the one that is taken after it.
-use crate::twin::by_value::roots::numbers::choose;
-use crate::twin::by_value::search::layout::AHEAD;
-use crate::twin::by_value::search::layout::BEHIND;
-use crate::twin::by_value::search::layout::BLOCK_LIST;
-use crate::twin::by_value::search::layout::LIMIT;
-use crate::twin::by_value::search::layout::QUANTITY;
-use crate::twin::by_value::search::layout::RUNS;
+use crate::twin::by_value::places::layout::AHEAD;
+use crate::twin::by_value::places::layout::BEHIND;
+use crate::twin::by_value::places::layout::BLOCK_LIST;
+use crate::twin::by_value::places::layout::LIMIT;
+use crate::twin::by_value::places::layout::QUANTITY;
+use crate::twin::by_value::places::layout::RUNS;
+use crate::twin::by_value::places::numbers::choose;
 
 // Whether two blocks are twins: of the same side, hours and quantity.
 fn are_twins(blocks: &[u32], a: usize, b: usize) -> bool

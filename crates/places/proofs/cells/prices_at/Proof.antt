@@ -1,0 +1,109 @@
+-- `places::cells::prices_at` meets its contract: the prices of the first h hours. Assumes nothing.
+use Prim.Native.Nat.{_+_, _-_, _*_}
+use lib.ListN.{getD}
+use native.Mathlib.Omega.{arith}
+use Rattle.places.specs.Layout.{dayHours, rowSize}
+use Rattle.places.proofs.CellLaws.{PricesTo, prices-start, prices-next, prices-all}
+use borrow.Author.Needs.{needs}
+use Rattle.places.proofs.cells.prices_at.Statement.{statement}
+use Rattle.places.proofs.cells.prices_at.Tie as tie
+
+abbrev Inv-loop : tie.InvT-loop
+Inv-loop low places prices₀ h₀ prices h = PricesTo low places h prices
+
+abbrev μ-loop : tie.MeasureT-loop
+μ-loop low places prices₀ h₀ prices h = dayHours - h
+
+loop-holds : tie.Need-loop-holds Inv-loop μ-loop
+loop-holds c = prices-start _ _
+
+mul-at : tie.Need-mul-at Inv-loop μ-loop
+mul-at c = search needs
+
+mul-at-2 : tie.Need-mul-at-2 Inv-loop μ-loop
+mul-at-2 c = search needs
+
+array-read-at : tie.Need-array-read-at Inv-loop μ-loop
+array-read-at c = search needs
+
+cast-at : tie.Need-cast-at Inv-loop μ-loop
+cast-at c = search needs
+
+add-at : tie.Need-add-at Inv-loop μ-loop
+add-at c =
+    let a = c .before in
+    omega (arith, a .before .pre .2 (a .loop .h))
+
+mul-prices : tie.Need-mul-prices Inv-loop μ-loop
+mul-prices c =
+    let a = c .before in
+    omega (arith, a .before .pre .2 (a .loop .h))
+
+shared-slice-read-prices : tie.Need-shared-slice-read-prices Inv-loop μ-loop
+shared-slice-read-prices c =
+    let a = c .before .before in
+    omega (arith, a .before .pre .0, a .before .pre .2 (a .loop .h))
+
+add-prices : tie.Need-add-prices Inv-loop μ-loop
+add-prices c =
+    let a = c .before .before in
+    omega (arith, a .before .pre .2 (a .loop .h))
+
+mul-prices-2 : tie.Need-mul-prices-2 Inv-loop μ-loop
+mul-prices-2 c =
+    let a = c .before .before in
+    omega (arith, a .before .pre .2 (a .loop .h))
+
+shared-slice-read-prices-2 : tie.Need-shared-slice-read-prices-2 Inv-loop μ-loop
+shared-slice-read-prices-2 c =
+    let a = c .before .before .before in
+    omega (arith, a .before .pre .0, a .before .pre .2 (a .loop .h))
+
+add-prices-2 : tie.Need-add-prices-2 Inv-loop μ-loop
+add-prices-2 c =
+    let a = c .before .before .before in
+    let at = a .loop .h * rowSize + getD (a .before .args .t2) (a .loop .h) 0 in
+    omega (arith, a .before .pre .1 at, a .before .pre .1 (at + 1))
+
+mul-prices-3 : tie.Need-mul-prices-3 Inv-loop μ-loop
+mul-prices-3 c = search needs
+
+array-write-prices : tie.Need-array-write-prices Inv-loop μ-loop
+array-write-prices c = search needs
+
+add-h : tie.Need-add-h Inv-loop μ-loop
+add-h c = search needs
+
+loop-less : tie.Need-loop-less Inv-loop μ-loop
+loop-less c = search needs
+
+loop-again : tie.Need-loop-again Inv-loop μ-loop
+loop-again c = prices-next _ _ _ _ (c .before .before .before .loop .inv) (c .before .before .loop-test .taken)
+
+returns : tie.Need-returns Inv-loop μ-loop
+returns c = prices-all _ _ _ _ (c .before .loop .inv) (c .loop-test .left) (c .before .before .pre .1)
+
+pub prices-at-spec : {M : Type 1} → statement M
+prices-at-spec =
+    tie.close
+    (tie.spec
+    Inv-loop
+    μ-loop
+    loop-holds
+    mul-at
+    mul-at-2
+    array-read-at
+    cast-at
+    add-at
+    mul-prices
+    shared-slice-read-prices
+    add-prices
+    mul-prices-2
+    shared-slice-read-prices-2
+    add-prices-2
+    mul-prices-3
+    array-write-prices
+    add-h
+    loop-less
+    loop-again
+    returns)

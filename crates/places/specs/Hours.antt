@@ -1,0 +1,77 @@
+-- THE HOURS: the cells of their tables, their columns, and what stands at their places. Definitions only. Assumes nothing.
+use Prim.Native.Nat.{ℕ, _+_, _-_, _*_, _/_, _≤_, _<_}
+use mathlib.Core.Bool.{Bool, true, false, cond}
+use mathlib.Core.List.{List}
+use mathlib.Core.Path.{_≡_}
+use lib.Dec.{leb}
+use lib.ListN.{length, take, drop, getD}
+use Rattle.rules.specs.Orders.{maxPrice}
+use Rattle.rules.specs.Hour.{when}
+use Rattle.rules.specs.Day.{sumTo}
+use Rattle.records.specs.Records.{holdsHour}
+use Rattle.places.specs.Layout.{dayHours, mostGaps, rowSize, turnColumn}
+
+-- Every number of a list is at most m.
+abbrev pub Small : ℕ → List ℕ → Type 0
+Small m l = (i : ℕ) → getD l i 0 ≤ m
+
+-- A price of at most 300,000 for each of 24 hours.
+abbrev pub DayPrices : List ℕ → Type 0
+DayPrices l = (length l ≡ dayHours) × Small maxPrice l
+
+-- Every one of the first n numbers of a list is at most m.
+abbrev pub FirstSmall : ℕ → ℕ → List ℕ → Type 0
+FirstSmall n m l = (i : ℕ) → i < n → getD l i 0 ≤ m
+
+-- The sum of a column of hours over the hours of a block, given as bits.
+unfoldable pub sumOfHours : List ℕ → ℕ → ℕ
+sumOfHours column hours = sumTo dayHours (λ h. when (holdsHour hours h) (getD column (h - 1) 0))
+
+-- THE TABLES: 24 rows of 1,602 places, hour 1 first.
+-- The number at a place of hour h.
+abbrev pub cell : List ℕ → ℕ → ℕ → ℕ
+cell table h i = getD table ((h - 1) * rowSize + i) 0
+
+-- The number of hour h in a column of 24.
+abbrev pub ofHour : List ℕ → ℕ → ℕ
+ofHour column h = getD column (h - 1) 0
+
+-- THE HOURS: three columns of 24 numbers: the first and the last place at which each clears, and the place of its least gap, where its gaps turn.
+abbrev pub clearsFirst : List ℕ → List ℕ
+clearsFirst hours = take dayHours hours
+
+abbrev pub clearsLast : List ℕ → List ℕ
+clearsLast hours = take dayHours (drop dayHours hours)
+
+abbrev pub gapsTurn : List ℕ → List ℕ
+gapsTurn hours = take dayHours (drop turnColumn hours)
+
+-- Each hour clears at its place, the place lying from the hour's first to its last.
+abbrev pub PlacesClear : List ℕ → List ℕ → List ℕ → Type 0
+PlacesClear first last places = (h : ℕ) → 1 ≤ h → h ≤ dayHours → (ofHour first h ≤ ofHour places h) × (ofHour places h ≤ ofHour last h)
+
+-- The gaps at the places: their sum where every place is in range.
+pub record GapsOf (gap first last places : List ℕ) (clears : Bool) (sum : ℕ) : Type 0 where
+  pub inRange : clears ≡ true → PlacesClear first last places
+  pub notInRange : clears ≡ false → PlacesClear first last places → ⊥
+  pub sumIs : clears ≡ true → sum ≡ sumTo dayHours (λ h. cell gap h (ofHour places h))
+  pub fits : sum ≤ mostGaps
+
+-- The prices at the places: the middle of the two neighbouring entries.
+pub record PricesOf (unitPrices places prices : List ℕ) : Type 0 where
+  pub are : (h : ℕ) → 1 ≤ h → h ≤ dayHours → ofHour prices h ≡ (cell unitPrices h (ofHour places h) + cell unitPrices h (ofHour places h + 1)) / 2
+  pub small : Small maxPrice prices
+
+-- The larger and the smaller of two numbers; the number from a to b that is nearest to n.
+unfoldable pub larger : ℕ → ℕ → ℕ
+larger a b = cond (leb a b) b a
+
+unfoldable pub smaller : ℕ → ℕ → ℕ
+smaller a b = cond (leb a b) a b
+
+abbrev pub nearest : ℕ → ℕ → ℕ → ℕ
+nearest n a b = smaller (larger n a) b
+
+-- The sum of the hours' gaps at the places from `from` to `to` that are nearest to where the gaps turn.
+unfoldable pub leastGaps : (gap turn from to : List ℕ) → ℕ
+leastGaps gap turn from to = sumTo dayHours (λ h. cell gap h (nearest (ofHour turn h) (ofHour from h) (ofHour to h)))

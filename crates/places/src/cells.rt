@@ -1,0 +1,73 @@
+// What the tables have at the hours' places: gaps, prices, and the least gaps within reach. The price table has the unit price of the N before each
+// place: the price at a place is the middle of two neighbours. An hour that has a buy of 2 at 5000, a sell of 1 at 3000 and no block that buys has the row
+// 5000, 5000, 3000, 1, ..: at place 0 its price is 5000, at place 1 the middle of 5000 and 3000.
+ghost use mathlib.Core.Path.{_≡_};
+ghost use Prim.Native.Nat.{ℕ, _≤_, _<_};
+ghost use lib.ListN.{length, getD};
+ghost use Rattle.rules.specs.Orders.{maxPrice};
+ghost use Rattle.places.specs.Layout.{dayHours, lastPlace, mostGaps, tableSize};
+ghost use Rattle.places.specs.Hours.{Small, GapsOf, PricesOf, leastGaps};
+use crate::layout::HOURS;
+use crate::layout::ROW;
+use crate::numbers::larger;
+use crate::numbers::smaller;
+
+// The gaps of all hours at their places, where each hour clears at its place.
+pub struct Gaps {
+    pub clears: bool,
+    pub sum: u64,
+}
+
+pub fn gaps_at(gap: &[u32], first: &[u32], last: &[u32], places: [u32; HOURS]) -> Gaps
+    requires { ⌜ (length (now gap) ≡ tableSize) × (length (now first) ≡ dayHours) × (length (now last) ≡ dayHours) × Small lastPlace (now last) ⌝ }
+    ensures { λ r. ⌜ GapsOf (now (gap .entry)) (now (first .entry)) (now (last .entry)) places (r .clears) (r .sum) ⌝ }
+{
+    let mut sum: u64 = 0;
+    let mut h: usize = 0;
+    while h < HOURS {
+        let place = places[h];
+        if (place < first[h]) | (last[h] < place) {
+            return Gaps {
+                clears: false,
+                sum: 0,
+            };
+        }
+        let cell = gap[h * ROW + (place as usize)];
+        sum += cell as u64;
+        h += 1;
+    }
+    Gaps {
+        clears: true,
+        sum: sum,
+    }
+}
+
+// The price of each hour at its place.
+pub fn prices_at(unit_prices: &[u32], places: [u32; HOURS]) -> [u32; HOURS]
+    requires { ⌜ (length (now «unit_prices») ≡ tableSize) × Small maxPrice (now «unit_prices») × Small lastPlace places ⌝ }
+    ensures { λ r. ⌜ PricesOf (now («unit_prices» .entry)) places r ⌝ }
+{
+    let mut prices = [0; HOURS];
+    let mut h: usize = 0;
+    while h < HOURS {
+        let at = h * ROW + (places[h] as usize);
+        prices[h] = (unit_prices[at] + unit_prices[at + 1]) / 2;
+        h += 1;
+    }
+    prices
+}
+
+// The sum of the hours' least gaps over the places from `from` to `to`.
+pub fn least_gaps(gap: &[u32], turn: &[u32], from: [u32; HOURS], to: [u32; HOURS]) -> u64
+    requires { ⌜ (length (now gap) ≡ tableSize) × (length (now turn) ≡ dayHours) × ((h : ℕ) → h < dayHours → getD to h 0 ≤ lastPlace) ⌝ }
+    ensures { λ r. ⌜ (r ≡ leastGaps (now (gap .entry)) (now (turn .entry)) from to) × (r ≤ mostGaps) ⌝ }
+{
+    let mut sum: u64 = 0;
+    let mut h: usize = 0;
+    while h < HOURS {
+        let place = smaller(larger(turn[h], from[h]), to[h]);
+        sum += gap[h * ROW + (place as usize)] as u64;
+        h += 1;
+    }
+    sum
+}

@@ -1,0 +1,288 @@
+-- THE REACH OF A BRANCH: the places of a lawful completion lie in it, so a branch is dropped where some hour has no place to balance, or where the least
+-- gaps in it come to too much. Assumes nothing.
+use Prim.Native.Nat.{ℕ, zero, suc, _+_, _-_, _≤_, _<_}
+use mathlib.Core.Path.{_≡_, refl, sym, _∙_}
+use mathlib.Core.List.{List, [], _∷_, _++_}
+use mathlib.Core.Bool.{Bool, true, false, not, _||_}
+use native.Mathlib.Omega.{arith}
+use native.Mathlib.Decide.{decLe}
+use native.Mathlib.Nat.{lt-of-not-le, suc-inj}
+use lib.Dec.{leb}
+use lib.ListN.{length, drop, getD, length-append, List·getD-append}
+use borrow.Author.Tests.{eq-eqb}
+use Rattle.rules.specs.Orders.{Side}
+use Rattle.rules.specs.Execution.{testSide}
+use Rattle.rules.specs.Day.{Day, taken, hourOf, priceSum, lawful}
+use Rattle.rules.specs.Contender.{Counts}
+use Rattle.rules.proofs.Tests.{by-test, clash}
+use Rattle.rules.proofs.NeighbourLaws.{slack}
+use Rattle.rules.proofs.BoundLaws.{gain}
+use Rattle.rules.proofs.LossLaws.{against, losses, bound-with}
+use Rattle.rules.proofs.SetBits.{bits-at}
+use Rattle.rules.proofs.PlaceLaws.{place, place-none, place-split, pricesAt}
+use Rattle.rules.proofs.TwinLaws.{block-at}
+use Rattle.rules.proofs.LawCutLaws.{couldKeep, taken-could}
+use Rattle.places.specs.Layout.{dayHours, lastPlace}
+use Rattle.places.specs.Hours.{Small, sumOfHours, cell, ofHour, PricesOf, nearest, leastGaps}
+use Rattle.places.specs.Blocks.{sideAt, hoursAt, limitAt, rowQuantity, keepsAt, allKeep, addedIn}
+use Rattle.places.specs.Reach.{isOut, mustFrom, mayFrom, RestOf, ReachOf}
+use Rattle.search.specs.Decisions.{isRuledOut}
+use Rattle.search.specs.Meaning.{Shown, Known, Branch, lossAbove, At, DroppedFrom, JudgedFrom}
+use Rattle.search.specs.Tables.{Tables}
+use Rattle.places.proofs.NumberLaws.{larger-least, larger-above, smaller-most, smaller-below, nearest-least}
+use Rattle.places.proofs.LimitLaws.{all-keep}
+use Rattle.places.proofs.ReachLaws.{taken-adds, left-adds, to-fits}
+use Rattle.search.proofs.CountsOnce.{sumTo-in, sumTo-add, daySum-plain}
+use Rattle.search.proofs.TradedLaws.{sells-at, buys-at}
+use Rattle.search.proofs.DecidedLaws.{noBlock, price-at-table, lawful-place, gap-of-lawful, rest-below}
+use Rattle.search.specs.declared.Node.{Node}
+
+-- THE PLACE OF THE REST at a loss below the limit, where it takes no block that is out
+module _ {day : Day} {p rest : ℕ → ℕ} {tables : Tables} (known : Known day p rest tables)
+    (at out loss limit h : ℕ) (hour-first : 1 ≤ h) (hour-last : h ≤ dayHours) where
+  abbrev must : ℕ → ℕ → ℕ
+  must = addedIn (tables .blocks) (mustFrom (tables .blocks) at out loss limit) h
+
+  abbrev may : ℕ → ℕ → ℕ
+  may = addedIn (tables .blocks) (mayFrom (tables .blocks) at out loss limit) h
+
+  -- none of the blocks from number i on that is out is taken
+  abbrev Avoids : ℕ → ℕ → List Bool → Type 0
+  Avoids n i t = (k : ℕ) → k < n → isOut out (i - at + k) ≡ true → getD t k false ≡ false
+
+  avoids-next : (n i : ℕ) (x : Bool) (t : List Bool) → at ≤ i → Avoids (suc n) i (x ∷ t) → Avoids n (suc i) t
+  avoids-next n i x t le f k inside is =
+      let e : suc i - at + k ≡ i - at + suc k = omega arith in
+      f (suc k) (omega arith) (rw e at is)
+
+  first-not-out : (n i : ℕ) (t : List Bool) → Avoids (suc n) i (true ∷ t) → isOut out (i - at) ≡ false
+  first-not-out n i t f =
+      let e : i - at + 0 ≡ i - at = omega arith in
+      by-test (λ u. isOut out (i - at) ≡ u → u ≡ false) (isOut out (i - at)) (λ is _. clash refl (f 0 (omega arith) (rw e is))) (λ _ _. refl) refl
+
+  pub rest-within : (n i : ℕ) (t : List Bool) → at ≤ i → i + n ≡ tables .count → length t ≡ n → Avoids n i t →
+      loss + losses (day .hours) p (drop i (day .blocks)) t < limit →
+      (must n i ≤ place (drop i (day .blocks)) t h) × (place (drop i (day .blocks)) t h ≤ must n i + may n i)
+  unfolding addedIn place losses
+  rest-within zero i [] le e l f k = let none = place-none (drop i (day .blocks)) h in (omega arith, omega arith)
+  rest-within zero i (x ∷ t) le e l f k = absurd (omega arith)
+  rest-within (suc n) i [] le e l f k = absurd (omega arith)
+  rest-within (suc n) i (true ∷ t) le e l f k =
+      let s = known .shown i (omega arith) in
+      let k′ : loss + (against (day .hours) p (s .block) + losses (day .hours) p (drop (suc i) (day .blocks)) t) < limit = rw (s .next) at k in
+      let one = taken-adds (tables .blocks) (isOut out (i - at)) loss limit i (rowQuantity (tables .blocks) i h) (first-not-out n i t f) (omega (arith, s .againstIs)) in
+      let more = rest-within n (suc i) t (omega arith) (omega arith) (suc-inj l) (avoids-next n i true t le f) (omega arith) in
+      let adds = sells-at s h hour-first hour-last in
+      rw (s .next) (omega arith, omega arith)
+  rest-within (suc n) i (false ∷ t) le e l f k =
+      let s = known .shown i (omega arith) in
+      let k′ : loss + (gain (day .hours) p (s .block) + losses (day .hours) p (drop (suc i) (day .blocks)) t) < limit = rw (s .next) at k in
+      let one = left-adds (tables .blocks) (isOut out (i - at)) loss limit i (rowQuantity (tables .blocks) i h) (omega (arith, s .gainIs)) in
+      let more = rest-within n (suc i) t (omega arith) (omega arith) (suc-inj l) (avoids-next n i false t le f) (omega arith) in
+      let adds = buys-at s h hour-first hour-last in
+      rw (s .next) (omega arith, omega arith)
+
+-- LIMITS AT THE BEST PRICES WITHIN REACH, by the columns
+same-could : (side side′ : Side) (floor floor′ cap cap′ limit limit′ : ℕ) → side ≡ side′ → floor ≡ floor′ → cap ≡ cap′ → limit ≡ limit′ →
+    testSide side (leb floor limit) (leb limit cap) ≡ testSide side′ (leb floor′ limit′) (leb limit′ cap′)
+same-could side side′ floor floor′ cap cap′ limit limit′ a b c d = rw (a, b, c, d)
+
+module _ {day : Day} {p rest : ℕ → ℕ} {tables : Tables} (known : Known day p rest tables)
+    {from to high lowest : List ℕ} (priced-high : PricesOf (tables .unitPrices) from high) (priced-low : PricesOf (tables .unitPrices) to lowest)
+    (from-fits : (h : ℕ) → 1 ≤ h → h ≤ dayHours → ofHour from h ≤ lastPlace) (to-fits : (h : ℕ) → 1 ≤ h → h ≤ dayHours → ofHour to h ≤ lastPlace)
+    {j : ℕ} (s : Shown day p (tables .blocks) j) where
+  -- the sum of prices at places, by the table
+  sum-same : (at prices : List ℕ) → PricesOf (tables .unitPrices) at prices → ((h : ℕ) → 1 ≤ h → h ≤ dayHours → ofHour at h ≤ lastPlace) →
+      priceSum (day .hours) (pricesAt day (ofHour at)) (s .block) ≡ sumOfHours prices (hoursAt (tables .blocks) j)
+  unfolding priceSum sumOfHours
+  sum-same at prices priced fits =
+      daySum-plain (day .hours) _
+      ∙ sumTo-in dayHours _ _ (λ h a b. rw (s .runsIs h, ← (price-at-table known priced h a b (fits h a b))))
+
+  could-same : keepsAt (sideAt (tables .blocks) j) (hoursAt (tables .blocks) j) (limitAt (tables .blocks) j) high lowest
+      ≡ couldKeep (day .hours) (pricesAt day (ofHour from)) (pricesAt day (ofHour to)) (s .block)
+  unfolding keepsAt couldKeep
+  could-same =
+      sym (same-could _ _ _ _ _ _ _ _ (s .sideIs) (sum-same to lowest priced-low to-fits) (sum-same from high priced-high from-fits) (s .limitIs))
+
+-- a bound that holds where a number is below it holds
+unless : (limit n : ℕ) → (n < limit → limit ≤ n) → limit ≤ n
+unless limit n f = elim (decLe limit n) [
+  | yes k ↦ k
+  | no k ↦ f (lt-of-not-le k)
+]
+
+-- behind the first list stands the second
+getD-behind : (d t : List Bool) (j : ℕ) → getD (d ++ t) (length d + j) false ≡ getD t j false
+getD-behind [] t j = let e : 0 + j ≡ j = omega arith in rw e
+getD-behind (x ∷ d) t j = let e : suc (length d) + j ≡ suc (length d + j) = omega arith in rw e (getD-behind d t j)
+
+either-out : (was keeps : Bool) → keeps ≡ true → (was || not keeps) ≡ true → was ≡ true
+either-out true keeps k e = refl
+either-out false keeps k e = clash e (rw k)
+
+-- ONE LAW FOR EACH REASON to drop a branch
+module _ {tables : Tables} {left out : ℕ} {node : Node} {limit : ℕ} where
+  -- the decided blocks lose as much already
+  pub dropped-by-loss : limit ≤ node .loss → DroppedFrom tables left out node limit
+  unfolding lossAbove
+  dropped-by-loss k day p rest d t at l law =
+      omega (
+        arith,
+        at .branch .lossIs,
+        bound-with day p d t 0 rest (omega arith) (rest-below (at .known) (d ++ t) (length-append d t ∙ rw l (at .size)) law),
+      )
+
+  -- a branch that is dropped, and one that is not looked into
+  pub judged-dropped : {r : ℕ} → DroppedFrom tables left out node limit →
+      JudgedFrom tables left out node limit true r
+  judged-dropped drop = record { dropped = λ _. drop; outOf = λ z. clash refl z }
+
+  pub judged-as-it-was : JudgedFrom tables left out node limit false out
+  judged-as-it-was = record { dropped = λ z. clash z refl; outOf = λ _ day p rest d at. at .outOf }
+
+  module _ {least free : List ℕ} (added : RestOf (tables .blocks) (tables .count) (tables .count - left) out (node .loss) limit (node .places) least free)
+      {balances : Bool} {from to : List ℕ} (reach : ReachOf (tables .first) (tables .last) least free balances from to) where
+    -- a lawful completion that loses less has its places from `from` to `to`
+    module _ {day : Day} {p rest : ℕ → ℕ} {d : List Bool} (t : List Bool) (at : At tables left node limit out day p rest d)
+        (l : length t ≡ left) (law : lawful day (d ++ t) ≡ true) where
+      known : Known day p rest tables
+      known = at .known
+
+      branch : Branch day p d node
+      branch = at .branch
+
+      size : length d + left ≡ tables .count
+      size = at .size
+
+      whole : length (d ++ t) ≡ tables .count
+      whole = length-append d t ∙ rw l size
+
+      rest-loses : lossAbove day p rest (d ++ t) < limit → node .loss + losses (day .hours) p (drop (length d) (day .blocks)) t < limit
+      unfolding lossAbove
+      rest-loses k =
+          omega (
+            arith,
+            branch .lossIs,
+            bound-with day p d t (losses (day .hours) p (drop (length d) (day .blocks)) t) rest (omega arith)
+                (rest-below known (d ++ t) whole law),
+          )
+
+      in-reach : lossAbove day p rest (d ++ t) < limit → (h : ℕ) → 1 ≤ h → h ≤ dayHours →
+          (ofHour from h ≤ place (day .blocks) (d ++ t) h) × (place (day .blocks) (d ++ t) h ≤ ofHour to h)
+      in-reach k h a b =
+          let here : tables .count - left ≡ length d = omega arith in
+          let after : tables .count - length d ≡ left = omega arith in
+          let range = lawful-place known (d ++ t) whole law h a b in
+          let avoids : (j : ℕ) → j < left → isOut out (length d - length d + j) ≡ true → getD t j false ≡ false = λ j inside is.
+          let e : length d - length d + j ≡ j = omega arith in
+          at .outOf t j l law k inside (rw e at is) in
+          let within = rest-within known (length d) out (node .loss) limit h a b left (length d) t (omega arith) size l avoids (rest-loses k) in
+          let must = rw (here, after) at (added .leastIs h a b) in
+          let may = rw (here, after) at (added .freeIs h a b) in
+          let split = place-split (day .blocks) d t h in
+          let is = branch .placesAre h a b in (
+            rw (reach .fromIs h a b) (larger-least (ofHour least h) (ofHour (tables .first) h) _ (omega arith) (range .0)),
+            rw (reach .toIs h a b) (smaller-most (ofHour least h + ofHour free h) (ofHour (tables .last) h) _ (omega arith) (range .1)),
+          )
+
+      -- its gaps are at least the least gaps there
+      gaps-least : lossAbove day p rest (d ++ t) < limit → node .loss + leastGaps (tables .gaps) (tables .turn) from to ≤ lossAbove day p rest (d ++ t)
+      unfolding lossAbove leastGaps
+      gaps-least k =
+          let g : ℕ → ℕ = λ h. cell (tables .gaps) h (nearest (ofHour (tables .turn) h) (ofHour from h) (ofHour to h)) in
+          omega (
+            arith,
+            branch .lossIs,
+            bound-with day p d t 0 (λ h. g h + rest h) (omega arith) gap-least,
+            daySum-plain (day .hours) (λ h. g h + rest h),
+            sumTo-add dayHours g rest,
+            daySum-plain (day .hours) rest,
+          )
+        where
+          gap-least : (h : ℕ) → Counts (day .hours) h →
+              cell (tables .gaps) h (nearest (ofHour (tables .turn) h) (ofHour from h) (ofHour to h)) + rest h ≤ slack (p h) (hourOf day (taken (day .blocks) (d ++ t)) h)
+          gap-least h c =
+              let a = c .first in
+              let b = c .last in
+              let r = in-reach k h a b in
+              let above = larger-above (ofHour least h) (ofHour (tables .first) h) .1 in
+              let below = smaller-below (ofHour least h + ofHour free h) (ofHour (tables .last) h) .1 in
+              let from-is = reach .fromIs h a b in
+              let to-is = reach .toIs h a b in
+              omega (
+                arith,
+                gap-of-lawful known (d ++ t) whole law h c,
+                nearest-least (λ i. cell (tables .gaps) h i) (ofHour (tables .turn) h) (ofHour from h) (ofHour to h) (place (day .blocks) (d ++ t) h) (r .0) (r .1)
+                    (λ x y i j z w. at .turning .falls h x y a b (omega arith) j (omega arith) w)
+                    (λ x y i j z w. at .turning .rises h x y a b (omega arith) j (omega arith) w),
+              )
+
+      -- each of its blocks keeps its limit at the best prices there
+      block-could : {high lowest : List ℕ} → PricesOf (tables .unitPrices) from high → PricesOf (tables .unitPrices) to lowest → balances ≡ true → Small lastPlace (tables .last) →
+          lossAbove day p rest (d ++ t) < limit → (j : ℕ) → j < tables .count → getD (d ++ t) j false ≡ true →
+          keepsAt (sideAt (tables .blocks) j) (hoursAt (tables .blocks) j) (limitAt (tables .blocks) j) high lowest ≡ true
+      block-could ph pl e small k j inside set-bit =
+          let s = known .shown j inside in
+          let could = taken-could day (known .prices) (known .hours) (d ++ t) (whole ∙ sym (known .counted)) law (ofHour from) (ofHour to)
+          record { from = λ h c. in-reach k h (c .first) (c .last) .0; to = λ h c. in-reach k h (c .first) (c .last) .1 }
+          j noBlock (omega (arith, known .counted)) set-bit in
+          could-same known ph pl (fits-in .0) (fits-in .1) s
+          ∙ rw (block-at (day .blocks) j (s .block) _ noBlock (s .next)) at could
+        where
+          fits-in : ((h : ℕ) → 1 ≤ h → h ≤ dayHours → ofHour from h ≤ lastPlace) × ((h : ℕ) → 1 ≤ h → h ≤ dayHours → ofHour to h ≤ lastPlace)
+          fits-in = (
+            λ h a b.
+                let below = smaller-below (ofHour least h + ofHour free h) (ofHour (tables .last) h) .1 in
+                omega (arith, reach .balanced e h a b, reach .toIs h a b, small (h - 1)),
+            λ h a b.
+                let below = smaller-below (ofHour least h + ofHour free h) (ofHour (tables .last) h) .1 in
+                omega (arith, reach .toIs h a b, small (h - 1)),
+          )
+
+      -- the decided ones, and one of the rest
+      decided-could : {high lowest : List ℕ} → PricesOf (tables .unitPrices) from high → PricesOf (tables .unitPrices) to lowest → balances ≡ true → Small lastPlace (tables .last) →
+          lossAbove day p rest (d ++ t) < limit → allKeep (tables .blocks) (node .set) high lowest (tables .count - left) ≡ true
+      decided-could {high} {lowest} ph pl e small k =
+          all-keep (tables .blocks) (node .set) high lowest (tables .count - left) (λ j m bit.
+          let here : j < length d = omega (arith, size) in
+          block-could ph pl e small k j (omega arith)
+          (List·getD-append d t false j here ∙ rw (← (branch .setIs)) (bits-at (length d) (node .set) j here ∙ eq-eqb _ 1 bit)))
+
+      rest-could : {high lowest : List ℕ} → PricesOf (tables .unitPrices) from high → PricesOf (tables .unitPrices) to lowest → balances ≡ true → Small lastPlace (tables .last) →
+          lossAbove day p rest (d ++ t) < limit → (j : ℕ) → j < left → getD t j false ≡ true →
+          keepsAt (sideAt (tables .blocks) (tables .count - left + j)) (hoursAt (tables .blocks) (tables .count - left + j)) (limitAt (tables .blocks) (tables .count - left + j)) high lowest ≡ true
+      rest-could ph pl e small k j inside bit =
+          let here : tables .count - left ≡ length d = omega (arith, size) in
+          block-could ph pl e small k (tables .count - left + j) (omega (arith, size)) (rw here (getD-behind d t j ∙ bit))
+
+    -- some hour can no longer balance
+    pub dropped-unbalanced : balances ≡ false → DroppedFrom tables left out node limit
+    dropped-unbalanced e day p rest d t at l law =
+        unless _ _ (λ k. absurd (reach .unbalanced e (λ h a b.
+        let r = in-reach t at l law k h a b in omega arith)))
+
+    -- the least gaps within reach come to as much
+    pub dropped-by-gaps : limit ≤ node .loss + leastGaps (tables .gaps) (tables .turn) from to → DroppedFrom tables left out node limit
+    dropped-by-gaps z day p rest d t at l law = unless _ _ (λ k. absurd (omega (arith, gaps-least t at l law k)))
+
+    -- a taken block misses its limit at the best prices within reach
+    pub dropped-by-limit : {high lowest : List ℕ} → PricesOf (tables .unitPrices) from high → PricesOf (tables .unitPrices) to lowest → balances ≡ true → Small lastPlace (tables .last) →
+        allKeep (tables .blocks) (node .set) high lowest (tables .count - left) ≡ false → DroppedFrom tables left out node limit
+    dropped-by-limit ph pl e small misses day p rest d t at l law =
+        unless _ _ (λ k. clash (decided-could t at l law ph pl e small k) misses)
+
+    -- WHAT IS OUT: what was before, and an undecided block that misses its limit at the best prices within reach
+    pub judged-open : {high lowest : List ℕ} → PricesOf (tables .unitPrices) from high → PricesOf (tables .unitPrices) to lowest → balances ≡ true → Small lastPlace (tables .last) → left ≤ tables .count → {r : ℕ} →
+        ((k : ℕ) → k < tables .count - (tables .count - left) → isOut r k ≡ isRuledOut (tables .blocks) (tables .count - left + k) (isOut out k) high lowest) →
+        JudgedFrom tables left out node limit false r
+    unfolding isRuledOut
+    judged-open ph pl e small le is = record {
+      dropped = λ z. clash z refl;
+      outOf = λ _ day p rest d at t k l law less inside ruled.
+          by-test (λ u. getD t k false ≡ u → u ≡ false) (getD t k false)
+          (λ bit _.
+          let keeps = rest-could t at l law ph pl e small less k inside bit in
+          clash (sym (at .outOf t k l law less inside (either-out (isOut out k) _ keeps (sym (is k (omega arith)) ∙ ruled))) ∙ bit) refl)
+          (λ _ _. refl) refl;
+    }

@@ -1,0 +1,133 @@
+-- `search::decide::decide` meets its contract: one law for each way out. Assumes nothing.
+use mathlib.Core.Path.{_≡_, sym, _∙_}
+use lib.ListN.{length}
+use native.Mathlib.Omega.{arith}
+use borrow.Author.Tests.{not-true, not-false}
+use Rattle.places.specs.Layout.{dayHours}
+use Rattle.places.specs.Hours.{clearsFirst, clearsLast}
+use Rattle.places.proofs.CellLaws.{places-small}
+use Rattle.search.proofs.DecidedLaws.{decided-unclear, decided-worse, decided-broken, decided-better}
+use borrow.Author.Needs.{needs}
+use Rattle.search.proofs.decide.decide.Statement.{statement}
+use Rattle.search.proofs.decide.decide.Tie as tie
+
+-- THE STATES on the way: the start behind the gaps, the gaps behind an hour's clearing, that behind a lower loss, that behind the prices, the prices
+-- behind the limits
+abbrev start : tie.After-gaps-at-arg2 → tie.Start
+start c = c .before .before .before .before .before .before .before .before .before .before .before
+
+abbrev gaps : tie.Else1 → tie.After-gaps-at
+gaps c = c .before .before
+
+abbrev clear : tie.Else2 → tie.Else1
+clear c = c .before .before .before .before
+
+abbrev priced : tie.After-keeps-limits → tie.After-prices-at
+priced c = c .before .before .before
+
+-- an array of 24
+size : (s : tie.Start) → length (s .args .node .places) ≡ dayHours
+size s = search needs
+
+sub-gaps-at : tie.Need-sub-gaps-at
+sub-gaps-at c = search needs
+
+part-gaps-at-start : tie.Need-part-gaps-at-start
+part-gaps-at-start c = search needs
+
+part-gaps-at-end : tie.Need-part-gaps-at-end
+part-gaps-at-end c = search needs
+
+sub-gaps-at-2 : tie.Need-sub-gaps-at-2
+sub-gaps-at-2 c = search needs
+
+part-gaps-at-start-2 : tie.Need-part-gaps-at-start-2
+part-gaps-at-start-2 c = search needs
+
+part-gaps-at-end-2 : tie.Need-part-gaps-at-end-2
+part-gaps-at-end-2 c = search needs
+
+gaps-at-requires : tie.Need-gaps-at-requires
+gaps-at-requires c κs = let s = start c .pre .0 in (s .gapRows, s .firstHours, s .lastHours, s .lastFits)
+
+returns : tie.Need-returns
+returns c = decided-unclear (c .before .before .gaps-at .ensures) (not-true _ (c .if1 .taken))
+
+add-total : tie.Need-add-total
+add-total c = let g = gaps (c .before .before) in omega (arith, g .gaps-at .ensures .fits, start (g .before) .pre .4)
+
+returns-2 : tie.Need-returns-2
+returns-2 c =
+    let clears = c .before .before .before .before in
+    decided-worse (gaps clears .gaps-at .ensures) (not-false _ (clears .if1 .left)) (c .if2 .taken)
+
+prices-at-requires : tie.Need-prices-at-requires
+prices-at-requires c κs =
+    let g = gaps (clear c) in
+    let s = start (g .before) in (
+      s .pre .0 .priceRows,
+      s .pre .0 .pricesFit,
+      places-small (clearsFirst (s .args .hours .now)) (clearsLast (s .args .hours .now)) (s .args .node .places)
+          (g .gaps-at .ensures .inRange (not-false _ (clear c .if1 .left))) (s .pre .0 .lastFits) (size s),
+    )
+
+slice-aggregate-keeps-limits : tie.Need-slice-aggregate-keeps-limits
+slice-aggregate-keeps-limits c = search needs
+
+slice-aggregate-keeps-limits-2 : tie.Need-slice-aggregate-keeps-limits-2
+slice-aggregate-keeps-limits-2 c = search needs
+
+keeps-limits-requires : tie.Need-keeps-limits-requires
+keeps-limits-requires c κs =
+    let s = start (gaps (clear (c .before .before .before)) .before) in
+    (s .pre .0 .blocksFit .columns, s .pre .0 .few, search needs, search needs)
+
+returns-3 : tie.Need-returns-3
+returns-3 c =
+    let p = priced (c .before) in
+    let clears = clear (p .before) in
+    decided-broken (gaps clears .gaps-at .ensures) (not-false _ (clears .if1 .left)) (p .prices-at .ensures)
+    (sym (c .before .keeps-limits .ensures) ∙ not-true _ (c .if3 .taken))
+
+set-trades-requires : tie.Need-set-trades-requires
+set-trades-requires c κs =
+    let s = start (gaps (clear (priced (c .before) .before)) .before) in
+    (s .pre .0 .blocksFit, s .pre .0 .few)
+
+hours-traded-requires : tie.Need-hours-traded-requires
+hours-traded-requires c κs =
+    let s = start (gaps (clear (priced (c .before .before) .before)) .before) in
+    (s .pre .2, s .pre .3, c .set-trades .ensures .purchasesFit)
+
+returns-4 : tie.Need-returns-4
+returns-4 c =
+    let kept = c .before .before in
+    let p = priced (kept .before) in
+    let less = p .before in
+    let clears = clear less in
+    decided-better (gaps clears .gaps-at .ensures) (not-false _ (clears .if1 .left)) (p .prices-at .ensures)
+    (sym (kept .before .keeps-limits .ensures) ∙ not-false _ (kept .if3 .left)) (less .if2 .left) (c .before .set-trades .ensures)
+    (c .hours-traded .ensures)
+
+pub decide-spec : {M : Type 1} → statement M
+decide-spec =
+    tie.close
+    (tie.spec
+    sub-gaps-at
+    part-gaps-at-start
+    part-gaps-at-end
+    sub-gaps-at-2
+    part-gaps-at-start-2
+    part-gaps-at-end-2
+    gaps-at-requires
+    returns
+    add-total
+    returns-2
+    prices-at-requires
+    slice-aggregate-keeps-limits
+    slice-aggregate-keeps-limits-2
+    keeps-limits-requires
+    returns-3
+    set-trades-requires
+    hours-traded-requires
+    returns-4)

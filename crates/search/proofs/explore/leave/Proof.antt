@@ -1,0 +1,57 @@
+-- `search::explore::leave` meets its contract: the loss and the places of the node with the block left out. Assumes nothing.
+use Prim.Native.Nat.{_+_}
+use native.Mathlib.Omega.{arith}
+use Rattle.places.specs.Layout.{gainColumn}
+use Rattle.search.proofs.BranchLaws.{node-left}
+use borrow.Author.Needs.{needs}
+use Rattle.search.proofs.explore.leave.Statement.{statement}
+use Rattle.search.proofs.explore.leave.Tie as tie
+
+mul-moved-where : tie.Need-mul-moved-where
+mul-moved-where c = search needs
+
+shared-slice-read-moved-where : tie.Need-shared-slice-read-moved-where
+shared-slice-read-moved-where c = search needs
+
+moved-where-requires : tie.Need-moved-where-requires
+moved-where-requires c κs =
+    let a = c .before .before .before in
+    (a .pre .0, a .pre .1, λ i. omega (arith, a .pre .1, a .pre .2 .placesFit i))
+
+add-t7 : tie.Need-add-t7
+add-t7 c = search needs
+
+mul-t11 : tie.Need-mul-t11
+mul-t11 c = search needs
+
+shared-slice-read-t9 : tie.Need-shared-slice-read-t9
+shared-slice-read-t9 c = search needs
+
+cast-t13 : tie.Need-cast-t13
+cast-t13 c = omega (arith, c .shared-slice-known3 .given (gainColumn + c .before .before .before .before .before .args .at))
+
+add-t14 : tie.Need-add-t14
+add-t14 c =
+    let a = c .before .before .before .before .before .before in
+    omega (arith, c .before .shared-slice-known3 .given (gainColumn + a .args .at), a .pre .2 .lossFits, a .pre .1)
+
+returns : tie.Need-returns
+returns c =
+    let a = c .before .before .before .before .before .before in
+    let m = c .before .before .moved-where .ensures in
+    node-left _ _ _ _ (a .pre .0) (a .pre .2) (m .0)
+    (omega (arith, c .before .shared-slice-known3 .given (gainColumn + a .args .at))) (m .1)
+
+pub leave-spec : {M : Type 1} → statement M
+leave-spec =
+    tie.close
+    (tie.spec
+    mul-moved-where
+    shared-slice-read-moved-where
+    moved-where-requires
+    add-t7
+    mul-t11
+    shared-slice-read-t9
+    cast-t13
+    add-t14
+    returns)

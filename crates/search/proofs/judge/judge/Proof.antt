@@ -1,0 +1,177 @@
+-- `search::judge::judge` meets its contract: one law for each reason to drop a branch, and one for what is out of it. Assumes nothing.
+use mathlib.Core.Path.{_≡_, sym, _∙_}
+use lib.ListN.{length, length-take, length-drop}
+use native.Mathlib.Omega.{arith}
+use borrow.Author.Tests.{not-true, not-false}
+use Rattle.places.specs.Layout.{dayHours}
+use Rattle.places.specs.Hours.{gapsTurn}
+use Rattle.search.proofs.DropLaws.{dropped-by-loss, dropped-unbalanced, dropped-by-gaps, dropped-by-limit, judged-dropped, judged-as-it-was, judged-open}
+use Rattle.places.proofs.ReachLaws.{to-fits, to-small, from-small}
+use borrow.Author.Needs.{needs}
+use Rattle.search.proofs.judge.judge.Statement.{statement}
+use Rattle.search.proofs.judge.judge.Tie as tie
+
+-- THE STATES on the way: the start behind the places within reach, these behind an hour's balance, that behind the least gaps, these behind the prices
+-- within reach, these behind the limits
+abbrev start : tie.After-places → tie.Start
+start c = c .before .before .before .before .before .before .before .before .before
+
+abbrev reached : tie.Else3 → tie.After-reach-at
+reached c = c .before .before
+
+abbrev balanced : tie.After-least-gaps-arg → tie.Else3
+balanced c = c .before .before .before
+
+abbrev bounded : tie.Else4 → tie.After-least-gaps
+bounded c = c .before .before
+
+abbrev priced : tie.After-keeps-limits → tie.After-prices-at2
+priced c = c .before .before .before
+
+-- from the prices back to an hour's balance
+abbrev back : tie.After-prices-at2 → tie.Else3
+back c = balanced (bounded (c .before .before) .before)
+
+-- arrays of 24
+from-size : (f : tie.After-reach-at) → length (f .reach-at .result .from) ≡ dayHours
+from-size f = search needs
+
+to-size : (f : tie.After-reach-at) → length (f .reach-at .result .to) ≡ dayHours
+to-size f = search needs
+
+turn-size : (s : tie.Start) → length (gapsTurn (s .args .hours .now)) ≡ dayHours
+turn-size s = simp (length-take, length-drop) (omega (arith, s .pre .1))
+
+returns : tie.Need-returns
+returns c = judged-dropped (dropped-by-loss (c .if1 .taken))
+
+sub-at : tie.Need-sub-at
+sub-at c = search needs
+
+cast-at : tie.Need-cast-at
+cast-at c = search needs
+
+is-forced-requires : tie.Need-is-forced-requires
+is-forced-requires c κs =
+    let p = c .before .before .before .before .before .before .pre in
+    (p .0 .blocksFit, omega (arith, p .0 .few), omega (arith, p .3 .lossFits, p .0 .few))
+
+returns-2 : tie.Need-returns-2
+returns-2 c = judged-as-it-was
+
+reach-at-requires : tie.Need-reach-at-requires
+reach-at-requires c κs =
+    let p = start c .pre in
+    (p .0 .blocksFit, p .1, p .0 .few, omega arith, omega (arith, p .3 .lossFits, p .0 .few), p .3 .placesFit)
+
+returns-3 : tie.Need-returns-3
+returns-3 c =
+    let r = c .before .before .reach-at .ensures in
+    judged-dropped (dropped-unbalanced (r .rest) (r .reach) (not-true _ (c .if3 .taken)))
+
+sub-least-gaps : tie.Need-sub-least-gaps
+sub-least-gaps c = search needs
+
+part-least-gaps-start : tie.Need-part-least-gaps-start
+part-least-gaps-start c = search needs
+
+part-least-gaps-end : tie.Need-part-least-gaps-end
+part-least-gaps-end c = search needs
+
+least-gaps-requires : tie.Need-least-gaps-requires
+least-gaps-requires c κs =
+    let r = reached (balanced c) in
+    let s = start (r .before) in
+    (s .pre .0 .gapRows, turn-size s, to-fits (r .reach-at .ensures .reach) (s .pre .0 .lastFits))
+
+add-if4 : tie.Need-add-if4
+add-if4 c =
+    let p = start (reached (balanced (c .before .before)) .before) .pre in
+    omega (arith, c .before .least-gaps .ensures .1, p .3 .lossFits, p .0 .few)
+
+returns-4 : tie.Need-returns-4
+returns-4 c =
+    let g = c .before .before in
+    let r = reached (balanced (g .before)) .reach-at .ensures in
+    judged-dropped (dropped-by-gaps (r .rest) (r .reach) (omega (arith, c .if4 .taken, g .least-gaps .ensures .0)))
+
+prices-at-requires : tie.Need-prices-at-requires
+prices-at-requires c κs =
+    let b = balanced (bounded c .before) in
+    let r = reached b in
+    let p = start (r .before) .pre .0 in
+    (p .priceRows, p .pricesFit, from-small (r .reach-at .ensures .reach) (p .lastFits) (not-false _ (b .if3 .left)) (from-size r))
+
+prices-at-requires-2 : tie.Need-prices-at-requires-2
+prices-at-requires-2 c κs =
+    let r = reached (balanced (bounded (c .before) .before)) in
+    let p = start (r .before) .pre .0 in
+    (p .priceRows, p .pricesFit, to-small (r .reach-at .ensures .reach) (p .lastFits) (to-size r))
+
+slice-aggregate-keeps-limits : tie.Need-slice-aggregate-keeps-limits
+slice-aggregate-keeps-limits c = search needs
+
+slice-aggregate-keeps-limits-2 : tie.Need-slice-aggregate-keeps-limits-2
+slice-aggregate-keeps-limits-2 c = search needs
+
+keeps-limits-requires : tie.Need-keeps-limits-requires
+keeps-limits-requires c κs =
+    let p = start (reached (back (c .before .before)) .before) .pre in
+    (p .0 .blocksFit .columns, omega (arith, p .0 .few), search needs, search needs)
+
+returns-5 : tie.Need-returns-5
+returns-5 c =
+    let prices = priced (c .before) in
+    let b = back prices in
+    let r = reached b in
+    judged-dropped (dropped-by-limit (r .reach-at .ensures .rest) (r .reach-at .ensures .reach) (prices .before .prices-at .ensures)
+    (prices .prices-at2 .ensures) (not-false _ (b .if3 .left)) (start (r .before) .pre .0 .lastFits)
+    (sym (c .before .keeps-limits .ensures) ∙ not-true _ (c .if5 .taken)))
+
+slice-aggregate-ruled-out : tie.Need-slice-aggregate-ruled-out
+slice-aggregate-ruled-out c = search needs
+
+slice-aggregate-ruled-out-2 : tie.Need-slice-aggregate-ruled-out-2
+slice-aggregate-ruled-out-2 c = search needs
+
+ruled-out-requires : tie.Need-ruled-out-requires
+ruled-out-requires c κs =
+    let p = start (reached (back (priced (c .before .before .before))) .before) .pre in
+    (p .0 .blocksFit .columns, p .0 .few, omega (arith, p .2), search needs, search needs)
+
+returns-6 : tie.Need-returns-6
+returns-6 c =
+    let prices = priced (c .before .before .before .before) in
+    let b = back prices in
+    let r = reached b in
+    let p = start (r .before) .pre in
+    judged-open (r .reach-at .ensures .rest) (r .reach-at .ensures .reach) (prices .before .prices-at .ensures) (prices .prices-at2 .ensures)
+    (not-false _ (b .if3 .left)) (p .0 .lastFits) (p .2) (c .ruled-out .ensures)
+
+pub judge-spec : {M : Type 1} → statement M
+judge-spec =
+    tie.close
+    (tie.spec
+    returns
+    sub-at
+    cast-at
+    is-forced-requires
+    returns-2
+    reach-at-requires
+    returns-3
+    sub-least-gaps
+    part-least-gaps-start
+    part-least-gaps-end
+    least-gaps-requires
+    add-if4
+    returns-4
+    prices-at-requires
+    prices-at-requires-2
+    slice-aggregate-keeps-limits
+    slice-aggregate-keeps-limits-2
+    keeps-limits-requires
+    returns-5
+    slice-aggregate-ruled-out
+    slice-aggregate-ruled-out-2
+    ruled-out-requires
+    returns-6)

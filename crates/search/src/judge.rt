@@ -1,0 +1,138 @@
+// A branch judged: whether it is dropped, and which of its undecided blocks are out.
+ghost use mathlib.Core.Path.{_≡_};
+ghost use Prim.Native.Nat.{ℕ, _+_, _-_, _≤_, _<_};
+ghost use lib.ListN.{length};
+ghost use Rattle.places.specs.Layout.{mostBlocks, mostLoss, hourListSize, blockListSize};
+ghost use Rattle.places.specs.Hours.{DayPrices};
+ghost use Rattle.places.specs.Blocks.{BlocksSized};
+ghost use Rattle.places.specs.Reach.{isOut};
+ghost use Rattle.search.specs.Decisions.{isForced, isRuledOut};
+ghost use Rattle.search.specs.Meaning.{Sized, Fits, JudgedFrom};
+ghost use Rattle.search.specs.Tables.{tablesOf};
+use crate::Node;
+use places::cells::least_gaps;
+use places::cells::prices_at;
+use places::layout::AGAINST;
+use places::layout::GAIN;
+use places::layout::HOUR_LIST;
+use places::layout::LIMIT;
+use places::layout::RUNS;
+use places::layout::TURN;
+use places::limits::keeps_limit;
+use places::limits::keeps_limits;
+use places::numbers::number_of;
+use places::reach::is_out;
+use places::reach::reach_at;
+
+// Whether undecided block i is out: it was before, or it misses its limit at the best prices within reach.
+fn is_ruled_out(blocks: &[u32], i: usize, was: bool, high: &[u32], low: &[u32]) -> bool
+    requires { ⌜ (length (now blocks) ≡ blockListSize) × (i < mostBlocks) × DayPrices (now high) × DayPrices (now low) ⌝ }
+    ensures { λ r. ⌜ r ≡ isRuledOut (now (blocks .entry)) i was (now (high .entry)) (now (low .entry)) ⌝ }
+{
+    if was {
+        return true;
+    }
+    !keeps_limit(blocks[i], blocks[RUNS + i], blocks[LIMIT + i], high, low)
+}
+
+// The undecided blocks that are out, from the last one on to the one at number at, whose bit is the lowest.
+fn ruled_out(blocks: &[u32], count: usize, at: usize, out: u32, high: &[u32], low: &[u32]) -> u32
+    requires { ⌜ (length (now blocks) ≡ blockListSize) × (count ≤ mostBlocks) × (at ≤ count) × DayPrices (now high) × DayPrices (now low) ⌝ }
+    ensures { λ r. ⌜ ((k : ℕ) → k < count - at → isOut r k ≡ isRuledOut (now (blocks .entry)) (at + k) (isOut out k) (now (high .entry)) (now (low .entry))) ⌝ }
+{
+    let mut r: u32 = 0;
+    let mut i = count;
+    while at < i {
+        i -= 1;
+        let test = is_ruled_out(blocks, i, is_out(out, i - at), high, low);
+        r = 2 * r + number_of(test);
+    }
+    r
+}
+
+// Whether the other way to decide the block that was decided last loses the limit or more: then what a branch can reach is as it was before that block.
+fn is_forced(blocks: &[u32], at: usize, set: u32, loss: u64, limit: u64) -> bool
+    requires { ⌜ BlocksSized (now blocks) × (at ≤ mostBlocks) × (loss ≤ mostLoss) ⌝ }
+    ensures { λ r. ⌜ r ≡ isForced (now (blocks .entry)) at set loss limit ⌝ }
+{
+    if at == 0 {
+        return false;
+    }
+    let i = at - 1;
+    let taken = (set >> (i as u32)) % 2 == 1;
+    let other = if taken {
+        blocks[GAIN + i]
+    } else {
+        blocks[AGAINST + i]
+    };
+    limit <= loss + (other as u64)
+}
+
+// Whether a branch is dropped, and its blocks that are out.
+pub struct Judged {
+    pub dropped: bool,
+    pub out: u32,
+}
+
+// A branch is dropped where no completion can be lawful and lose less than the limit: where the decided blocks lose as much already, where an hour can no
+// longer balance, where the least gaps within reach come to as much, or where a taken block misses its limit at the best prices within reach. An undecided
+// block that misses its limit there is out.
+pub fn judge(
+    unit_prices: &[u32],
+    gap: &[u32],
+    hours: &[u32],
+    blocks: &[u32],
+    count: u32,
+    left: u32,
+    out: u32,
+    node: Node,
+    limit: u64,
+) -> Judged
+    requires { ⌜ Sized (tablesOf (now «unit_prices») (now gap) (now hours) (now blocks) count) × (length (now hours) ≡ hourListSize)
+        × (left ≤ count) × Fits (count - left) node ⌝ }
+    ensures { λ r. ⌜ JudgedFrom (tablesOf (now («unit_prices» .entry)) (now (gap .entry)) (now (hours .entry)) (now (blocks .entry)) count)
+        left out node limit (r .dropped) (r .out) ⌝ }
+{
+    let drop = Judged {
+        dropped: true,
+        out: out,
+    };
+    if limit <= node.loss {
+        return drop;
+    }
+    let at = (count - left) as usize;
+    if is_forced(blocks, at, node.set, node.loss, limit) {
+        return Judged {
+            dropped: false,
+            out: out,
+        };
+    }
+    let places = node.places;
+    let reach = reach_at(
+        hours,
+        blocks,
+        count as usize,
+        at,
+        out,
+        node.loss,
+        limit,
+        places,
+    );
+    if !reach.balances {
+        return drop;
+    }
+    let from = reach.from;
+    let to = reach.to;
+    if limit <= node.loss + least_gaps(gap, &hours[TURN..HOUR_LIST], from, to) {
+        return drop;
+    }
+    let high = prices_at(unit_prices, from);
+    let lowest = prices_at(unit_prices, to);
+    if !keeps_limits(blocks, at, node.set, &high, &lowest) {
+        return drop;
+    }
+    Judged {
+        dropped: false,
+        out: ruled_out(blocks, count as usize, at, out, &high, &lowest),
+    }
+}

@@ -1,0 +1,66 @@
+// Written by `twin_source` from crates/places/src/layout.rt.
+// Where the search's tables and lists have what: their sizes, and the place at which each column begins. No code, no contract; the same numbers for the
+// contracts stand in specs/Layout.antt.
+
+// The hours of a day: the rows of a table, and what a column of the hours holds.
+pub const HOURS: usize = 24;
+
+// The most blocks of a book: what a column of the blocks holds.
+pub const MOST_BLOCKS: usize = 32;
+
+// The most that a block trades in an hour.
+pub const MOST_QUANTITY: usize = 50;
+
+// The most that all blocks trade in an hour: the last place that a set can have.
+pub const LAST_PLACE: usize = MOST_BLOCKS * MOST_QUANTITY;
+
+// THE TABLES: for each hour a row, hour 1 first.
+// A row: the places up to the last, and the one above it.
+pub const ROW: usize = LAST_PLACE + 2;
+
+// A table: 24 rows.
+pub const TABLE: usize = HOURS * ROW;
+
+// THE HOURS: three columns in one list.
+// The first place at which an hour clears.
+pub const FIRST: usize = 0;
+
+// The last place at which it clears.
+pub const LAST: usize = FIRST + HOURS;
+
+// The place of its least gap, where its gaps turn.
+pub const TURN: usize = LAST + HOURS;
+
+// The three columns.
+pub const HOUR_LIST: usize = TURN + HOURS;
+
+// THE BLOCKS: eight columns and the rows in one list.
+// The side: 0 buys.
+pub const SIDE: usize = 0;
+
+// The hours, as bits.
+pub const RUNS: usize = SIDE + MOST_BLOCKS;
+
+// The quantity in each of these hours.
+pub const QUANTITY: usize = RUNS + MOST_BLOCKS;
+
+// The limit: the price times the number of hours.
+pub const LIMIT: usize = QUANTITY + MOST_BLOCKS;
+
+// What a block loses if taken.
+pub const AGAINST: usize = LIMIT + MOST_BLOCKS;
+
+// What it loses if left out.
+pub const GAIN: usize = AGAINST + MOST_BLOCKS;
+
+// The twin that is taken before a block: its number and 1, or 0 for none.
+pub const AHEAD: usize = GAIN + MOST_BLOCKS;
+
+// The twin that is taken after it.
+pub const BEHIND: usize = AHEAD + MOST_BLOCKS;
+
+// The rows: what each block trades in each of the 24 hours.
+pub const BLOCK_ROWS: usize = BEHIND + MOST_BLOCKS;
+
+// The columns and the rows.
+pub const BLOCK_LIST: usize = BLOCK_ROWS + MOST_BLOCKS * HOURS;

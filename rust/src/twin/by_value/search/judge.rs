@@ -1,0 +1,120 @@
+// Written by `twin_source` from crates/search/src/judge.rt.
+// A branch judged: whether it is dropped, and which of its undecided blocks are out.
+use crate::twin::by_value::search::Node;
+use crate::twin::by_value::places::cells::least_gaps;
+use crate::twin::by_value::places::cells::prices_at;
+use crate::twin::by_value::places::layout::AGAINST;
+use crate::twin::by_value::places::layout::GAIN;
+use crate::twin::by_value::places::layout::HOUR_LIST;
+use crate::twin::by_value::places::layout::LIMIT;
+use crate::twin::by_value::places::layout::RUNS;
+use crate::twin::by_value::places::layout::TURN;
+use crate::twin::by_value::places::limits::keeps_limit;
+use crate::twin::by_value::places::limits::keeps_limits;
+use crate::twin::by_value::places::numbers::number_of;
+use crate::twin::by_value::places::reach::is_out;
+use crate::twin::by_value::places::reach::reach_at;
+
+// Whether undecided block i is out: it was before, or it misses its limit at the best prices within reach.
+fn is_ruled_out(blocks: &[u32], i: usize, was: bool, high: &[u32], low: &[u32]) -> bool
+{
+    if was {
+        return true;
+    }
+    !keeps_limit(blocks[i], blocks[RUNS + i], blocks[LIMIT + i], high, low)
+}
+
+// The undecided blocks that are out, from the last one on to the one at number at, whose bit is the lowest.
+fn ruled_out(blocks: &[u32], count: usize, at: usize, out: u32, high: &[u32], low: &[u32]) -> u32
+{
+    let mut r: u32 = 0;
+    let mut i = count;
+    while at < i {
+        i -= 1;
+        let test = is_ruled_out(blocks, i, is_out(out, i - at), high, low);
+        r = 2 * r + number_of(test);
+    }
+    r
+}
+
+// Whether the other way to decide the block that was decided last loses the limit or more: then what a branch can reach is as it was before that block.
+fn is_forced(blocks: &[u32], at: usize, set: u32, loss: u64, limit: u64) -> bool
+{
+    if at == 0 {
+        return false;
+    }
+    let i = at - 1;
+    let taken = (set >> (i as u32)) % 2 == 1;
+    let other = if taken {
+        blocks[GAIN + i]
+    } else {
+        blocks[AGAINST + i]
+    };
+    limit <= loss + (other as u64)
+}
+
+// Whether a branch is dropped, and its blocks that are out.
+#[derive(Clone, Copy)]
+pub struct Judged {
+    pub dropped: bool,
+    pub out: u32,
+}
+
+// A branch is dropped where no completion can be lawful and lose less than the limit: where the decided blocks lose as much already, where an hour can no
+// longer balance, where the least gaps within reach come to as much, or where a taken block misses its limit at the best prices within reach. An undecided
+// block that misses its limit there is out.
+pub fn judge(
+    unit_prices: &[u32],
+    gap: &[u32],
+    hours: &[u32],
+    blocks: &[u32],
+    count: u32,
+    left: u32,
+    out: u32,
+    node: Node,
+    limit: u64,
+) -> Judged
+{
+    let drop = Judged {
+        dropped: true,
+        out: out,
+    };
+    if limit <= node.loss {
+        return drop;
+    }
+    let at = (count - left) as usize;
+    if is_forced(blocks, at, node.set, node.loss, limit) {
+        return Judged {
+            dropped: false,
+            out: out,
+        };
+    }
+    let places = node.places;
+    let reach = reach_at(
+        hours,
+        blocks,
+        count as usize,
+        at,
+        out,
+        node.loss,
+        limit,
+        places,
+    );
+    if !reach.balances {
+        return drop;
+    }
+    let from = reach.from;
+    let to = reach.to;
+    if limit <= node.loss + least_gaps(gap, &hours[TURN..HOUR_LIST], from, to) {
+        return drop;
+    }
+    let high = prices_at(unit_prices, from);
+    let lowest = prices_at(unit_prices, to);
+    if !keeps_limits(blocks, at, node.set, &high, &lowest) {
+        return drop;
+    }
+    Judged {
+        dropped: false,
+        out: ruled_out(blocks, count as usize, at, out, &high, &lowest),
+    }
+}
