@@ -1,5 +1,6 @@
 -- `places::trades::hour_traded` meets its contract: the part of the columns is an hour's columns. Assumes nothing.
 use Rattle.places.proofs.StepLaws.{mid-slice, small-part, part-columns}
+use native.Mathlib.Omega.{arith}
 use borrow.Author.Needs.{needs}
 use Rattle.places.proofs.trades.hour_traded.Statement.{statement}
 use Rattle.places.proofs.trades.hour_traded.Tie as tie
@@ -41,7 +42,7 @@ traded-at-requires : tie.Need-traded-at-requires
 traded-at-requires c κs =
     let s = c .before .before .before .before .before .before in
     let p = s .pre .0 in
-    (part-columns _ _ _ _ _ p, small-part _ (s .args .from) (s .args .to) _ (p .ordered) (p .quantitiesFit), s .pre .1)
+    (part-columns _ _ _ _ _ p, small-part _ (s .args .from) (s .args .to) _ (p .ordered) (p .quantitiesFit), omega (arith, s .pre .1))
 
 returns : tie.Need-returns
 returns c =
