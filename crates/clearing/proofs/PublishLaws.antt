@@ -35,7 +35,7 @@ use Rattle.result.specs.Result.{bytesOf, hourRows, recordRows, beside, blockRow
 use Rattle.clearing.specs.Publish.{TradersSized, HoursDone, WorthOf, RowsOf, salesAt, buysAt, inTurn, getsAt}
 use Rattle.result.proofs.RowLaws.{records-same}
 use Rattle.places.proofs.StepLaws.{small-take}
-use Rattle.search.proofs.CountsOnce.{sumTo-in, daySum-plain}
+use Rattle.search.proofs.CountsOnce.{counts, in-each, sumTo-in, daySum-plain}
 use Rattle.result.proofs.RowsLaws.{
   hourAfterHour,
   publishedBlocks,
@@ -137,7 +137,7 @@ module _ (b ends records sides prices quantities brecords bsides bhours bprices 
 
   gets-are : (h : ℕ) → 1 ≤ h → h ≤ 24 → gets h ≡ executedIn b h
   unfolding executedIn
-  gets-are h first last = rw (steps-are h first last, sales-are h, purchases-are h, of .pricesAre h first last)
+  gets-are h first last = rw (steps-are h first last, sales-are h, purchases-are h, of .pricesAre h (counts _ h first last))
 
   module _ (values : List ℕ) (v c wv wc : ℕ)
       (hours : HoursDone ends (stepsAt ends sides prices quantities) (salesAt bsides bhours bquantities set) (buysAt bsides bhours bquantities set)
@@ -217,8 +217,8 @@ module _ (b ends records sides prices quantities brecords bsides bhours bprices 
             bytes-are b a,
             ew,
             welfare-are,
-            column-is (found .prices) (setPrices (dayFrom b) (publishedBlocks b)) lm (of .pricesAre),
-            column-is (found .quantities) (traded (dayFrom b) (publishedBlocks b)) lt (of .tradedAre),
+            column-is (found .prices) (setPrices (dayFrom b) (publishedBlocks b)) lm (in-each _ (of .pricesAre)),
+            column-is (found .quantities) (traded (dayFrom b) (publishedBlocks b)) lt (in-each _ (of .tradedAre)),
             records-same (rowAt rows) (rowOf b) (count - 1) 1 (λ i x y. row-is i (omega arith)),
             same,
           )

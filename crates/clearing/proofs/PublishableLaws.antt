@@ -65,7 +65,7 @@ module _ (b : List ℕ) (a : Accepted b) where
         blockQuantitiesFit = λ i k. place i k .quantityRange .1;
         priced = λ h k.
             let back : h + 1 - 1 ≡ h = omega arith in
-            let p = rw back at (d .pricesAre (h + 1) (omega arith) (omega arith)) in
+            let p = rw back at (d .pricesAre (h + 1) (counts _ (h + 1) (omega arith) (omega arith))) in
             omega (arith, outcome-priced (h + 1) (omega arith) (omega arith));
         buffer = (omega (arith, n .0), omega (arith, n .1), size);
       }

@@ -11,8 +11,8 @@ use Rattle.rules.specs.Hour.{when}
 use Rattle.places.specs.Layout.{dayHours, mostBlocks, mostAdded, mostPlace, hoursColumn, quantityColumn, limitColumn, againstColumn, gainColumn, aheadColumn, behindColumn, blockRows, blockListSize}
 use Rattle.places.specs.Hours.{Small, sumOfHours, ofHour}
 
--- THE BLOCKS: eight columns of 32 numbers: side, hours, quantity, limit (price times hour count), loss if taken, loss if left out, and for twins the
--- earlier block that is taken before this one, and the one that is taken after it (0 for none, else its number and 1); then 32 rows of 24 hours.
+-- THE BLOCKS: eight columns: side, hours, quantity, limit (price times hour count), loss if taken, loss if left out, and for twins the
+-- earlier block that is taken before this one, and the one that is taken after it (0 for none, else its number and 1); then a row of hours for each.
 abbrev pub sideAt : List ℕ → ℕ → ℕ
 sideAt blocks i = getD blocks i 0
 

@@ -15,7 +15,7 @@ use Rattle.places.specs.Layout.{dayHours, mostGaps, rowSize, turnColumn}
 abbrev pub Small : ℕ → List ℕ → Type 0
 Small m l = (i : ℕ) → getD l i 0 ≤ m
 
--- A price of at most 300,000 for each of 24 hours.
+-- A price of at most the greatest for each hour.
 abbrev pub DayPrices : List ℕ → Type 0
 DayPrices l = (length l ≡ dayHours) × Small maxPrice l
 
@@ -27,16 +27,16 @@ FirstSmall n m l = (i : ℕ) → i < n → getD l i 0 ≤ m
 unfoldable pub sumOfHours : List ℕ → ℕ → ℕ
 sumOfHours column hours = sumTo dayHours (λ h. when (holdsHour hours h) (getD column (h - 1) 0))
 
--- THE TABLES: 24 rows of 1,602 places, hour 1 first.
+-- THE TABLES: a row of places for each hour, hour 1 first.
 -- The number at a place of hour h.
 abbrev pub cell : List ℕ → ℕ → ℕ → ℕ
 cell table h i = getD table ((h - 1) * rowSize + i) 0
 
--- The number of hour h in a column of 24.
+-- The number of hour h in a column.
 abbrev pub ofHour : List ℕ → ℕ → ℕ
 ofHour column h = getD column (h - 1) 0
 
--- THE HOURS: three columns of 24 numbers: the first and the last place at which each clears, and the place of its least gap, where its gaps turn.
+-- THE HOURS: three columns: the first and the last place at which each clears, and the place of its least gap, where its gaps turn.
 abbrev pub clearsFirst : List ℕ → List ℕ
 clearsFirst hours = take dayHours hours
 

@@ -85,16 +85,16 @@ module _ {day : Day} {p rest : ℕ → ℕ} {tables : Tables} (known : Known day
   branch-taken t = record {
     setIs = rw (longer true, t .setIs, bits-taken (length d) (node .set) room, branch .setIs);
     lossIs = t .lossIs ∙ rw (branch .lossIs, ← (S .againstIs)) (sym (losses-taken (day .hours) p (day .blocks) d (S .block) _ (S .next)));
-    placesAre = λ h a b.
-        t .placesAre h a b ∙ rw (branch .placesAre h a b, ← (sells-at S h a b)) (sym (place-taken (day .blocks) d (S .block) _ (S .next) h));
+    placesAre = λ h c.
+        t .placesAre h (c .first) (c .last) ∙ rw (branch .placesAre h c, ← (sells-at S h c)) (sym (place-taken (day .blocks) d (S .block) _ (S .next) h));
   }
 
   pub branch-left : LeftTo (tables .blocks) (length d) node r → Branch day p (d ++ (false ∷ [])) r
   branch-left t = record {
     setIs = rw (longer false, t .setIs, bits-left (length d) (node .set) room, branch .setIs);
     lossIs = t .lossIs ∙ rw (branch .lossIs, ← (S .gainIs)) (sym (losses-left (day .hours) p (day .blocks) d (S .block) _ (S .next)));
-    placesAre = λ h a b.
-        t .placesAre h a b ∙ rw (branch .placesAre h a b, ← (buys-at S h a b)) (sym (place-left (day .blocks) d (S .block) _ (S .next) h));
+    placesAre = λ h c.
+        t .placesAre h (c .first) (c .last) ∙ rw (branch .placesAre h c, ← (buys-at S h c)) (sym (place-left (day .blocks) d (S .block) _ (S .next) h));
   }
 
 -- a set of fewer than 32 blocks and one more fits 32 bits

@@ -11,8 +11,9 @@ use Rattle.records.specs.Records.{holdsHour}
 use Rattle.rules.specs.Orders.{Side, buy, Step, Block}
 use Rattle.rules.specs.Hour.{when}
 use Rattle.rules.specs.Execution.{testSide}
-use Rattle.rules.specs.Day.{Day, sumTo, daySum, taken, decisions, overBlocks, sells, buys, hourOf, stepsIn, priceSum, setPrices, keepsLimit, allowed, lawful}
+use Rattle.rules.specs.Day.{Day, sumTo, daySum, taken, decisions, overBlocks, sells, buys, hourOf, stepsIn, priceSum, setPrices, keepsLimit, lawful}
 use Rattle.rules.specs.Contender.{Counts}
+use Rattle.rules.proofs.HourSums.{daySum-le, daySum-add}
 use Rattle.rules.proofs.Tests.{clash}
 use Rattle.rules.proofs.PricingLaws.{Clearable}
 use Rattle.rules.proofs.TableLaws.{unit-net, tablePrice}
@@ -30,10 +31,15 @@ use Rattle.places.specs.Steps.{HoursTraded}
 use Rattle.search.specs.Meaning.{Shown, Known, Branch, lossAbove, bestAs, DayOf, Outcome, Decided}
 use Rattle.search.specs.Tables.{Tables}
 use Rattle.places.proofs.LimitLaws.{keepsHere, all-keep-at, all-keep}
-use Rattle.search.proofs.CountsOnce.{counts, sumTo-in, sumTo-add, daySum-plain}
+use Rattle.search.proofs.CountsOnce.{in-each, daySum-plain, block-sum}
+use Rattle.search.proofs.AllowedSets.{set-allowed}
 use Rattle.search.proofs.TradedLaws.{traded-are}
 use Rattle.search.specs.declared.Best.{Best}
 use Rattle.search.specs.declared.Node.{Node}
+
+-- A SUM OVER THE DAY of what is the same in each hour that counts
+pub daySum-in : (hours : ℕ) (f g : ℕ → ℕ) → ((h : ℕ) → Counts hours h → f h ≡ g h) → daySum hours f ≡ daySum hours g
+daySum-in hours f g k = omega (arith, daySum-le hours f g (λ h c. omega (arith, k h c)), daySum-le hours g f (λ h c. omega (arith, k h c)))
 
 -- A SET'S BLOCKS
 taken-le : (f : Block → ℕ) (l : List Block) (s : List Bool) → overBlocks f (taken l s) ≤ overBlocks f l
@@ -57,17 +63,17 @@ same-test side side′ sum sum′ limit limit′ a b c = rw (a, b, c)
 -- THE DAY AT ITS TABLES
 -- the price at a place, by the price table
 pub price-at-table : {day : Day} {p rest : ℕ → ℕ} {tables : Tables} → Known day p rest tables →
-    {places prices : List ℕ} → PricesOf (tables .unitPrices) places prices → (h : ℕ) → 1 ≤ h → h ≤ dayHours → ofHour places h ≤ lastPlace →
+    {places prices : List ℕ} → PricesOf (tables .unitPrices) places prices → (h : ℕ) → Counts (day .hours) h → ofHour places h ≤ lastPlace →
     ofHour prices h ≡ pricesAt day (ofHour places) h
 unfolding pricesAt tablePrice
-price-at-table {day} known {places} priced h a b fits =
+price-at-table {day} known {places} priced h c fits =
     let i = ofHour places h in
     let off = overBlocks (buys h) (day .blocks) in
     omega (
       arith,
-      priced .are h a b,
-      known .unitPriceIs h i a b (omega arith),
-      known .unitPriceIs h (i + 1) a b (omega arith),
+      priced .are h (c .first) (c .last),
+      known .unitPriceIs h i c (omega arith),
+      known .unitPriceIs h (i + 1) c (omega arith),
       unit-net (stepsIn h (day .steps)) (i + 1) (suc off) i off (omega arith),
     )
 
@@ -76,68 +82,68 @@ module _ {day : Day} {p rest : ℕ → ℕ} {tables : Tables} (known : Known day
   size : length d ≡ length (day .blocks)
   size = whole ∙ sym (known .counted)
 
-  place-fits : (h : ℕ) → 1 ≤ h → h ≤ dayHours → place (day .blocks) d h ≤ lastPlace
-  place-fits h a b = omega (arith, place-within (day .blocks) d h size, known .fits h a b)
+  place-fits : (h : ℕ) → Counts (day .hours) h → place (day .blocks) d h ≤ lastPlace
+  place-fits h c = omega (arith, place-within (day .blocks) d h size, known .fits h c)
 
   -- a lawful set's places are in range
   lawful-in-range : lawful day d ≡ true → PlacesClear (tables .first) (tables .last) (node .places)
-  lawful-in-range law h a b =
-      rw (branch .placesAre h a b)
-      (known .clearsOnly h (place (day .blocks) d h) a b (place-within (day .blocks) d h size) (lawful-clears day d size (known .prices) (known .hours) law h (counts (day .hours) h a b)))
+  lawful-in-range law =
+      in-each (λ h. (ofHour (tables .first) h ≤ ofHour (node .places) h) × (ofHour (node .places) h ≤ ofHour (tables .last) h)) (λ h c.
+      rw (branch .placesAre h c)
+      (known .clearsOnly h (place (day .blocks) d h) c (place-within (day .blocks) d h size) (lawful-clears day d size (known .prices) (known .hours) law h c)))
 
   module _ (inside : PlacesClear (tables .first) (tables .last) (node .places)) where
-    clear-at : (h : ℕ) → 1 ≤ h → h ≤ dayHours → Clearable (hourAt day h (place (day .blocks) d h))
-    clear-at h a b =
-        let r = inside h a b in
-        let e = branch .placesAre h a b in
-        known .clears h (place (day .blocks) d h) a b (place-fits h a b) (rw e at (r .0)) (rw e at (r .1))
+    clear-at : (h : ℕ) → Counts (day .hours) h → Clearable (hourAt day h (place (day .blocks) d h))
+    clear-at h c =
+        let r = inside h (c .first) (c .last) in
+        let e = branch .placesAre h c in
+        known .clears h (place (day .blocks) d h) c (place-fits h c) (rw e at (r .0)) (rw e at (r .1))
 
     -- the loss by the gap table
     pub loss-is : (sum : ℕ) → sum ≡ sumTo dayHours (λ h. cell (tables .gaps) h (ofHour (node .places) h)) → lossOf day p d ≡ node .loss + sum + daySum (day .hours) rest
     unfolding lossOf gapsAt
     loss-is sum e =
-        let gap-at : (h : ℕ) → 1 ≤ h → h ≤ dayHours → gapsAt day p (place (day .blocks) d) h ≡ cell (tables .gaps) h (ofHour (node .places) h) + rest h = λ h a b.
-        let r = inside h a b in
-        rw (branch .placesAre h a b) (known .gapIs h (place (day .blocks) d h) a b (rw (branch .placesAre h a b) at (r .0)) (rw (branch .placesAre h a b) at (r .1))) in
+        let at : ℕ → ℕ = λ h. cell (tables .gaps) h (ofHour (node .places) h) in
+        let gap-at : (h : ℕ) → Counts (day .hours) h → gapsAt day p (place (day .blocks) d) h ≡ at h + rest h = λ h c.
+        let r = inside h (c .first) (c .last) in
+        let is = branch .placesAre h c in
+        rw is (known .gapIs h (place (day .blocks) d h) c (rw is at (r .0)) (rw is at (r .1))) in
         omega (
           arith,
           branch .lossIs,
           gaps-by-place day d size p,
-          daySum-plain (day .hours) (gapsAt day p (place (day .blocks) d)),
-          sumTo-in dayHours (gapsAt day p (place (day .blocks) d)) (λ h. cell (tables .gaps) h (ofHour (node .places) h) + rest h) gap-at,
-          sumTo-add dayHours (λ h. cell (tables .gaps) h (ofHour (node .places) h)) rest,
-          daySum-plain (day .hours) rest,
+          daySum-in (day .hours) (gapsAt day p (place (day .blocks) d)) (λ h. at h + rest h) gap-at,
+          daySum-add (day .hours) at rest,
+          daySum-plain (day .hours) at,
         )
 
     -- the prices by the price table
     module _ {prices : List ℕ} (priced : PricesOf (tables .unitPrices) (node .places) prices) where
-      price-at : (h : ℕ) → 1 ≤ h → h ≤ dayHours → ofHour prices h ≡ pricesAt day (place (day .blocks) d) h
+      price-at : (h : ℕ) → Counts (day .hours) h → ofHour prices h ≡ pricesAt day (place (day .blocks) d) h
       unfolding pricesAt
-      price-at h a b =
-          let e = branch .placesAre h a b in
-          let fits : ofHour (node .places) h ≤ lastPlace = omega (arith, place-fits h a b) in
-          rw e at (price-at-table known priced h a b fits)
+      price-at h c =
+          let e = branch .placesAre h c in
+          let fits : ofHour (node .places) h ≤ lastPlace = omega (arith, place-fits h c) in
+          rw e at (price-at-table known priced h c fits)
 
-      pub prices-are : (h : ℕ) → 1 ≤ h → h ≤ dayHours → ofHour prices h ≡ setPrices day (taken (day .blocks) d) h
-      prices-are h a b = price-at h a b ∙ sym (price-at-place day d size (known .prices) (known .hours) h (clear-at h a b))
+      pub prices-are : (h : ℕ) → Counts (day .hours) h → ofHour prices h ≡ setPrices day (taken (day .blocks) d) h
+      prices-are h c = price-at h c ∙ sym (price-at-place day d size (known .prices) (known .hours) h (clear-at h c))
 
       -- a block's limit by the columns
       keeps-same : (j : ℕ) (s : Shown day p (tables .blocks) j) →
           keepsLimit (day .hours) (pricesAt day (place (day .blocks) d)) (s .block) ≡ keepsHere (tables .blocks) (node .set) prices prices j
-      unfolding keepsLimit keepsAt priceSum sumOfHours
+      unfolding keepsLimit keepsAt priceSum
       keeps-same j s =
-          let sum : daySum (day .hours) (λ h. when (s .block .runs h) (pricesAt day (place (day .blocks) d) h))
-          ≡ sumTo dayHours (λ h. when (holdsHour (hoursAt (tables .blocks) j) h) (getD prices (h - 1) 0)) =
-          daySum-plain (day .hours) _ ∙ sumTo-in dayHours _ _ (λ h a b. rw (s .runsIs h, ← (price-at h a b))) in
+          let sum : daySum (day .hours) (λ h. when (s .block .runs h) (pricesAt day (place (day .blocks) d) h)) ≡ sumOfHours prices (hoursAt (tables .blocks) j) =
+          daySum-in (day .hours) _ _ (λ h c. rw (s .runsIs h, ← (price-at h c))) ∙ block-sum (day .hours) prices (hoursAt (tables .blocks) j) in
           same-test _ _ _ _ _ _ (s .sideIs) sum (s .limitIs)
 
       bit-is : (j : ℕ) → j < tables .count → getD d j false ≡ eqb (node .set / 2 ^ j % 2) 1
       bit-is j k = rw (← (branch .setIs)) (bits-at (length d) (node .set) j (omega arith))
 
       pub limits-kept : allKeep (tables .blocks) (node .set) prices prices (tables .count) ≡ true → lawful day d ≡ true
-      unfolding allowed
       limits-kept e =
-          lawful-by-places day d size (known .prices) (known .hours) refl (λ h c. clear-at h (c .first) (c .last))
+          lawful-by-places day d size (known .prices) (known .hours) (set-allowed day d) clear-at
           (passes-taken noBlock _ (day .blocks) d (λ j k t.
           let kc : j < tables .count = omega (arith, known .counted) in
           let s = known .shown j kc in
@@ -223,20 +229,20 @@ module _ {tables : Tables} {node : Node} {clears : Bool} {sum : ℕ}
 module _ {day : Day} {p rest : ℕ → ℕ} {tables : Tables} (known : Known day p rest tables) where
   -- a lawful set's places are in range
   pub lawful-place : (s : List Bool) → length s ≡ tables .count →
-      lawful day s ≡ true → (h : ℕ) → 1 ≤ h → h ≤ dayHours → (ofHour (tables .first) h ≤ place (day .blocks) s h) × (place (day .blocks) s h ≤ ofHour (tables .last) h)
-  lawful-place s size law h a b =
+      lawful day s ≡ true → (h : ℕ) → Counts (day .hours) h → (ofHour (tables .first) h ≤ place (day .blocks) s h) × (place (day .blocks) s h ≤ ofHour (tables .last) h)
+  lawful-place s size law h c =
       let n : length s ≡ length (day .blocks) = size ∙ sym (known .counted) in
       let i = place (day .blocks) s h in
-      known .clearsOnly h i a b (place-within (day .blocks) s h n) (lawful-clears day s n (known .prices) (known .hours) law h (counts (day .hours) h a b))
+      known .clearsOnly h i c (place-within (day .blocks) s h n) (lawful-clears day s n (known .prices) (known .hours) law h c)
 
   -- and its gaps by the table
   pub gap-of-lawful : (s : List Bool) → length s ≡ tables .count →
       lawful day s ≡ true → (h : ℕ) → Counts (day .hours) h →
       slack (p h) (hourOf day (taken (day .blocks) s) h) ≡ cell (tables .gaps) h (place (day .blocks) s h) + rest h
   gap-of-lawful s size law h c =
-      let r = lawful-place s size law h (c .first) (c .last) in
+      let r = lawful-place s size law h c in
       slack-at-place day s (size ∙ sym (known .counted)) h (p h)
-      ∙ known .gapIs h (place (day .blocks) s h) (c .first) (c .last) (r .0) (r .1)
+      ∙ known .gapIs h (place (day .blocks) s h) c (r .0) (r .1)
 
   -- what the tables leave off is no more
   pub rest-below : (s : List Bool) → length s ≡ tables .count →

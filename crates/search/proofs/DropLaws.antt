@@ -14,6 +14,7 @@ use Rattle.rules.specs.Orders.{Side}
 use Rattle.rules.specs.Execution.{testSide}
 use Rattle.rules.specs.Day.{Day, taken, hourOf, priceSum, lawful}
 use Rattle.rules.specs.Contender.{Counts}
+use Rattle.rules.proofs.HourSums.{daySum-add}
 use Rattle.rules.proofs.Tests.{by-test, clash}
 use Rattle.rules.proofs.NeighbourLaws.{slack}
 use Rattle.rules.proofs.BoundLaws.{gain}
@@ -32,14 +33,14 @@ use Rattle.search.specs.Tables.{Tables}
 use Rattle.places.proofs.NumberLaws.{larger-least, larger-above, smaller-most, smaller-below, nearest-least}
 use Rattle.places.proofs.LimitLaws.{all-keep}
 use Rattle.places.proofs.ReachLaws.{taken-adds, left-adds, to-fits}
-use Rattle.search.proofs.CountsOnce.{sumTo-in, sumTo-add, daySum-plain}
+use Rattle.search.proofs.CountsOnce.{in-each, daySum-plain, block-sum}
 use Rattle.search.proofs.TradedLaws.{sells-at, buys-at}
-use Rattle.search.proofs.DecidedLaws.{noBlock, price-at-table, lawful-place, gap-of-lawful, rest-below}
+use Rattle.search.proofs.DecidedLaws.{daySum-in, noBlock, price-at-table, lawful-place, gap-of-lawful, rest-below}
 use Rattle.search.specs.declared.Node.{Node}
 
 -- THE PLACE OF THE REST at a loss below the limit, where it takes no block that is out
 module _ {day : Day} {p rest : ℕ → ℕ} {tables : Tables} (known : Known day p rest tables)
-    (at out loss limit h : ℕ) (hour-first : 1 ≤ h) (hour-last : h ≤ dayHours) where
+    (at out loss limit h : ℕ) (c : Counts (day .hours) h) where
   abbrev must : ℕ → ℕ → ℕ
   must = addedIn (tables .blocks) (mustFrom (tables .blocks) at out loss limit) h
 
@@ -72,14 +73,14 @@ module _ {day : Day} {p rest : ℕ → ℕ} {tables : Tables} (known : Known day
       let k′ : loss + (against (day .hours) p (s .block) + losses (day .hours) p (drop (suc i) (day .blocks)) t) < limit = rw (s .next) at k in
       let one = taken-adds (tables .blocks) (isOut out (i - at)) loss limit i (rowQuantity (tables .blocks) i h) (first-not-out n i t f) (omega (arith, s .againstIs)) in
       let more = rest-within n (suc i) t (omega arith) (omega arith) (suc-inj l) (avoids-next n i true t le f) (omega arith) in
-      let adds = sells-at s h hour-first hour-last in
+      let adds = sells-at s h c in
       rw (s .next) (omega arith, omega arith)
   rest-within (suc n) i (false ∷ t) le e l f k =
       let s = known .shown i (omega arith) in
       let k′ : loss + (gain (day .hours) p (s .block) + losses (day .hours) p (drop (suc i) (day .blocks)) t) < limit = rw (s .next) at k in
       let one = left-adds (tables .blocks) (isOut out (i - at)) loss limit i (rowQuantity (tables .blocks) i h) (omega (arith, s .gainIs)) in
       let more = rest-within n (suc i) t (omega arith) (omega arith) (suc-inj l) (avoids-next n i false t le f) (omega arith) in
-      let adds = buys-at s h hour-first hour-last in
+      let adds = buys-at s h c in
       rw (s .next) (omega arith, omega arith)
 
 -- LIMITS AT THE BEST PRICES WITHIN REACH, by the columns
@@ -89,15 +90,15 @@ same-could side side′ floor floor′ cap cap′ limit limit′ a b c d = rw (a
 
 module _ {day : Day} {p rest : ℕ → ℕ} {tables : Tables} (known : Known day p rest tables)
     {from to high lowest : List ℕ} (priced-high : PricesOf (tables .unitPrices) from high) (priced-low : PricesOf (tables .unitPrices) to lowest)
-    (from-fits : (h : ℕ) → 1 ≤ h → h ≤ dayHours → ofHour from h ≤ lastPlace) (to-fits : (h : ℕ) → 1 ≤ h → h ≤ dayHours → ofHour to h ≤ lastPlace)
+    (from-fits : (h : ℕ) → Counts (day .hours) h → ofHour from h ≤ lastPlace) (to-fits : (h : ℕ) → Counts (day .hours) h → ofHour to h ≤ lastPlace)
     {j : ℕ} (s : Shown day p (tables .blocks) j) where
   -- the sum of prices at places, by the table
-  sum-same : (at prices : List ℕ) → PricesOf (tables .unitPrices) at prices → ((h : ℕ) → 1 ≤ h → h ≤ dayHours → ofHour at h ≤ lastPlace) →
+  sum-same : (at prices : List ℕ) → PricesOf (tables .unitPrices) at prices → ((h : ℕ) → Counts (day .hours) h → ofHour at h ≤ lastPlace) →
       priceSum (day .hours) (pricesAt day (ofHour at)) (s .block) ≡ sumOfHours prices (hoursAt (tables .blocks) j)
-  unfolding priceSum sumOfHours
+  unfolding priceSum
   sum-same at prices priced fits =
-      daySum-plain (day .hours) _
-      ∙ sumTo-in dayHours _ _ (λ h a b. rw (s .runsIs h, ← (price-at-table known priced h a b (fits h a b))))
+      daySum-in (day .hours) _ _ (λ h c. rw (s .runsIs h, ← (price-at-table known priced h c (fits h c))))
+      ∙ block-sum (day .hours) prices (hoursAt (tables .blocks) j)
 
   could-same : keepsAt (sideAt (tables .blocks) j) (hoursAt (tables .blocks) j) (limitAt (tables .blocks) j) high lowest
       ≡ couldKeep (day .hours) (pricesAt day (ofHour from)) (pricesAt day (ofHour to)) (s .block)
@@ -168,20 +169,22 @@ module _ {tables : Tables} {left out : ℕ} {node : Node} {limit : ℕ} where
                 (rest-below known (d ++ t) whole law),
           )
 
-      in-reach : lossAbove day p rest (d ++ t) < limit → (h : ℕ) → 1 ≤ h → h ≤ dayHours →
+      in-reach : lossAbove day p rest (d ++ t) < limit → (h : ℕ) → Counts (day .hours) h →
           (ofHour from h ≤ place (day .blocks) (d ++ t) h) × (place (day .blocks) (d ++ t) h ≤ ofHour to h)
-      in-reach k h a b =
+      in-reach k h c =
+          let a = c .first in
+          let b = c .last in
           let here : tables .count - left ≡ length d = omega arith in
           let after : tables .count - length d ≡ left = omega arith in
-          let range = lawful-place known (d ++ t) whole law h a b in
+          let range = lawful-place known (d ++ t) whole law h c in
           let avoids : (j : ℕ) → j < left → isOut out (length d - length d + j) ≡ true → getD t j false ≡ false = λ j inside is.
           let e : length d - length d + j ≡ j = omega arith in
           at .outOf t j l law k inside (rw e at is) in
-          let within = rest-within known (length d) out (node .loss) limit h a b left (length d) t (omega arith) size l avoids (rest-loses k) in
+          let within = rest-within known (length d) out (node .loss) limit h c left (length d) t (omega arith) size l avoids (rest-loses k) in
           let must = rw (here, after) at (added .leastIs h a b) in
           let may = rw (here, after) at (added .freeIs h a b) in
           let split = place-split (day .blocks) d t h in
-          let is = branch .placesAre h a b in (
+          let is = branch .placesAre h c in (
             rw (reach .fromIs h a b) (larger-least (ofHour least h) (ofHour (tables .first) h) _ (omega arith) (range .0)),
             rw (reach .toIs h a b) (smaller-most (ofHour least h + ofHour free h) (ofHour (tables .last) h) _ (omega arith) (range .1)),
           )
@@ -195,9 +198,8 @@ module _ {tables : Tables} {left out : ℕ} {node : Node} {limit : ℕ} where
             arith,
             branch .lossIs,
             bound-with day p d t 0 (λ h. g h + rest h) (omega arith) gap-least,
-            daySum-plain (day .hours) (λ h. g h + rest h),
-            sumTo-add dayHours g rest,
-            daySum-plain (day .hours) rest,
+            daySum-add (day .hours) g rest,
+            daySum-plain (day .hours) g,
           )
         where
           gap-least : (h : ℕ) → Counts (day .hours) h →
@@ -205,7 +207,7 @@ module _ {tables : Tables} {left out : ℕ} {node : Node} {limit : ℕ} where
           gap-least h c =
               let a = c .first in
               let b = c .last in
-              let r = in-reach k h a b in
+              let r = in-reach k h c in
               let above = larger-above (ofHour least h) (ofHour (tables .first) h) .1 in
               let below = smaller-below (ofHour least h + ofHour free h) (ofHour (tables .last) h) .1 in
               let from-is = reach .fromIs h a b in
@@ -225,19 +227,19 @@ module _ {tables : Tables} {left out : ℕ} {node : Node} {limit : ℕ} where
       block-could ph pl e small k j inside set-bit =
           let s = known .shown j inside in
           let could = taken-could day (known .prices) (known .hours) (d ++ t) (whole ∙ sym (known .counted)) law (ofHour from) (ofHour to)
-          record { from = λ h c. in-reach k h (c .first) (c .last) .0; to = λ h c. in-reach k h (c .first) (c .last) .1 }
+          record { from = λ h c. in-reach k h c .0; to = λ h c. in-reach k h c .1 }
           j noBlock (omega (arith, known .counted)) set-bit in
           could-same known ph pl (fits-in .0) (fits-in .1) s
           ∙ rw (block-at (day .blocks) j (s .block) _ noBlock (s .next)) at could
         where
-          fits-in : ((h : ℕ) → 1 ≤ h → h ≤ dayHours → ofHour from h ≤ lastPlace) × ((h : ℕ) → 1 ≤ h → h ≤ dayHours → ofHour to h ≤ lastPlace)
+          fits-in : ((h : ℕ) → Counts (day .hours) h → ofHour from h ≤ lastPlace) × ((h : ℕ) → Counts (day .hours) h → ofHour to h ≤ lastPlace)
           fits-in = (
-            λ h a b.
+            λ h c.
                 let below = smaller-below (ofHour least h + ofHour free h) (ofHour (tables .last) h) .1 in
-                omega (arith, reach .balanced e h a b, reach .toIs h a b, small (h - 1)),
-            λ h a b.
+                omega (arith, reach .balanced e h (c .first) (c .last), reach .toIs h (c .first) (c .last), small (h - 1)),
+            λ h c.
                 let below = smaller-below (ofHour least h + ofHour free h) (ofHour (tables .last) h) .1 in
-                omega (arith, reach .toIs h a b, small (h - 1)),
+                omega (arith, reach .toIs h (c .first) (c .last), small (h - 1)),
           )
 
       -- the decided ones, and one of the rest
@@ -259,8 +261,8 @@ module _ {tables : Tables} {left out : ℕ} {node : Node} {limit : ℕ} where
     -- some hour can no longer balance
     pub dropped-unbalanced : balances ≡ false → DroppedFrom tables left out node limit
     dropped-unbalanced e day p rest d t at l law =
-        unless _ _ (λ k. absurd (reach .unbalanced e (λ h a b.
-        let r = in-reach t at l law k h a b in omega arith)))
+        unless _ _ (λ k. absurd (reach .unbalanced e (in-each (λ h. ofHour from h ≤ ofHour to h) (λ h c.
+        let r = in-reach t at l law k h c in omega arith))))
 
     -- the least gaps within reach come to as much
     pub dropped-by-gaps : limit ≤ node .loss + leastGaps (tables .gaps) (tables .turn) from to → DroppedFrom tables left out node limit

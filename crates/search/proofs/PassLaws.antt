@@ -9,6 +9,7 @@ use lib.Pow.{shr-le, pow-pos}
 use Rattle.rules.specs.Orders.{Step, Block}
 use Rattle.rules.specs.Day.{Day, daySum, sumTo, taken, decisions, overBlocks, hourOf}
 use Rattle.rules.specs.Outcome.{outcome}
+use Rattle.rules.proofs.HourSums.{daySum-add}
 use Rattle.rules.proofs.Tests.{clash}
 use Rattle.rules.proofs.DayLaws.{empty-lawful}
 use Rattle.rules.proofs.BoundLaws.{gain}
@@ -23,8 +24,8 @@ use Rattle.places.specs.Reach.{isOut}
 use Rattle.search.specs.Meaning.{Fits, Known, Turning, Branch, lossAbove, bestAs, DayOf, Outcome, StepsAre, ExploredFrom}
 use Rattle.search.specs.Tables.{Tables}
 use Rattle.places.proofs.NumberLaws.{zeros}
-use Rattle.search.proofs.CountsOnce.{counts, sumTo-in, sumTo-add, daySum-plain}
-use Rattle.search.proofs.DecidedLaws.{gap-of-lawful, rest-below}
+use Rattle.search.proofs.CountsOnce.{daySum-plain}
+use Rattle.search.proofs.DecidedLaws.{daySum-in, gap-of-lawful, rest-below}
 use Rattle.search.specs.declared.Best.{Best}
 use Rattle.search.specs.declared.Node.{Node}
 
@@ -40,7 +41,7 @@ unfolding decisions
 root-branch day p = record {
   setIs = refl;
   lossIs = sym (losses-none (day .hours) p (day .blocks));
-  placesAre = λ h a b. zeros dayHours (h - 1) ∙ sym (place-none (day .blocks) h);
+  placesAre = λ h c. zeros dayHours (h - 1) ∙ sym (place-none (day .blocks) h);
 }
 
 -- and none is out
@@ -78,11 +79,9 @@ module _ {tables : Tables} (few : tables .count ≤ mostBlocks) (small : (i : �
         arith,
         losses-empty (day .hours) p (day .blocks),
         gains-fit (tables .count) 0 (omega arith),
-        daySum-plain (day .hours) g,
-        sumTo-in dayHours g (λ h. at h + rest h)
-            (λ h a b. gap-of-lawful known none size law h (counts (day .hours) h a b)),
-        sumTo-add dayHours at rest,
-        daySum-plain (day .hours) rest,
+        daySum-in (day .hours) g (λ h. at h + rest h) (λ h c. gap-of-lawful known none size law h c),
+        daySum-add (day .hours) at rest,
+        daySum-plain (day .hours) at,
         sum-fits dayHours (2 ^ 32) at (λ h. omega (arith, smallGap ((h - 1) * rowSize + place (day .blocks) none h))),
       )
 

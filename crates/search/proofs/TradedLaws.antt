@@ -19,13 +19,11 @@ use Rattle.rules.proofs.ExecutionLaws.{traded-lesser}
 use Rattle.rules.proofs.ChainLaws.{prices-in}
 use Rattle.rules.proofs.DayLaws.{all-clear}
 use Rattle.rules.proofs.SetBits.{bits-at}
-use Rattle.places.specs.Layout.{dayHours}
 use Rattle.places.specs.Hours.{ofHour}
 use Rattle.places.specs.Blocks.{sideAt, rowQuantity, addedIn, sellsIn, buysIn, SetTrades}
 use Rattle.places.specs.Steps.{HoursTraded}
 use Rattle.search.specs.Meaning.{Shown, Known, StepsAre}
 use Rattle.search.specs.Tables.{Tables}
-use Rattle.search.proofs.CountsOnce.{counts}
 
 -- what a block sells and buys in an hour, by its row
 sells-row : (side : ℕ) (t : Bool) (q : ℕ) → when t (bySide (sideFor side) 0 q) ≡ when (not (eqb side 0)) (when t q)
@@ -36,16 +34,16 @@ buys-row : (side : ℕ) (t : Bool) (q : ℕ) → when t (bySide (sideFor side) q
 buys-row zero t q = refl
 buys-row (suc side) t q = rw (ne-eqb (suc side) 0 (omega arith)) (when-zero t)
 
-module _ {day : Day} {p : ℕ → ℕ} {blocks : List ℕ} {j : ℕ} (s : Shown day p blocks j) (h : ℕ) (a : 1 ≤ h) (b : h ≤ dayHours) where
+module _ {day : Day} {p : ℕ → ℕ} {blocks : List ℕ} {j : ℕ} (s : Shown day p blocks j) (h : ℕ) (c : Counts (day .hours) h) where
   pub sells-at : sells h (s .block) ≡ when (not (eqb (sideAt blocks j) 0)) (rowQuantity blocks j h)
-  sells-at = rw (s .sideIs, s .rowIs h a b) (sells-row (sideAt blocks j) (s .block .runs h) (s .block .quantity))
+  sells-at = rw (s .sideIs, s .rowIs h c) (sells-row (sideAt blocks j) (s .block .runs h) (s .block .quantity))
 
   pub buys-at : buys h (s .block) ≡ when (eqb (sideAt blocks j) 0) (rowQuantity blocks j h)
-  buys-at = rw (s .sideIs, s .rowIs h a b) (buys-row (sideAt blocks j) (s .block .runs h) (s .block .quantity))
+  buys-at = rw (s .sideIs, s .rowIs h c) (buys-row (sideAt blocks j) (s .block .runs h) (s .block .quantity))
 
 -- A SET'S BLOCKS in an hour, by their rows
 module _ {day : Day} {p rest : ℕ → ℕ} {tables : Tables} (known : Known day p rest tables)
-    (chosen h : ℕ) (a : 1 ≤ h) (b : h ≤ dayHours) where
+    (chosen h : ℕ) (c : Counts (day .hours) h) where
   -- the decisions t are those of the set for the blocks from number i on
   abbrev Holds : ℕ → ℕ → List Bool → Type 0
   Holds n i t = (k : ℕ) → k < n → getD t k false ≡ eqb (chosen / 2 ^ (i + k) % 2) 1
@@ -71,7 +69,7 @@ module _ {day : Day} {p rest : ℕ → ℕ} {tables : Tables} (known : Known day
       let s = known .shown i (omega arith) in
       let more = rest-trades n (suc i) t (omega arith) (suc-inj l) (holds-next n i true t f) in
       rw (s .next, holds-first n i true t f)
-      (omega (arith, more .0, sells-at s h a b), omega (arith, more .1, buys-at s h a b))
+      (omega (arith, more .0, sells-at s h c), omega (arith, more .1, buys-at s h c))
   rest-trades (suc n) i (false ∷ t) e l f =
       let s = known .shown i (omega arith) in
       let more = rest-trades n (suc i) t (omega arith) (suc-inj l) (holds-next n i false t f) in
@@ -102,13 +100,14 @@ price-positive day prices hours chosen law h c =
 pub traded-are : {day : Day} {p rest : ℕ → ℕ} {tables : Tables} → Known day p rest tables →
     {steps : ℕ → List Step} → StepsAre day steps → {chosen : ℕ} {d : List Bool} → length d ≡ tables .count → decisions (length d) chosen ≡ d →
     lawful day d ≡ true → {sales purchases : List ℕ} (prices quantities : List ℕ) → SetTrades (tables .blocks) (tables .count) chosen sales purchases →
-    ((h : ℕ) → 1 ≤ h → h ≤ dayHours → ofHour prices h ≡ setPrices day (taken (day .blocks) d) h) → HoursTraded steps sales purchases prices quantities →
-    (h : ℕ) → 1 ≤ h → h ≤ dayHours → ofHour quantities h ≡ traded day (taken (day .blocks) d) h
+    ((h : ℕ) → Counts (day .hours) h → ofHour prices h ≡ setPrices day (taken (day .blocks) d) h) → HoursTraded steps sales purchases prices quantities →
+    (h : ℕ) → Counts (day .hours) h → ofHour quantities h ≡ traded day (taken (day .blocks) d) h
 unfolding traded
-traded-are {day} known same {chosen} {d} size is law prices quantities sets priced trades h a b =
-    let c = counts (day .hours) h a b in
-    let t = set-trades known chosen h a b d size is in
-    let positive : 1 ≤ ofHour prices h = rw (priced h a b) (price-positive day (known .prices) (known .hours) d law h c) in
+traded-are {day} known same {chosen} {d} size is law prices quantities sets priced trades h c =
+    let a = c .first in
+    let b = c .last in
+    let t = set-trades known chosen h c d size is in
+    let positive : 1 ≤ ofHour prices h = rw (priced h c) (price-positive day (known .prices) (known .hours) d law h c) in
     trades h a b positive
-    ∙ rw (sets .salesAre h a b, sets .purchasesAre h a b, t .0, t .1, same h a b, priced h a b)
+    ∙ rw (sets .salesAre h a b, sets .purchasesAre h a b, t .0, t .1, same h a b, priced h c)
     (sym (traded-lesser (hourOf day (taken (day .blocks) d) h) (setPrices day (taken (day .blocks) d) h) (all-clear day (known .prices) (known .hours) d law h c)))

@@ -12,7 +12,7 @@ use Rattle.orders.specs.Columns.{sideFor}
 use Rattle.rules.specs.Orders.{Step, Block, maxPrice}
 use Rattle.rules.specs.Day.{Day, daySum, taken, decisions, overBlocks, sells, buys, stepsIn, setPrices, hourCount, lawful, traded}
 use Rattle.rules.specs.Outcome.{outcome}
-use Rattle.rules.specs.Contender.{PricesInRange, HoursInRange}
+use Rattle.rules.specs.Contender.{Counts, PricesInRange, HoursInRange}
 use Rattle.rules.proofs.PricingLaws.{Clearable, net}
 use Rattle.rules.proofs.TableLaws.{unitPrice}
 use Rattle.rules.proofs.NeighbourLaws.{slack}
@@ -55,7 +55,7 @@ pub record Shown (day : Day) (p : ℕ → ℕ) (blocks : List ℕ) (j : ℕ) : T
   pub next : drop j (day .blocks) ≡ block ∷ drop (suc j) (day .blocks)
   pub sideIs : block .side ≡ sideFor (sideAt blocks j)
   pub runsIs : (h : ℕ) → block .runs h ≡ holdsHour (hoursAt blocks j) h
-  pub rowIs : (h : ℕ) → 1 ≤ h → h ≤ dayHours → rowQuantity blocks j h ≡ when (block .runs h) (block .quantity)
+  pub rowIs : (h : ℕ) → Counts (day .hours) h → rowQuantity blocks j h ≡ when (block .runs h) (block .quantity)
   pub limitIs : block .price * hourCount (day .hours) block ≡ limitAt blocks j
   pub againstIs : against (day .hours) p block ≡ againstAt blocks j
   pub gainIs : gain (day .hours) p block ≡ gainAt blocks j
@@ -65,16 +65,16 @@ pub record Known (day : Day) (p rest : ℕ → ℕ) (t : Tables) : Type 0 where
   pub hours : HoursInRange (day .steps)
   pub counted : length (day .blocks) ≡ t .count
   -- no hour's blocks together reach past its row
-  pub fits : (h : ℕ) → 1 ≤ h → h ≤ dayHours → overBlocks (sells h) (day .blocks) + overBlocks (buys h) (day .blocks) ≤ lastPlace
+  pub fits : (h : ℕ) → Counts (day .hours) h → overBlocks (sells h) (day .blocks) + overBlocks (buys h) (day .blocks) ≤ lastPlace
   -- the price table: the least price that meets the demand, one unit of N below the place
-  pub unitPriceIs : (h i : ℕ) → 1 ≤ h → h ≤ dayHours → i ≤ lastPlace + 1 →
+  pub unitPriceIs : (h i : ℕ) → Counts (day .hours) h → i ≤ lastPlace + 1 →
       cell (t .unitPrices) h i ≡ unitPrice (net (stepsIn h (day .steps)) i (suc (overBlocks (buys h) (day .blocks))))
   -- the places at which an hour clears, of those that its blocks can reach
-  pub clears : (h i : ℕ) → 1 ≤ h → h ≤ dayHours → i ≤ lastPlace → ofHour (t .first) h ≤ i → i ≤ ofHour (t .last) h → Clearable (hourAt day h i)
-  pub clearsOnly : (h i : ℕ) → 1 ≤ h → h ≤ dayHours → i ≤ overBlocks (sells h) (day .blocks) + overBlocks (buys h) (day .blocks) → Clearable (hourAt day h i) →
+  pub clears : (h i : ℕ) → Counts (day .hours) h → i ≤ lastPlace → ofHour (t .first) h ≤ i → i ≤ ofHour (t .last) h → Clearable (hourAt day h i)
+  pub clearsOnly : (h i : ℕ) → Counts (day .hours) h → i ≤ overBlocks (sells h) (day .blocks) + overBlocks (buys h) (day .blocks) → Clearable (hourAt day h i) →
       (ofHour (t .first) h ≤ i) × (i ≤ ofHour (t .last) h)
   -- the gap table
-  pub gapIs : (h i : ℕ) → 1 ≤ h → h ≤ dayHours → ofHour (t .first) h ≤ i → i ≤ ofHour (t .last) h →
+  pub gapIs : (h i : ℕ) → Counts (day .hours) h → ofHour (t .first) h ≤ i → i ≤ ofHour (t .last) h →
       slack (p h) (hourAt day h i) ≡ cell (t .gaps) h i + rest h
   pub shown : (j : ℕ) → j < t .count → Shown day p (t .blocks) j
   -- the twins
@@ -92,7 +92,7 @@ pub record Turning (t : Tables) : Type 0 where
 pub record Branch (day : Day) (p : ℕ → ℕ) (d : List Bool) (node : Node) : Type 0 where
   pub setIs : decisions (length d) (node .set) ≡ d
   pub lossIs : node .loss ≡ losses (day .hours) p (day .blocks) d
-  pub placesAre : (h : ℕ) → 1 ≤ h → h ≤ dayHours → ofHour (node .places) h ≡ place (day .blocks) d h
+  pub placesAre : (h : ℕ) → Counts (day .hours) h → ofHour (node .places) h ≡ place (day .blocks) d h
 
 -- the loss of a set, less what the tables leave off
 unfoldable pub lossAbove : Day → (ℕ → ℕ) → (ℕ → ℕ) → List Bool → ℕ
@@ -104,8 +104,8 @@ bestAs count best = record { limit = best .limit; set = decisions count (best .s
 
 -- a set's prices and traded quantities
 pub record DayOf (day : Day) (set : List Bool) (found : code-day.Day) : Type 0 where
-  pub pricesAre : (h : ℕ) → 1 ≤ h → h ≤ dayHours → ofHour (found .prices) h ≡ setPrices day (taken (day .blocks) set) h
-  pub tradedAre : (h : ℕ) → 1 ≤ h → h ≤ dayHours → ofHour (found .quantities) h ≡ traded day (taken (day .blocks) set) h
+  pub pricesAre : (h : ℕ) → Counts (day .hours) h → ofHour (found .prices) h ≡ setPrices day (taken (day .blocks) set) h
+  pub tradedAre : (h : ℕ) → Counts (day .hours) h → ofHour (found .quantities) h ≡ traded day (taken (day .blocks) set) h
 
 -- WHAT A BRANCH GIVES BACK of the best so far
 pub record Outcome (day : Day) (p rest : ℕ → ℕ) (count left : ℕ) (d : List Bool) (best r : Best) : Type 0 where

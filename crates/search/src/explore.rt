@@ -19,6 +19,7 @@ use places::layout::BEHIND;
 use places::layout::GAIN;
 use places::reach::is_out;
 
+// The set that holds block number at alone.
 fn bit(at: u32) -> u32
     requires { ⌜ at < mostBlocks ⌝ }
     ensures { λ r. ⌜ r ≡ 2 ^ at ⌝ }

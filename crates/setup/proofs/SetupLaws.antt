@@ -57,7 +57,7 @@ use Rattle.setup.specs.Setup.{
   TwinsAt,
   ReadyFor,
 }
-use Rattle.search.proofs.CountsOnce.{daySum-plain}
+use Rattle.search.proofs.CountsOnce.{block-sum}
 use Rattle.setup.proofs.SetupTwinLaws.{Completed, twins-back, no-worse-true, no-worse-false}
 use Rattle.setup.proofs.SetupTableLaws.{take-drop, row-length, range-holds}
 use Rattle.setup.proofs.SetupBlockLaws.{bought-within}
@@ -210,8 +210,8 @@ module _ (b ends stepRecords sides prices quantities : List ℕ) (count : ℕ) (
     priceOf h = getD root (h - 1) 0
 
     sum-is : priceSum (dayFrom b .hours) priceOf (blockHere j) ≡ sumOfHours root (getD hours j 0)
-    unfolding priceSum sumOfHours
-    sum-is = daySum-plain (dayFrom b .hours) _
+    unfolding priceSum
+    sum-is = block-sum (dayFrom b .hours) root (getD hours j 0)
 
     limit-is : blockHere j .price * day.hourCount (dayFrom b .hours) (blockHere j) ≡ getD blockPrices j 0 * hoursSet dayHours (getD hours j 0)
     limit-is =
@@ -241,7 +241,7 @@ module _ (b ends stepRecords sides prices quantities : List ℕ) (count : ℕ) (
       next = block-next j k;
       sideIs = rw (w .sideIs);
       runsIs = λ h. rw (w .hoursIs);
-      rowIs = λ h from to. all .row j h k from to ∙ rw (w .hoursIs, w .quantityIs);
+      rowIs = λ h c. all .row j h k (c .first) (c .last) ∙ rw (w .hoursIs, w .quantityIs);
       limitIs = limit-at;
       againstIs = against-is ∙ sym (w .againstIs);
       gainIs = gain-is ∙ sym (w .gainIs);
@@ -390,11 +390,11 @@ module _ (b ends stepRecords sides prices quantities : List ℕ) (count : ℕ) (
       prices = prices-in-range b a;
       hours = hours-in-range b a;
       counted = blocks-counted;
-      fits = λ h from to. blocks-fit h;
-      unitPriceIs = λ h i from to. unit-price-is h from to i;
-      clears = λ h i from to. clears-at h from to i;
-      clearsOnly = λ h i from to. clears-only h from to i;
-      gapIs = λ h i from to. gap-is h from to i;
+      fits = λ h c. blocks-fit h;
+      unitPriceIs = λ h i c. unit-price-is h (c .first) (c .last) i;
+      clears = λ h i c. clears-at h (c .first) (c .last) i;
+      clearsOnly = λ h i c. clears-only h (c .first) (c .last) i;
+      gapIs = λ h i c. gap-is h (c .first) (c .last) i;
       shown = block-shown root columns blocks;
       ahead = is-ahead root columns blocks;
       behind = is-behind root columns blocks;

@@ -3,8 +3,7 @@ use Prim.Native.Nat.{ℕ, zero, suc, _+_, _-_, _*_, _≤_, _<_}
 use mathlib.Core.Path.{_≡_, refl, sym, ap, _∙_}
 use mathlib.Core.List.{List, [], _∷_, _++_}
 use native.Mathlib.Omega.{arith}
-use native.Mathlib.Decide.{decLe}
-use native.Mathlib.Nat.{lt-of-not-le}
+use native.Mathlib.Numerals.{add-one}
 use lib.ListN.{length, take, drop, getD, set, replicate, length-set, length-take, length-drop}
 use lib.Seq.{length-take-le, take-take, take-nil, drop-nil, drop-at, take-at, getD-set-same, getD-set-other}
 use borrow.Rule.Slice.PartMut.{putMid, midOf, take-put, same-len-mid}
@@ -15,7 +14,7 @@ use Rattle.tables.specs.Tables.{PriceTable, AllOf, ClearRange, NotRising, GapsF
 use Rattle.tables.proofs.LevelLaws.{table-not-rising, table-in-range}
 use Rattle.places.specs.Hours.{Small}
 use Rattle.setup.specs.Setup.{StepsHeld, PartHeld, hourPart, tableRow, RowIs, RowsAre, Ranged, RangedAt, RangesAre}
-use Rattle.places.proofs.NumberLaws.{zeros}
+use Rattle.places.proofs.NumberLaws.{below-next, zeros}
 use Rattle.roots.proofs.SizeLaws.{set-small}
 
 -- PARTS
@@ -72,13 +71,6 @@ row-wide h = omega arith
 pub part-row : (table : List ℕ) (h : ℕ) → take (h * rowSize + rowSize - h * rowSize) (drop (h * rowSize) table) ≡ tableRow table h
 part-row table h = rw (row-wide h)
 
--- what holds below h and at h holds below h + 1
-below-next : (P : ℕ → Type 0) (h k : ℕ) → (k < h → P k) → P h → k < h + 1 → P k
-below-next P h k f p a = elim (decLe h k) [
-  | yes z ↦ let e : k ≡ h = omega arith in rw e p
-  | no z ↦ f (lt-of-not-le z)
-]
-
 -- THE PRICE TABLES
 module _ (sides prices quantities ends off : List ℕ) where
   pub record RowsTo (unitPrices : List ℕ) (h : ℕ) : Type 0 where
@@ -96,7 +88,7 @@ module _ (sides prices quantities ends off : List ℕ) where
     inside = omega arith;
     size = put-size unitPrices row h k (r .size) a full wide;
     done = λ j b. below-next (RowIs sides prices quantities ends off (putMid (h * rowSize) k unitPrices row)) h j
-        (λ c. rw (row-before unitPrices row h k (r .size) a full wide j c) (r .done j c)) (rw (row-put unitPrices row h k (r .size) a full wide) t) b;
+        (λ c. rw (row-before unitPrices row h k (r .size) a full wide j c) (r .done j c)) (rw (row-put unitPrices row h k (r .size) a full wide) t) (rw add-one at b);
   }
 
   pub rows-all : (unitPrices : List ℕ) (h : ℕ) → RowsTo unitPrices h → dayHours ≤ h → RowsAre sides prices quantities ends off unitPrices
@@ -182,7 +174,7 @@ module _ (sides prices quantities ends off most root unitPrices : List ℕ) wher
               getD-set-same first h f 0 inF,
               getD-set-same last h l 0 inL,
               getD-set-same turn h m 0 inT,
-            ) t) b;
+            ) t) (rw add-one at b);
       }
 
   pub ranges-all : (gap first last turn : List ℕ) (h : ℕ) → RangesTo gap first last turn h → dayHours ≤ h →

@@ -1,8 +1,9 @@
 -- `roots::root_prices` meets its contract: the best so far are prices, and so are those on their way. Assumes nothing.
-use Prim.Native.Nat.{_-_, _*_, _≤_}
+use Prim.Native.Nat.{_+_, _-_, _*_, _≤_}
 use mathlib.Core.Logic.{⊎-elim}
 use native.Mathlib.Omega.{arith}
 use Rattle.places.specs.Layout.{lastPlace}
+use Rattle.roots.specs.Roots.{allMoves, roundMoves}
 use Rattle.rules.specs.Orders.{maxPrice}
 use Rattle.places.specs.Hours.{Small}
 use borrow.Author.Needs.{needs}
@@ -16,10 +17,10 @@ use Rattle.roots.proofs.limits_of.Reads as limits-of-reads
 use Rattle.roots.proofs.moves.moved_on.Reads as moved-on-reads
 
 abbrev Inv-loop : tie.InvT-loop
-Inv-loop unitPrices off count sides hours quantities limits best₀ least₀ trail₀ n₀ best least trail n = (1 ≤ n) × (n ≤ 63) × Small maxPrice best × Small maxPrice (trail .prices) × Small (n * lastPlace) (trail .sum)
+Inv-loop unitPrices off count sides hours quantities limits best₀ least₀ trail₀ n₀ best least trail n = (1 ≤ n) × (n ≤ allMoves + roundMoves) × Small maxPrice best × Small maxPrice (trail .prices) × Small (n * lastPlace) (trail .sum)
 
 abbrev μ-loop : tie.MeasureT-loop
-μ-loop unitPrices off count sides hours quantities limits best₀ least₀ trail₀ n₀ best least trail n = 63 - n
+μ-loop unitPrices off count sides hours quantities limits best₀ least₀ trail₀ n₀ best least trail n = allMoves + roundMoves - n
 
 limits-of-requires : tie.Need-limits-of-requires Inv-loop μ-loop
 limits-of-requires c κs =

@@ -1,6 +1,7 @@
 -- `roots::moved_on` meets its contract: each move ends at prices again, and the places so far add up to at most 1,600 for each. Assumes nothing.
 use Prim.Native.Nat.{_+_, _-_, _*_, _≤_}
 use native.Mathlib.Omega.{arith}
+use Rattle.roots.specs.Roots.{roundMoves}
 use Rattle.places.specs.Layout.{lastPlace}
 use Rattle.rules.specs.Orders.{maxPrice}
 use Rattle.places.specs.Hours.{Small}
@@ -15,10 +16,10 @@ use Rattle.roots.proofs.moves.averaged.Reads as averaged-reads
 use Rattle.roots.proofs.moves.closer.Reads as closer-reads
 
 abbrev Inv-loop : tie.InvT-loop
-Inv-loop unitPrices count hours limits quantities n root₀ sum₀ k₀ root sum k = (1 ≤ k) × (k ≤ n + 7) × Small maxPrice root × Small (k * lastPlace) sum
+Inv-loop unitPrices count hours limits quantities n root₀ sum₀ k₀ root sum k = (1 ≤ k) × (k ≤ n + roundMoves) × Small maxPrice root × Small (k * lastPlace) sum
 
 abbrev μ-loop : tie.MeasureT-loop
-μ-loop unitPrices count hours limits quantities n root₀ sum₀ k₀ root sum k = n + 7 - k
+μ-loop unitPrices count hours limits quantities n root₀ sum₀ k₀ root sum k = n + roundMoves - k
 
 loop-holds : tie.Need-loop-holds Inv-loop μ-loop
 loop-holds c =
