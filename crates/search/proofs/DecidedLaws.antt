@@ -24,11 +24,11 @@ use Rattle.rules.proofs.SetBits.{bits-at}
 use Rattle.rules.proofs.PlaceLaws.{place, hourAt, pricesAt, gapsAt, place-is, gaps-by-place, price-at-place, lawful-by-places, lawful-clears, lawful-limits, slack-at-place}
 use Rattle.rules.proofs.LawCutLaws.{taken-passes}
 use Rattle.rules.proofs.LossSearchLaws as by-loss
-use Rattle.places.specs.Layout.{dayHours, lastPlace}
+use Rattle.places.specs.Layout.{dayHours}
 use Rattle.places.specs.Hours.{sumOfHours, cell, ofHour, PlacesClear, GapsOf, PricesOf}
 use Rattle.places.specs.Blocks.{hoursAt, keepsAt, allKeep, SetTrades}
 use Rattle.places.specs.Steps.{HoursTraded}
-use Rattle.search.specs.Meaning.{Shown, Known, Branch, lossAbove, bestAs, DayOf, Outcome, Decided}
+use Rattle.search.specs.Meaning.{Shown, Known, Branch, lossAbove, bestAs, DayOf, Outcome, Decided, lastReached}
 use Rattle.search.specs.Tables.{Tables}
 use Rattle.places.proofs.LimitLaws.{keepsHere, all-keep-at, all-keep}
 use Rattle.search.proofs.CountsOnce.{in-each, daySum-plain, block-sum}
@@ -63,7 +63,7 @@ same-test side side′ sum sum′ limit limit′ a b c = rw (a, b, c)
 -- THE DAY AT ITS TABLES
 -- the price at a place, by the price table
 pub price-at-table : {day : Day} {p rest : ℕ → ℕ} {tables : Tables} → Known day p rest tables →
-    {places prices : List ℕ} → PricesOf (tables .unitPrices) places prices → (h : ℕ) → Counts (day .hours) h → ofHour places h ≤ lastPlace →
+    {places prices : List ℕ} → PricesOf (tables .unitPrices) places prices → (h : ℕ) → Counts (day .hours) h → ofHour places h ≤ lastReached day h →
     ofHour prices h ≡ pricesAt day (ofHour places) h
 unfolding pricesAt tablePrice
 price-at-table {day} known {places} priced h c fits =
@@ -82,8 +82,8 @@ module _ {day : Day} {p rest : ℕ → ℕ} {tables : Tables} (known : Known day
   size : length d ≡ length (day .blocks)
   size = whole ∙ sym (known .counted)
 
-  place-fits : (h : ℕ) → Counts (day .hours) h → place (day .blocks) d h ≤ lastPlace
-  place-fits h c = omega (arith, place-within (day .blocks) d h size, known .fits h c)
+  place-fits : (h : ℕ) → Counts (day .hours) h → place (day .blocks) d h ≤ lastReached day h
+  place-fits h c = place-within (day .blocks) d h size
 
   -- a lawful set's places are in range
   lawful-in-range : lawful day d ≡ true → PlacesClear (tables .first) (tables .last) (node .places)
@@ -97,7 +97,7 @@ module _ {day : Day} {p rest : ℕ → ℕ} {tables : Tables} (known : Known day
     clear-at h c =
         let r = inside h (c .first) (c .last) in
         let e = branch .placesAre h c in
-        known .clears h (place (day .blocks) d h) c (place-fits h c) (rw e at (r .0)) (rw e at (r .1))
+        known .clears h (place (day .blocks) d h) c (rw e at (r .0)) (rw e at (r .1))
 
     -- the loss by the gap table
     pub loss-is : (sum : ℕ) → sum ≡ sumTo dayHours (λ h. cell (tables .gaps) h (ofHour (node .places) h)) → lossOf day p d ≡ node .loss + sum + daySum (day .hours) rest
@@ -123,7 +123,7 @@ module _ {day : Day} {p rest : ℕ → ℕ} {tables : Tables} (known : Known day
       unfolding pricesAt
       price-at h c =
           let e = branch .placesAre h c in
-          let fits : ofHour (node .places) h ≤ lastPlace = omega (arith, place-fits h c) in
+          let fits : ofHour (node .places) h ≤ lastReached day h = omega (arith, place-fits h c) in
           rw e at (price-at-table known priced h c fits)
 
       pub prices-are : (h : ℕ) → Counts (day .hours) h → ofHour prices h ≡ setPrices day (taken (day .blocks) d) h

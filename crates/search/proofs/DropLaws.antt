@@ -23,12 +23,12 @@ use Rattle.rules.proofs.SetBits.{bits-at}
 use Rattle.rules.proofs.PlaceLaws.{place, place-none, place-split, pricesAt}
 use Rattle.rules.proofs.TwinLaws.{block-at}
 use Rattle.rules.proofs.LawCutLaws.{couldKeep, taken-could}
-use Rattle.places.specs.Layout.{dayHours, lastPlace}
+use Rattle.places.specs.Layout.{dayHours}
 use Rattle.places.specs.Hours.{Small, sumOfHours, cell, ofHour, PricesOf, nearest, leastGaps}
 use Rattle.places.specs.Blocks.{sideAt, hoursAt, limitAt, rowQuantity, keepsAt, allKeep, addedIn}
 use Rattle.places.specs.Reach.{isOut, mustFrom, mayFrom, RestOf, ReachOf}
 use Rattle.search.specs.Decisions.{isRuledOut}
-use Rattle.search.specs.Meaning.{Shown, Known, Branch, lossAbove, At, DroppedFrom, JudgedFrom}
+use Rattle.search.specs.Meaning.{Shown, Known, Branch, lossAbove, At, DroppedFrom, JudgedFrom, lastReached}
 use Rattle.search.specs.Tables.{Tables}
 use Rattle.places.proofs.NumberLaws.{larger-least, larger-above, smaller-most, smaller-below, nearest-least}
 use Rattle.places.proofs.LimitLaws.{all-keep}
@@ -90,10 +90,10 @@ same-could side side′ floor floor′ cap cap′ limit limit′ a b c d = rw (a
 
 module _ {day : Day} {p rest : ℕ → ℕ} {tables : Tables} (known : Known day p rest tables)
     {from to high lowest : List ℕ} (priced-high : PricesOf (tables .unitPrices) from high) (priced-low : PricesOf (tables .unitPrices) to lowest)
-    (from-fits : (h : ℕ) → Counts (day .hours) h → ofHour from h ≤ lastPlace) (to-fits : (h : ℕ) → Counts (day .hours) h → ofHour to h ≤ lastPlace)
+    (from-fits : (h : ℕ) → Counts (day .hours) h → ofHour from h ≤ lastReached day h) (to-fits : (h : ℕ) → Counts (day .hours) h → ofHour to h ≤ lastReached day h)
     {j : ℕ} (s : Shown day p (tables .blocks) j) where
   -- the sum of prices at places, by the table
-  sum-same : (at prices : List ℕ) → PricesOf (tables .unitPrices) at prices → ((h : ℕ) → Counts (day .hours) h → ofHour at h ≤ lastPlace) →
+  sum-same : (at prices : List ℕ) → PricesOf (tables .unitPrices) at prices → ((h : ℕ) → Counts (day .hours) h → ofHour at h ≤ lastReached day h) →
       priceSum (day .hours) (pricesAt day (ofHour at)) (s .block) ≡ sumOfHours prices (hoursAt (tables .blocks) j)
   unfolding priceSum
   sum-same at prices priced fits =
@@ -221,10 +221,10 @@ module _ {tables : Tables} {left out : ℕ} {node : Node} {limit : ℕ} where
               )
 
       -- each of its blocks keeps its limit at the best prices there
-      block-could : {high lowest : List ℕ} → PricesOf (tables .unitPrices) from high → PricesOf (tables .unitPrices) to lowest → balances ≡ true → Small lastPlace (tables .last) →
+      block-could : {high lowest : List ℕ} → PricesOf (tables .unitPrices) from high → PricesOf (tables .unitPrices) to lowest → balances ≡ true →
           lossAbove day p rest (d ++ t) < limit → (j : ℕ) → j < tables .count → getD (d ++ t) j false ≡ true →
           keepsAt (sideAt (tables .blocks) j) (hoursAt (tables .blocks) j) (limitAt (tables .blocks) j) high lowest ≡ true
-      block-could ph pl e small k j inside set-bit =
+      block-could ph pl e k j inside set-bit =
           let s = known .shown j inside in
           let could = taken-could day (known .prices) (known .hours) (d ++ t) (whole ∙ sym (known .counted)) law (ofHour from) (ofHour to)
           record { from = λ h c. in-reach k h c .0; to = λ h c. in-reach k h c .1 }
@@ -232,31 +232,31 @@ module _ {tables : Tables} {left out : ℕ} {node : Node} {limit : ℕ} where
           could-same known ph pl (fits-in .0) (fits-in .1) s
           ∙ rw (block-at (day .blocks) j (s .block) _ noBlock (s .next)) at could
         where
-          fits-in : ((h : ℕ) → Counts (day .hours) h → ofHour from h ≤ lastPlace) × ((h : ℕ) → Counts (day .hours) h → ofHour to h ≤ lastPlace)
+          fits-in : ((h : ℕ) → Counts (day .hours) h → ofHour from h ≤ lastReached day h) × ((h : ℕ) → Counts (day .hours) h → ofHour to h ≤ lastReached day h)
           fits-in = (
             λ h c.
                 let below = smaller-below (ofHour least h + ofHour free h) (ofHour (tables .last) h) .1 in
-                omega (arith, reach .balanced e h (c .first) (c .last), reach .toIs h (c .first) (c .last), small (h - 1)),
+                omega (arith, reach .balanced e h (c .first) (c .last), reach .toIs h (c .first) (c .last), known .lastIs h c),
             λ h c.
                 let below = smaller-below (ofHour least h + ofHour free h) (ofHour (tables .last) h) .1 in
-                omega (arith, reach .toIs h (c .first) (c .last), small (h - 1)),
+                omega (arith, reach .toIs h (c .first) (c .last), known .lastIs h c),
           )
 
       -- the decided ones, and one of the rest
-      decided-could : {high lowest : List ℕ} → PricesOf (tables .unitPrices) from high → PricesOf (tables .unitPrices) to lowest → balances ≡ true → Small lastPlace (tables .last) →
+      decided-could : {high lowest : List ℕ} → PricesOf (tables .unitPrices) from high → PricesOf (tables .unitPrices) to lowest → balances ≡ true →
           lossAbove day p rest (d ++ t) < limit → allKeep (tables .blocks) (node .set) high lowest (tables .count - left) ≡ true
-      decided-could {high} {lowest} ph pl e small k =
+      decided-could {high} {lowest} ph pl e k =
           all-keep (tables .blocks) (node .set) high lowest (tables .count - left) (λ j m bit.
           let here : j < length d = omega (arith, size) in
-          block-could ph pl e small k j (omega arith)
+          block-could ph pl e k j (omega arith)
           (List·getD-append d t false j here ∙ rw (← (branch .setIs)) (bits-at (length d) (node .set) j here ∙ eq-eqb _ 1 bit)))
 
-      rest-could : {high lowest : List ℕ} → PricesOf (tables .unitPrices) from high → PricesOf (tables .unitPrices) to lowest → balances ≡ true → Small lastPlace (tables .last) →
+      rest-could : {high lowest : List ℕ} → PricesOf (tables .unitPrices) from high → PricesOf (tables .unitPrices) to lowest → balances ≡ true →
           lossAbove day p rest (d ++ t) < limit → (j : ℕ) → j < left → getD t j false ≡ true →
           keepsAt (sideAt (tables .blocks) (tables .count - left + j)) (hoursAt (tables .blocks) (tables .count - left + j)) (limitAt (tables .blocks) (tables .count - left + j)) high lowest ≡ true
-      rest-could ph pl e small k j inside bit =
+      rest-could ph pl e k j inside bit =
           let here : tables .count - left ≡ length d = omega (arith, size) in
-          block-could ph pl e small k (tables .count - left + j) (omega (arith, size)) (rw here (getD-behind d t j ∙ bit))
+          block-could ph pl e k (tables .count - left + j) (omega (arith, size)) (rw here (getD-behind d t j ∙ bit))
 
     -- some hour can no longer balance
     pub dropped-unbalanced : balances ≡ false → DroppedFrom tables left out node limit
@@ -269,22 +269,22 @@ module _ {tables : Tables} {left out : ℕ} {node : Node} {limit : ℕ} where
     dropped-by-gaps z day p rest d t at l law = unless _ _ (λ k. absurd (omega (arith, gaps-least t at l law k)))
 
     -- a taken block misses its limit at the best prices within reach
-    pub dropped-by-limit : {high lowest : List ℕ} → PricesOf (tables .unitPrices) from high → PricesOf (tables .unitPrices) to lowest → balances ≡ true → Small lastPlace (tables .last) →
+    pub dropped-by-limit : {high lowest : List ℕ} → PricesOf (tables .unitPrices) from high → PricesOf (tables .unitPrices) to lowest → balances ≡ true →
         allKeep (tables .blocks) (node .set) high lowest (tables .count - left) ≡ false → DroppedFrom tables left out node limit
-    dropped-by-limit ph pl e small misses day p rest d t at l law =
-        unless _ _ (λ k. clash (decided-could t at l law ph pl e small k) misses)
+    dropped-by-limit ph pl e misses day p rest d t at l law =
+        unless _ _ (λ k. clash (decided-could t at l law ph pl e k) misses)
 
     -- WHAT IS OUT: what was before, and an undecided block that misses its limit at the best prices within reach
-    pub judged-open : {high lowest : List ℕ} → PricesOf (tables .unitPrices) from high → PricesOf (tables .unitPrices) to lowest → balances ≡ true → Small lastPlace (tables .last) → left ≤ tables .count → {r : ℕ} →
+    pub judged-open : {high lowest : List ℕ} → PricesOf (tables .unitPrices) from high → PricesOf (tables .unitPrices) to lowest → balances ≡ true → left ≤ tables .count → {r : ℕ} →
         ((k : ℕ) → k < tables .count - (tables .count - left) → isOut r k ≡ isRuledOut (tables .blocks) (tables .count - left + k) (isOut out k) high lowest) →
         JudgedFrom tables left out node limit false r
     unfolding isRuledOut
-    judged-open ph pl e small le is = record {
+    judged-open ph pl e le is = record {
       dropped = λ z. clash z refl;
       outOf = λ _ day p rest d at t k l law less inside ruled.
           by-test (λ u. getD t k false ≡ u → u ≡ false) (getD t k false)
           (λ bit _.
-          let keeps = rest-could t at l law ph pl e small less k inside bit in
+          let keeps = rest-could t at l law ph pl e less k inside bit in
           clash (sym (at .outOf t k l law less inside (either-out (isOut out k) _ keeps (sym (is k (omega arith)) ∙ ruled))) ∙ bit) refl)
           (λ _ _. refl) refl;
     }

@@ -60,18 +60,21 @@ pub record Shown (day : Day) (p : ℕ → ℕ) (blocks : List ℕ) (j : ℕ) : T
   pub againstIs : against (day .hours) p block ≡ againstAt blocks j
   pub gainIs : gain (day .hours) p block ≡ gainAt blocks j
 
+-- The last place that a set of the day's blocks can have in hour h: where every sell is taken and every buy left out.
+abbrev pub lastReached : Day → ℕ → ℕ
+lastReached day h = overBlocks (sells h) (day .blocks) + overBlocks (buys h) (day .blocks)
+
 pub record Known (day : Day) (p rest : ℕ → ℕ) (t : Tables) : Type 0 where
   pub prices : PricesInRange (day .steps)
   pub hours : HoursInRange (day .steps)
   pub counted : length (day .blocks) ≡ t .count
-  -- no hour's blocks together reach past its row
-  pub fits : (h : ℕ) → Counts (day .hours) h → overBlocks (sells h) (day .blocks) + overBlocks (buys h) (day .blocks) ≤ lastPlace
   -- the price table: the least price that meets the demand, one unit of N below the place
-  pub unitPriceIs : (h i : ℕ) → Counts (day .hours) h → i ≤ lastPlace + 1 →
+  pub unitPriceIs : (h i : ℕ) → Counts (day .hours) h → i ≤ lastReached day h + 1 →
       cell (t .unitPrices) h i ≡ unitPrice (net (stepsIn h (day .steps)) i (suc (overBlocks (buys h) (day .blocks))))
   -- the places at which an hour clears, of those that its blocks can reach
-  pub clears : (h i : ℕ) → Counts (day .hours) h → i ≤ lastPlace → ofHour (t .first) h ≤ i → i ≤ ofHour (t .last) h → Clearable (hourAt day h i)
-  pub clearsOnly : (h i : ℕ) → Counts (day .hours) h → i ≤ overBlocks (sells h) (day .blocks) + overBlocks (buys h) (day .blocks) → Clearable (hourAt day h i) →
+  pub lastIs : (h : ℕ) → Counts (day .hours) h → ofHour (t .last) h ≤ lastReached day h
+  pub clears : (h i : ℕ) → Counts (day .hours) h → ofHour (t .first) h ≤ i → i ≤ ofHour (t .last) h → Clearable (hourAt day h i)
+  pub clearsOnly : (h i : ℕ) → Counts (day .hours) h → i ≤ lastReached day h → Clearable (hourAt day h i) →
       (ofHour (t .first) h ≤ i) × (i ≤ ofHour (t .last) h)
   -- the gap table
   pub gapIs : (h i : ℕ) → Counts (day .hours) h → ofHour (t .first) h ≤ i → i ≤ ofHour (t .last) h →

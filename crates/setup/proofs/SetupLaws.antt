@@ -40,12 +40,13 @@ use Rattle.tables.proofs.GapLaws.{gap-table, gap-falls, gap-rises}
 use Rattle.places.specs.Hours.{Small, cell, ofHour, sumOfHours}
 use Rattle.places.specs.Blocks.{sideAt, quantityAt, limitAt, aheadAt, behindAt, BlocksSized}
 use Rattle.search.specs.Tables.{Tables}
-use Rattle.search.specs.Meaning.{Sized, Shown, Known, Turning}
+use Rattle.search.specs.Meaning.{lastReached, Sized, Shown, Known, Turning}
 use Rattle.setup.specs.Setup.{
   StepsHeld,
   BlocksHeld,
   fromTo,
   hourPart,
+  rowPlaces,
   tableRow,
   RowsAre,
   RangedAt,
@@ -110,25 +111,9 @@ trades-fit : (h : ℕ) (l : List Block) → Each BlockInRange l → overBlocks (
 trades-fit h [] e = omega arith
 trades-fit h (s ∷ l) e = omega (arith, trade-fits h s (e .0), trades-fit h l (e .1))
 
--- THE TABLE IS SMALL
-row-at : (table : List ℕ) (h i : ℕ) → i < rowSize → getD (tableRow table h) i 0 ≡ getD table (h * rowSize + i) 0
-row-at table h i k = getD-take rowSize (drop (h * rowSize) table) i 0 k ∙ getD-drop (h * rowSize) table i 0
-
-module _ (sides prices quantities ends off unitPrices : List ℕ) (size : length unitPrices ≡ tableSize) (rows : RowsAre sides prices quantities ends off unitPrices) where
-  pub prices-small : Small maxPrice unitPrices
-  prices-small i = elim (decLe tableSize i) [
-    | yes k ↦ let z : length unitPrices ≤ i = omega arith in rw (lib.ListN.List·getD-eq-default unitPrices 0 z) (omega arith)
-    | no k ↦
-        let a : i < tableSize = lt-of-not-le k in
-        let h = i / rowSize in
-        let hk : i / rowSize < dayHours = omega arith in
-        let e : h * rowSize + i % rowSize ≡ i = omega arith in
-        let m : i % rowSize < rowSize = omega arith in
-        let inside : i % rowSize < length (tableRow unitPrices h) = omega (arith, row-length unitPrices h size hk) in
-        let l = stepsFrom 0 (hourPart ends h sides) (hourPart ends h prices) (hourPart ends h quantities) in
-        let top = table-in-range l (getD off h 0) (tableRow unitPrices h) (rows h hk 0) (i % rowSize) inside in
-        rw e at (rw (row-at unitPrices h (i % rowSize) m) at top)
-  ]
+-- a place of a row
+row-at : (table : List ℕ) (h most i : ℕ) → i < rowPlaces most → getD (tableRow table h most) i 0 ≡ getD table (h * rowSize + i) 0
+row-at table h most i k = getD-take (rowPlaces most) (drop (h * rowSize) table) i 0 k ∙ getD-drop (h * rowSize) table i 0
 
 -- a part of a column, in either form
 slice-from-to : (a e : ℕ) (l : List ℕ) → a ≤ e → slice a e l ≡ fromTo a e l
@@ -286,7 +271,7 @@ module _ (b ends stepRecords sides prices quantities : List ℕ) (count : ℕ) (
   -- THE HOURS
   module _ (off most root unitPrices gap first last turn columns : List ℕ) (pricesSize : length unitPrices ≡ tableSize)
       (bought : TradedBy count blockSides hours blockQuantities false off) (traded : TradedBy count blockSides hours blockQuantities true most)
-      (rows : RowsAre sides prices quantities ends off unitPrices) (ranges : RangesAre sides prices quantities ends off most root unitPrices gap first last turn)
+      (rows : RowsAre sides prices quantities ends off most unitPrices) (ranges : RangesAre sides prices quantities ends off most root unitPrices gap first last turn)
       (blocks : Completed blockSides hours blockPrices blockQuantities root count columns) where
     abbrev rootOf : ℕ → ℕ
     rootOf h = getD root (h - 1) 0
@@ -308,13 +293,16 @@ module _ (b ends stepRecords sides prices quantities : List ℕ) (count : ℕ) (
       abbrev steps : List Step
       steps = stepsIn h (dayFrom b .steps)
 
+      abbrev mostHere : ℕ
+      mostHere = getD most (h - 1) 0
+
       abbrev offHere : ℕ
       offHere = getD off (h - 1) 0
 
       range : RangedAt sides prices quantities ends off most root unitPrices gap first last turn (h - 1)
       range = ranges (h - 1) inside
 
-      unit-prices : UnitPrices steps offHere (tableRow unitPrices (h - 1))
+      unit-prices : UnitPrices steps offHere (tableRow unitPrices (h - 1) mostHere)
       unit-prices = rw (steps-are h from to) (rows (h - 1) inside h)
 
       prices-here : PricesInRange steps
@@ -326,29 +314,32 @@ module _ (b ends stepRecords sides prices quantities : List ℕ) (count : ℕ) (
       sold-here : range .sold ≡ allSells steps
       sold-here = rw (steps-are h from to) (range .all .allSold h (rw (steps-are h from to) at prices-here))
 
-      abbrev mostHere : ℕ
-      mostHere = getD most (h - 1) 0
-
       clearing-at : (i : ℕ) → i ≤ mostHere → ((ofHour first h ≤ i) × (i ≤ ofHour last h)) ↔ Clearable (net steps i offHere)
       clearing-at = range .range .clearing steps bought-here sold-here
 
-      cell-is : (table : List ℕ) (i : ℕ) → i ≤ lastPlace + 1 → getD (tableRow table (h - 1)) i 0 ≡ cell table h i
-      cell-is table i k = row-at table (h - 1) i (omega arith)
+      most-fits : mostHere ≤ lastPlace
+      most-fits = traded .small (h - 1)
 
-      unit-price-is : (i : ℕ) → i ≤ lastPlace + 1 → cell unitPrices h i ≡ unitPrice (net steps i (suc (overBlocks (buys h) (dayFrom b .blocks))))
+      cell-is : (table : List ℕ) (i : ℕ) → i ≤ mostHere + 1 → getD (tableRow table (h - 1) mostHere) i 0 ≡ cell table h i
+      cell-is table i k = row-at table (h - 1) mostHere i (omega arith)
+
+      unit-price-is : (i : ℕ) → i ≤ lastReached (dayFrom b) h + 1 → cell unitPrices h i ≡ unitPrice (net steps i (suc (overBlocks (buys h) (dayFrom b .blocks))))
       unit-price-is i k =
-          rw (← off-is) (sym (cell-is unitPrices i k) ∙ unit-prices i (omega (arith, row-length unitPrices (h - 1) pricesSize inside)))
+          rw (← off-is) (sym (cell-is unitPrices i (omega (arith, most-is))) ∙ unit-prices i (omega (arith, most-is, row-length unitPrices (h - 1) mostHere pricesSize inside most-fits)))
 
-      row-falls : NotRising (tableRow unitPrices (h - 1))
-      row-falls = table-not-rising steps offHere (tableRow unitPrices (h - 1)) unit-prices
+      row-falls : NotRising (tableRow unitPrices (h - 1) mostHere)
+      row-falls = table-not-rising steps offHere (tableRow unitPrices (h - 1) mostHere) unit-prices
 
-      row-inside : ofHour last h < length (tableRow unitPrices (h - 1))
-      row-inside = omega (arith, range .range .inside, traded .small (h - 1), row-length unitPrices (h - 1) pricesSize inside)
+      row-inside : ofHour last h < length (tableRow unitPrices (h - 1) mostHere)
+      row-inside = omega (arith, range .range .inside, traded .small (h - 1), row-length unitPrices (h - 1) mostHere pricesSize inside most-fits)
 
-      clears-at : (i : ℕ) → i ≤ lastPlace → ofHour first h ≤ i → i ≤ ofHour last h → Clearable (hourAt (dayFrom b) h i)
-      clears-at i k x y = rw (← off-is) (clearing-at i (omega (arith, range .range .inside)) .0 (x, y))
+      last-is : ofHour last h ≤ lastReached (dayFrom b) h
+      last-is = omega (arith, range .range .inside, most-is)
 
-      clears-only : (i : ℕ) → i ≤ overBlocks (sells h) (dayFrom b .blocks) + overBlocks (buys h) (dayFrom b .blocks) → Clearable (hourAt (dayFrom b) h i) → (ofHour first h ≤ i) × (i ≤ ofHour last h)
+      clears-at : (i : ℕ) → ofHour first h ≤ i → i ≤ ofHour last h → Clearable (hourAt (dayFrom b) h i)
+      clears-at i x y = rw (← off-is) (clearing-at i (omega (arith, range .range .inside)) .0 (x, y))
+
+      clears-only : (i : ℕ) → i ≤ lastReached (dayFrom b) h → Clearable (hourAt (dayFrom b) h i) → (ofHour first h ≤ i) × (i ≤ ofHour last h)
       clears-only i k c = clearing-at i (omega (arith, most-is)) .1 (rw (← off-is) at c)
 
       -- the gap table
@@ -358,13 +349,13 @@ module _ (b ends stepRecords sides prices quantities : List ℕ) (count : ℕ) (
           (bought-within count blockSides hours blockQuantities off most bought traded (h - 1) inside)
 
       gap-here : (i : ℕ) → ofHour first h ≤ i → i ≤ ofHour last h →
-          slack (rootOf h) (net steps i offHere) ≡ getD (tableRow gap (h - 1)) i 0 + slack (rootOf h) (net steps (ofHour turn h) offHere)
+          slack (rootOf h) (net steps i offHere) ≡ getD (tableRow gap (h - 1) mostHere) i 0 + slack (rootOf h) (net steps (ofHour turn h) offHere)
       gap-here =
           let o = ordered in
           let top = range .range .inside in
           let fits = traded .small (h - 1) in
-          gap-table steps prices-here offHere (tableRow unitPrices (h - 1)) unit-prices (rootOf h) (ofHour first h) (ofHour last h) (ofHour turn h)
-          (tableRow gap (h - 1)) (range .gaps) (omega (arith, row-length unitPrices (h - 1) pricesSize inside))
+          gap-table steps prices-here offHere (tableRow unitPrices (h - 1) mostHere) unit-prices (rootOf h) (ofHour first h) (ofHour last h) (ofHour turn h)
+          (tableRow gap (h - 1) mostHere) (range .gaps) (omega (arith, row-length unitPrices (h - 1) mostHere pricesSize inside most-fits))
           (clearing-at (ofHour first h) (omega arith) .0 (omega arith, omega arith))
           (clearing-at (ofHour last h) (omega arith) .0 (omega arith, omega arith))
 
@@ -390,8 +381,8 @@ module _ (b ends stepRecords sides prices quantities : List ℕ) (count : ℕ) (
       prices = prices-in-range b a;
       hours = hours-in-range b a;
       counted = blocks-counted;
-      fits = λ h c. blocks-fit h;
       unitPriceIs = λ h i c. unit-price-is h (c .first) (c .last) i;
+      lastIs = λ h c. last-is h (c .first) (c .last);
       clears = λ h i c. clears-at h (c .first) (c .last) i;
       clearsOnly = λ h i c. clears-only h (c .first) (c .last) i;
       gapIs = λ h i c. gap-is h (c .first) (c .last) i;
@@ -431,7 +422,7 @@ set-up t prices gaps first last fits small blocks few =
 
 pub ready : (sides prices quantities ends : List ℕ) (count : ℕ) (records blockSides hours blockPrices blockQuantities : List ℕ)
     (off most root unitPrices gap first last turn columns : List ℕ) → length unitPrices ≡ tableSize → TradedBy count blockSides hours blockQuantities false off →
-    TradedBy count blockSides hours blockQuantities true most → RowsAre sides prices quantities ends off unitPrices →
+    TradedBy count blockSides hours blockQuantities true most → RowsAre sides prices quantities ends off most unitPrices →
     RangesAre sides prices quantities ends off most root unitPrices gap first last turn →
     Completed blockSides hours blockPrices blockQuantities root count columns →
     ReadyFor sides prices quantities ends records blockSides hours blockPrices blockQuantities

@@ -4,8 +4,10 @@ use mathlib.Core.Path.{_≡_, refl, sym, ap, _∙_}
 use mathlib.Core.List.{List, [], _∷_, _++_}
 use native.Mathlib.Omega.{arith}
 use native.Mathlib.Numerals.{add-one}
+use native.Mathlib.Decide.{decLe}
+use native.Mathlib.Nat.{lt-of-not-le}
 use lib.ListN.{length, take, drop, getD, set, replicate, length-set, length-take, length-drop}
-use lib.Seq.{length-take-le, take-take, take-nil, drop-nil, drop-at, take-at, getD-set-same, getD-set-other}
+use lib.Seq.{length-take-le, take-take, take-nil, drop-nil, drop-at, take-at, getD-set-same, getD-set-other, getD-drop}
 use borrow.Rule.Slice.PartMut.{putMid, midOf, take-put, same-len-mid}
 use Rattle.places.specs.Layout.{dayHours, lastPlace, rowSize, tableSize}
 use Rattle.rules.specs.Orders.{Step, buy, sell, maxPrice}
@@ -13,7 +15,7 @@ use Rattle.orders.specs.Columns.{stepsFrom}
 use Rattle.tables.specs.Tables.{PriceTable, AllOf, ClearRange, NotRising, GapsFor, GapTable}
 use Rattle.tables.proofs.LevelLaws.{table-not-rising, table-in-range}
 use Rattle.places.specs.Hours.{Small}
-use Rattle.setup.specs.Setup.{StepsHeld, PartHeld, hourPart, tableRow, RowIs, RowsAre, Ranged, RangedAt, RangesAre}
+use Rattle.setup.specs.Setup.{StepsHeld, PartHeld, hourPart, rowPlaces, tableRow, RowIs, RowsAre, Ranged, RangedAt, RangesAre}
 use Rattle.places.proofs.NumberLaws.{below-next, zeros}
 use Rattle.roots.proofs.SizeLaws.{set-small}
 
@@ -38,61 +40,96 @@ part-held sides prices quantities ends s h k = record {
   inside = s .inside (h + 1) (omega arith);
 }
 
+-- SMALL NUMBERS in lists put together
+small-append : (m : ℕ) (a b : List ℕ) → Small m a → Small m b → Small m (a ++ b)
+small-append m [] b sa sb i = sb i
+small-append m (x ∷ a) b sa sb zero = sa 0
+small-append m (x ∷ a) b sa sb (suc i) = small-append m a b (λ j. sa (suc j)) sb i
+
+small-front : (m n : ℕ) (l : List ℕ) → Small m l → Small m (take n l)
+small-front m zero [] s i = s i
+small-front m zero (x ∷ l) s i = let none : length (take 0 (x ∷ l)) ≤ i = omega arith in rw (lib.ListN.List·getD-eq-default (take 0 (x ∷ l)) 0 none) (omega arith)
+small-front m (suc n) [] s i = s i
+small-front m (suc n) (x ∷ l) s zero = s 0
+small-front m (suc n) (x ∷ l) s (suc i) = small-front m n l (λ j. s (suc j)) i
+
+small-behind : (m n : ℕ) (l : List ℕ) → Small m l → Small m (drop n l)
+small-behind m n l s i = rw (getD-drop n l i 0) (s (n + i))
+
 -- ROWS
-module _ (table row : List ℕ) (h k : ℕ) (size : length table ≡ tableSize) (here : h < dayHours) (full : length row ≡ rowSize) (wide : k ≡ rowSize) where
-  pub row-put : tableRow (putMid (h * rowSize) k table row) h ≡ row
+module _ (table row : List ℕ) (h k most : ℕ) (size : length table ≡ tableSize) (here : h < dayHours) (fits : most ≤ lastPlace)
+    (full : length row ≡ rowPlaces most) (wide : k ≡ rowPlaces most) where
+  pub row-put : tableRow (putMid (h * rowSize) k table row) h most ≡ row
   row-put =
       let n : h * rowSize ≤ length table = omega arith in
       rw (
         drop-at (take (h * rowSize) table) (row ++ drop k (drop (h * rowSize) table)) (h * rowSize) (length-take-le (h * rowSize) table n),
-        take-at row (drop k (drop (h * rowSize) table)) rowSize full,
+        take-at row (drop k (drop (h * rowSize) table)) (rowPlaces most) full,
       )
 
-  pub row-before : (j : ℕ) → j < h → tableRow (putMid (h * rowSize) k table row) j ≡ tableRow table j
-  row-before j a =
-      part-front (j * rowSize) rowSize (h * rowSize) (putMid (h * rowSize) k table row) table (omega arith) (take-put (h * rowSize) k table row (omega arith))
+  pub row-before : (j n : ℕ) → j < h → n ≤ lastPlace → tableRow (putMid (h * rowSize) k table row) j n ≡ tableRow table j n
+  row-before j n a few =
+      part-front (j * rowSize) (rowPlaces n) (h * rowSize) (putMid (h * rowSize) k table row) table (omega arith) (take-put (h * rowSize) k table row (omega arith))
 
   pub put-size : length (putMid (h * rowSize) k table row) ≡ tableSize
   put-size =
       let e : length row ≡ length (midOf (h * rowSize) k table) = rw (wide, full) (simp (length-take, length-drop) (omega arith)) in
       same-len-mid (h * rowSize) k table row e ∙ size
 
-pub row-length : (table : List ℕ) (h : ℕ) → length table ≡ tableSize → h < dayHours → length (tableRow table h) ≡ rowSize
-row-length table h size k = simp (length-take, length-drop) (omega arith)
+  -- what is small stays so
+  pub put-small : (m : ℕ) → Small m table → Small m row → Small m (putMid (h * rowSize) k table row)
+  put-small m small rowSmall =
+      small-append m (take (h * rowSize) table) (row ++ drop k (drop (h * rowSize) table)) (small-front m (h * rowSize) table small)
+      (small-append m row (drop k (drop (h * rowSize) table)) rowSmall (small-behind m k (drop (h * rowSize) table) (small-behind m (h * rowSize) table small)))
 
-pub part-length : (table : List ℕ) (h : ℕ) → length table ≡ tableSize → h < dayHours →
-    length (take (h * rowSize + rowSize - h * rowSize) (drop (h * rowSize) table)) ≡ rowSize
-part-length table h size k = simp (length-take, length-drop) (omega arith)
+pub row-length : (table : List ℕ) (h most : ℕ) → length table ≡ tableSize → h < dayHours → most ≤ lastPlace →
+    length (tableRow table h most) ≡ rowPlaces most
+row-length table h most size k fits = simp (length-take, length-drop) (omega arith)
 
-pub row-wide : (h : ℕ) → h * rowSize + rowSize - h * rowSize ≡ rowSize
-row-wide h = omega arith
+pub part-length : (table : List ℕ) (h most : ℕ) → length table ≡ tableSize → h < dayHours → most ≤ lastPlace →
+    length (take (h * rowSize + most + 2 - h * rowSize) (drop (h * rowSize) table)) ≡ rowPlaces most
+part-length table h most size k fits = simp (length-take, length-drop) (omega arith)
+
+pub row-wide : (h most : ℕ) → h * rowSize + most + 2 - h * rowSize ≡ rowPlaces most
+row-wide h most = omega arith
 
 -- the part of a table that is lent is the row
-pub part-row : (table : List ℕ) (h : ℕ) → take (h * rowSize + rowSize - h * rowSize) (drop (h * rowSize) table) ≡ tableRow table h
-part-row table h = rw (row-wide h)
+pub part-row : (table : List ℕ) (h most : ℕ) → take (h * rowSize + most + 2 - h * rowSize) (drop (h * rowSize) table) ≡ tableRow table h most
+part-row table h most = rw (row-wide h most)
 
 -- THE PRICE TABLES
-module _ (sides prices quantities ends off : List ℕ) where
+module _ (sides prices quantities ends off most : List ℕ) where
   pub record RowsTo (unitPrices : List ℕ) (h : ℕ) : Type 0 where
     pub inside : h ≤ dayHours
     pub size : length unitPrices ≡ tableSize
-    pub done : (j : ℕ) → j < h → RowIs sides prices quantities ends off unitPrices j
+    pub small : Small maxPrice unitPrices
+    pub done : (j : ℕ) → j < h → RowIs sides prices quantities ends off most unitPrices j
 
-  pub rows-start : (unitPrices : List ℕ) → length unitPrices ≡ tableSize → RowsTo unitPrices 0
-  rows-start unitPrices e = record { inside = omega arith; size = e; done = λ j a. absurd (omega arith) }
+  pub rows-start : (unitPrices : List ℕ) → length unitPrices ≡ tableSize → Small maxPrice unitPrices → RowsTo unitPrices 0
+  rows-start unitPrices e s = record { inside = omega arith; size = e; small = s; done = λ j a. absurd (omega arith) }
 
-  pub rows-next : (unitPrices row : List ℕ) (h k : ℕ) → RowsTo unitPrices h → h < dayHours → length row ≡ rowSize → k ≡ rowSize →
+  -- a row of unit prices is small
+  row-small : (h : ℕ) (row : List ℕ) → PriceTable (hourPart ends h sides) (hourPart ends h prices) (hourPart ends h quantities) (getD off h 0) row → Small maxPrice row
+  row-small h row t i = elim (decLe (length row) i) [
+    | yes k ↦ rw (lib.ListN.List·getD-eq-default row 0 k) (omega arith)
+    | no k ↦ table-in-range (stepsFrom 0 (hourPart ends h sides) (hourPart ends h prices) (hourPart ends h quantities)) (getD off h 0) row (t 0) i (lt-of-not-le k)
+  ]
+
+  pub rows-next : Small lastPlace most → (unitPrices row : List ℕ) (h k : ℕ) → RowsTo unitPrices h → h < dayHours → length row ≡ rowPlaces (getD most h 0) → k ≡ rowPlaces (getD most h 0) →
       PriceTable (hourPart ends h sides) (hourPart ends h prices) (hourPart ends h quantities) (getD off h 0) row →
       RowsTo (putMid (h * rowSize) k unitPrices row) (h + 1)
-  rows-next unitPrices row h k r a full wide t = record {
+  rows-next few unitPrices row h k r a full wide t = record {
     inside = omega arith;
-    size = put-size unitPrices row h k (r .size) a full wide;
-    done = λ j b. below-next (RowIs sides prices quantities ends off (putMid (h * rowSize) k unitPrices row)) h j
-        (λ c. rw (row-before unitPrices row h k (r .size) a full wide j c) (r .done j c)) (rw (row-put unitPrices row h k (r .size) a full wide) t) (rw add-one at b);
+    size = put-size unitPrices row h k (getD most h 0) (r .size) a (few h) full wide;
+    small = put-small unitPrices row h k (getD most h 0) (r .size) a (few h) full wide maxPrice (r .small) (row-small h row t);
+    done = λ j b. below-next (RowIs sides prices quantities ends off most (putMid (h * rowSize) k unitPrices row)) h j
+        (λ c. rw (row-before unitPrices row h k (getD most h 0) (r .size) a (few h) full wide j (getD most j 0) c (few j)) (r .done j c))
+        (rw (row-put unitPrices row h k (getD most h 0) (r .size) a (few h) full wide) t) (rw add-one at b);
   }
 
-  pub rows-all : (unitPrices : List ℕ) (h : ℕ) → RowsTo unitPrices h → dayHours ≤ h → RowsAre sides prices quantities ends off unitPrices
-  rows-all unitPrices h r k j a = r .done j (omega arith)
+  pub rows-all : (unitPrices : List ℕ) (h : ℕ) → RowsTo unitPrices h → dayHours ≤ h →
+      RowsAre sides prices quantities ends off most unitPrices × Small maxPrice unitPrices
+  rows-all unitPrices h r k = (λ j a. r .done j (omega arith), r .small)
 
 -- ONE HOUR'S RANGE: it has the place off
 pub range-holds : (buys sells off most first last : ℕ) → ClearRange buys sells off most first last → off ≤ most → (first ≤ off) × (off ≤ last)
@@ -101,8 +138,8 @@ range-holds buys sells off most first last r k =
     r .clearing l (omega arith) (omega arith) off k .1 (record { buysSuffice = omega arith; sellsSuffice = omega arith })
 
 module _ (sides prices quantities : List ℕ) (off most price : ℕ) (row : List ℕ) (table : PriceTable sides prices quantities off row)
-    (size : length row ≡ rowSize) (small : off ≤ most) (few : most ≤ lastPlace) (top : price ≤ maxPrice) where
-  pub hour-room : (buys sells first last : ℕ) (gap : List ℕ) → length gap ≡ rowSize → ClearRange buys sells off most first last →
+    (size : length row ≡ rowPlaces most) (small : off ≤ most) (few : most ≤ lastPlace) (top : price ≤ maxPrice) where
+  pub hour-room : (buys sells first last : ℕ) (gap : List ℕ) → length gap ≡ rowPlaces most → ClearRange buys sells off most first last →
       GapsFor row price first last gap × NotRising row
   hour-room buys sells first last gap e r =
       let l = stepsFrom 0 sides prices quantities in (
@@ -147,30 +184,30 @@ module _ (sides prices quantities ends off most root unitPrices : List ℕ) wher
     done = λ j a. absurd (omega arith);
   }
 
-  pub ranges-next : (gap first last turn row : List ℕ) (h k f l m : ℕ) → RangesTo gap first last turn h → h < dayHours → length row ≡ rowSize → k ≡ rowSize → l ≤ lastPlace →
-      Ranged (hourPart ends h sides) (hourPart ends h prices) (hourPart ends h quantities) (getD off h 0) (getD most h 0) (getD root h 0) f l m (tableRow unitPrices h) row →
+  pub ranges-next : Small lastPlace most → (gap first last turn row : List ℕ) (h k f l m : ℕ) → RangesTo gap first last turn h → h < dayHours → length row ≡ rowPlaces (getD most h 0) → k ≡ rowPlaces (getD most h 0) → l ≤ lastPlace →
+      Ranged (hourPart ends h sides) (hourPart ends h prices) (hourPart ends h quantities) (getD off h 0) (getD most h 0) (getD root h 0) f l m (tableRow unitPrices h (getD most h 0)) row →
       RangesTo (putMid (h * rowSize) k gap row) (set first h f) (set last h l) (set turn h m) (h + 1)
-  ranges-next gap first last turn row h k f l m r a full wide small t =
+  ranges-next few gap first last turn row h k f l m r a full wide small t =
       let inF : h < length first = omega (arith, r .firstSize) in
       let inL : h < length last = omega (arith, r .lastSize) in
       let inT : h < length turn = omega (arith, r .turnSize) in
       let new = putMid (h * rowSize) k gap row in
       record {
         inside = omega arith;
-        size = put-size gap row h k (r .size) a full wide;
+        size = put-size gap row h k (getD most h 0) (r .size) a (few h) full wide;
         firstSize = rw length-set (r .firstSize);
         lastSize = rw length-set (r .lastSize);
         turnSize = rw length-set (r .turnSize);
         small = set-small lastPlace last h l inL small (r .small);
         done = λ j b. below-next (RangedAt sides prices quantities ends off most root unitPrices new (set first h f) (set last h l) (set turn h m)) h j
             (λ c. rw (
-              row-before gap row h k (r .size) a full wide j c,
+              row-before gap row h k (getD most h 0) (r .size) a (few h) full wide j (getD most j 0) c (few j),
               getD-set-other first h j f 0 (λ e. omega arith),
               getD-set-other last h j l 0 (λ e. omega arith),
               getD-set-other turn h j m 0 (λ e. omega arith),
             ) (r .done j c))
             (rw (
-              row-put gap row h k (r .size) a full wide,
+              row-put gap row h k (getD most h 0) (r .size) a (few h) full wide,
               getD-set-same first h f 0 inF,
               getD-set-same last h l 0 inL,
               getD-set-same turn h m 0 inT,

@@ -42,15 +42,19 @@ pub record BlocksHeld (count : ℕ) (prices quantities : List ℕ) : Type 0 wher
   pub pricesFit : FirstSmall count maxPrice prices
   pub quantitiesFit : FirstSmall count mostQuantity quantities
 
--- PARTS: the numbers of a column from a up to e; those of hour h + 1; and that hour's row of a table.
+-- PARTS: the numbers of a column from a up to e; those of hour h + 1; and that hour's row of a table, as far as it is filled.
 abbrev pub fromTo : ℕ → ℕ → List ℕ → List ℕ
 fromTo a e column = take (e - a) (drop a column)
 
 abbrev pub hourPart : List ℕ → ℕ → List ℕ → List ℕ
 hourPart ends h column = fromTo (getD ends h 0) (getD ends (h + 1) 0) column
 
-abbrev pub tableRow : List ℕ → ℕ → List ℕ
-tableRow table h = take rowSize (drop (h * rowSize) table)
+-- The places of a row that are filled, where an hour's blocks reach the places 0 to most: these and the one above them.
+abbrev pub rowPlaces : ℕ → ℕ
+rowPlaces most = most + 2
+
+abbrev pub tableRow : List ℕ → (h most : ℕ) → List ℕ
+tableRow table h most = take (rowPlaces most) (drop (h * rowSize) table)
 
 -- THE TABLES
 -- A row is the price table of the steps from a up to e.
@@ -58,12 +62,12 @@ abbrev pub TableOf : (sides prices quantities : List ℕ) (a e off : ℕ) (row :
 TableOf sides prices quantities a e off row = PriceTable (fromTo a e sides) (fromTo a e prices) (fromTo a e quantities) off row
 
 -- The row of hour h + 1 is its price table.
-abbrev pub RowIs : (sides prices quantities ends off unitPrices : List ℕ) → ℕ → Type 0
-RowIs sides prices quantities ends off unitPrices h =
-    PriceTable (hourPart ends h sides) (hourPart ends h prices) (hourPart ends h quantities) (getD off h 0) (tableRow unitPrices h)
+abbrev pub RowIs : (sides prices quantities ends off most unitPrices : List ℕ) → ℕ → Type 0
+RowIs sides prices quantities ends off most unitPrices h =
+    PriceTable (hourPart ends h sides) (hourPart ends h prices) (hourPart ends h quantities) (getD off h 0) (tableRow unitPrices h (getD most h 0))
 
-abbrev pub RowsAre : (sides prices quantities ends off unitPrices : List ℕ) → Type 0
-RowsAre sides prices quantities ends off unitPrices = (h : ℕ) → h < dayHours → RowIs sides prices quantities ends off unitPrices h
+abbrev pub RowsAre : (sides prices quantities ends off most unitPrices : List ℕ) → Type 0
+RowsAre sides prices quantities ends off most unitPrices = (h : ℕ) → h < dayHours → RowIs sides prices quantities ends off most unitPrices h
 
 -- The places at which an hour clears, of those up to most, and its gaps there at a price, the least at turn.
 pub record Ranged (sides prices quantities : List ℕ) (off most price first last turn : ℕ) (unitPrices gap : List ℕ) : Type 0 where
@@ -80,7 +84,7 @@ RangedOf sides prices quantities a e off most price first last turn unitPrices g
 abbrev pub RangedAt : (sides prices quantities ends off most root unitPrices gap first last turn : List ℕ) → ℕ → Type 0
 RangedAt sides prices quantities ends off most root unitPrices gap first last turn h =
     Ranged (hourPart ends h sides) (hourPart ends h prices) (hourPart ends h quantities) (getD off h 0) (getD most h 0) (getD root h 0) (getD first h 0)
-    (getD last h 0) (getD turn h 0) (tableRow unitPrices h) (tableRow gap h)
+    (getD last h 0) (getD turn h 0) (tableRow unitPrices h (getD most h 0)) (tableRow gap h (getD most h 0))
 
 abbrev pub RangesAre : (sides prices quantities ends off most root unitPrices gap first last turn : List ℕ) → Type 0
 RangesAre sides prices quantities ends off most root unitPrices gap first last turn =

@@ -2,6 +2,8 @@
 ghost use mathlib.Core.Path.{_≡_};
 ghost use lib.ListN.{length};
 ghost use Rattle.places.specs.Layout.{tableSize};
+ghost use Rattle.places.specs.Hours.{Small};
+ghost use Rattle.rules.specs.Orders.{maxPrice};
 ghost use Rattle.search.specs.Tables.{tablesOf};
 ghost use Rattle.search.specs.Meaning.{Sized};
 ghost use Rattle.setup.specs.Setup.{StepsHeld, BlocksHeld, ReadyFor};
@@ -41,7 +43,7 @@ pub fn prepare(
 ) -> Prepared
     requires steps { ⌜ StepsHeld (now sides) (now prices) (now quantities) ends ⌝ }
     requires blocks { ⌜ BlocksHeld (blocks .count) (blocks .prices) (blocks .quantities) ⌝ }
-    requires tables { ⌜ (length (now «unit_prices») ≡ tableSize) × (length (now gap) ≡ tableSize) ⌝ }
+    requires tables { ⌜ (length (now «unit_prices») ≡ tableSize) × (length (now gap) ≡ tableSize) × Small maxPrice (now «unit_prices») ⌝ }
     ensures sized { λ r. ⌜ Sized (tablesOf (now («unit_prices» .exit)) (now (gap .exit)) (r .hours) (r .columns) (blocks .count)) ⌝ }
     ensures ready { λ r. ⌜ ReadyFor (now (sides .entry)) (now (prices .entry)) (now (quantities .entry)) ends
         (blocks .records) (blocks .sides) (blocks .hours) (blocks .prices) (blocks .quantities)
@@ -54,7 +56,7 @@ pub fn prepare(
     let amounts = blocks.quantities;
     let off = traded_by_hour(count, block_sides, hours, amounts, false);
     let most = traded_by_hour(count, block_sides, hours, amounts, true);
-    fill_tables(sides, prices, quantities, ends, off, unit_prices);
+    fill_tables(sides, prices, quantities, ends, off, most, unit_prices);
     let root = root_prices(unit_prices, off, count, block_sides, hours, limits, amounts);
     let ranges = fill_ranges(
         sides,

@@ -5,7 +5,7 @@ ghost use lib.ListN.{length, getD};
 ghost use Rattle.rules.specs.Orders.{maxPrice};
 ghost use Rattle.places.specs.Layout.{dayHours, lastPlace, rowSize, tableSize};
 ghost use Rattle.places.specs.Hours.{Small, clearsFirst, clearsLast, gapsTurn};
-ghost use Rattle.setup.specs.Setup.{StepsHeld, PartHeld, TableOf, RowsAre, RangedOf, RangesAre};
+ghost use Rattle.setup.specs.Setup.{rowPlaces, StepsHeld, PartHeld, TableOf, RowsAre, RangedOf, RangesAre};
 use places::layout::HOUR_LIST;
 use places::layout::HOURS;
 use places::layout::LAST;
@@ -30,6 +30,9 @@ pub struct Ranges {
     pub turn: [u32; HOURS],
 }
 
+// The places of a row that are filled are as many as the last that the hour's blocks can reach, and these: it and the one above it.
+const LAST_AND_ABOVE: usize = 2;
+
 // The price table of an hour, whose steps stand from a up to e.
 fn fill_row(
     sides: &[u8],
@@ -40,28 +43,31 @@ fn fill_row(
     off: u32,
     row: &mut [u32],
 )
-    requires { ⌜ PartHeld (now sides) (now prices) (now quantities) a e × (off ≤ lastPlace) × (length (now row) ≡ rowSize) ⌝ }
+    requires { ⌜ PartHeld (now sides) (now prices) (now quantities) a e × (off ≤ lastPlace) × (length (now row) ≤ rowSize) ⌝ }
     ensures { λ _. ⌜ TableOf (now (sides .entry)) (now (prices .entry)) (now (quantities .entry)) a e off (now (row .exit)) ⌝ }
 {
     fill_prices(&sides[a..e], &prices[a..e], &quantities[a..e], off, row);
 }
 
-// The price tables of the hours, row after row.
+// The price tables of the hours, row after row: of each the places that the blocks can reach, up to most, and the one above it. The others stay as they were.
 pub fn fill_tables(
     sides: &[u8],
     prices: &[u32],
     quantities: &[u32],
     ends: [u16; HOURS + 1],
     off: [u32; HOURS],
+    most: [u32; HOURS],
     unit_prices: &mut [u32],
 )
-    requires { ⌜ StepsHeld (now sides) (now prices) (now quantities) ends × Small lastPlace off × (length (now «unit_prices») ≡ tableSize) ⌝ }
-    ensures { λ _. ⌜ RowsAre (now (sides .entry)) (now (prices .entry)) (now (quantities .entry)) ends off (now («unit_prices» .exit)) ⌝ }
+    requires steps { ⌜ StepsHeld (now sides) (now prices) (now quantities) ends × Small lastPlace off × Small lastPlace most ⌝ }
+    requires table { ⌜ (length (now «unit_prices») ≡ tableSize) × Small maxPrice (now «unit_prices») ⌝ }
+    ensures rows { λ _. ⌜ RowsAre (now (sides .entry)) (now (prices .entry)) (now (quantities .entry)) ends off most (now («unit_prices» .exit)) ⌝ }
+    ensures small { λ _. ⌜ Small maxPrice (now («unit_prices» .exit)) ⌝ }
 {
     let mut h: usize = 0;
     while h < HOURS {
         let from = h * ROW;
-        let to = from + ROW;
+        let to = from + (most[h] as usize) + LAST_AND_ABOVE;
         fill_row(
             sides,
             prices,
@@ -89,8 +95,8 @@ fn fill_hour(
     row: &[u32],
     gap: &mut [u32],
 ) -> Range
-    requires held { ⌜ PartHeld (now sides) (now prices) (now quantities) a e × (off ≤ most) × (most ≤ lastPlace) × (price ≤ maxPrice) × (length (now gap) ≡ rowSize) ⌝ }
-    requires table { ⌜ (length (now row) ≡ rowSize) × TableOf (now sides) (now prices) (now quantities) a e off (now row) ⌝ }
+    requires held { ⌜ PartHeld (now sides) (now prices) (now quantities) a e × (off ≤ most) × (most ≤ lastPlace) × (price ≤ maxPrice) × (length (now gap) ≡ rowPlaces most) ⌝ }
+    requires table { ⌜ (length (now row) ≡ rowPlaces most) × TableOf (now sides) (now prices) (now quantities) a e off (now row) ⌝ }
     ensures fits { λ r. ⌜ (r .first ≤ lastPlace) × (r .last ≤ lastPlace) × (r .turn ≤ lastPlace) ⌝ }
     ensures ranged { λ r. ⌜ RangedOf (now (sides .entry)) (now (prices .entry)) (now (quantities .entry)) a e off most price
         (r .first) (r .last) (r .turn) (now (row .entry)) (now (gap .exit)) ⌝ }
@@ -119,7 +125,7 @@ pub fn fill_ranges(
 ) -> Ranges
     requires held { ⌜ StepsHeld (now sides) (now prices) (now quantities) ends × Small lastPlace most × Small maxPrice root × (length (now gap) ≡ tableSize) ⌝ }
     requires within { ⌜ ((h : ℕ) → h < dayHours → getD off h 0 ≤ getD most h 0) ⌝ }
-    requires tables { ⌜ (length (now «unit_prices») ≡ tableSize) × RowsAre (now sides) (now prices) (now quantities) ends off (now «unit_prices») ⌝ }
+    requires tables { ⌜ (length (now «unit_prices») ≡ tableSize) × RowsAre (now sides) (now prices) (now quantities) ends off most (now «unit_prices») ⌝ }
     ensures small { λ r. ⌜ (length (r .first) ≡ dayHours) × (length (r .last) ≡ dayHours) × (length (r .turn) ≡ dayHours) × Small lastPlace (r .last) ⌝ }
     ensures ranges { λ r. ⌜ RangesAre (now (sides .entry)) (now (prices .entry)) (now (quantities .entry)) ends off most root
         (now («unit_prices» .entry)) (now (gap .exit)) (r .first) (r .last) (r .turn) ⌝ }
@@ -130,7 +136,7 @@ pub fn fill_ranges(
     let mut h: usize = 0;
     while h < HOURS {
         let from = h * ROW;
-        let to = from + ROW;
+        let to = from + (most[h] as usize) + LAST_AND_ABOVE;
         let range = fill_hour(
             sides,
             prices,

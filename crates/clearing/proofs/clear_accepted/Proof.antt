@@ -4,7 +4,9 @@ use native.Mathlib.Omega.{arith}
 use mathlib.Core.Path.{_≡_, sym}
 use lib.ListN.{length, getD}
 use Rattle.orders.proofs.HourLaws.{ends-fit}
+use Rattle.places.specs.Layout.{tableSize}
 use Rattle.places.specs.Steps.{StepsSized}
+use Rattle.places.proofs.NumberLaws.{zeros}
 use Rattle.setup.proofs.SetupLaws.{steps-held, blocks-held}
 use Rattle.clearing.proofs.PublishLaws.{columns-steps}
 use Rattle.clearing.proofs.PublishableLaws.{steps-sized, publishable}
@@ -85,7 +87,7 @@ prepare-requires c κs =
     let k = c .before .before .before .before .before in
     let f = stepped k in (
       steps-held _ _ _ _ _ _ (f .steps-of .ensures) (size-sides f) (size-prices f) (size-quantities f),
-      (blocks-held _ _ _ _ _ _ _ (k .blocks-of .ensures) (start f .pre .0), (search needs, search needs)),
+      (blocks-held _ _ _ _ _ _ _ (k .blocks-of .ensures) (start f .pre .0), (search needs, search needs, λ i. omega (arith, zeros tableSize i))),
     )
 
 slice-aggregate-find : tie.Need-slice-aggregate-find

@@ -6,7 +6,7 @@ use lib.ListN.{length}
 use Rattle.places.specs.Layout.{tableSize}
 use Rattle.rules.specs.Orders.{maxPrice}
 use Rattle.places.specs.Hours.{Small}
-use Rattle.setup.proofs.SetupLaws.{prices-small, set-up, ready}
+use Rattle.setup.proofs.SetupLaws.{set-up, ready}
 use Rattle.setup.proofs.SetupTwinLaws.{completed, blocks-sized, rows-empty, twins-empty}
 use Rattle.setup.proofs.SetupBlockLaws.{bought-within}
 use borrow.Author.Needs.{needs}
@@ -21,15 +21,13 @@ abbrev begun : tie.After-fill-tables → tie.Start
 begun f = f .before .before .before .before .before .before .before .before .before .before .before .before .before
 
 abbrev unitPricesOf : tie.After-fill-tables → List ℕ
-unitPricesOf f = f .fill-tables .last .1 .1 .1 .1 .1 .0
+unitPricesOf f = f .fill-tables .last .1 .1 .1 .1 .1 .1 .0
 
 prices-size : (f : tie.After-fill-tables) → length (unitPricesOf f) ≡ tableSize
-prices-size f = f .fill-tables .kept .1 .1 .1 .1 .1 .0 ∙ begun f .pre .1 .1 .0
+prices-size f = f .fill-tables .kept .1 .1 .1 .1 .1 .1 .0 ∙ begun f .pre .1 .1 .0
 
 prices-fit : (f : tie.After-fill-tables) → Small maxPrice (unitPricesOf f)
-prices-fit f =
-    let a = begun f .args in
-    prices-small (a .sides .now) (a .prices .now) (a .quantities .now) (a .ends) (f .before .before .before .traded-by-hour .result) (unitPricesOf f) (prices-size f) (f .fill-tables .ensures)
+prices-fit f = f .fill-tables .ensures .1
 
 traded-by-hour-requires : tie.Need-traded-by-hour-requires
 traded-by-hour-requires c κs = search needs
@@ -57,7 +55,7 @@ fill-ranges-requires c κs =
     let bought = after-traded-by-hour .traded-by-hour .ensures in
     let traded = after-traded-by-hour2 .traded-by-hour2 .ensures in (
       (s .pre .0, traded .small, c .before .before .root-prices .ensures, s .pre .1 .1 .1),
-      (bought-within _ _ _ _ _ _ bought traded, (prices-size f, f .fill-tables .ensures)),
+      (bought-within _ _ _ _ _ _ bought traded, (prices-size f, f .fill-tables .ensures .0)),
     )
 
 block-columns-requires : tie.Need-block-columns-requires
@@ -117,7 +115,7 @@ returns c =
       set-up _ (prices-size f) gapSize (t .0) (t .1) (t .3) (prices-fit f) sized few,
       ready _ _ _ _ _ _ _ _ _ _ (after-traded-by-hour .traded-by-hour .result) (after-traded-by-hour2 .traded-by-hour2 .result)
           (after-root-prices .root-prices .result) (unitPricesOf f) _ _ _ _ _ (prices-size f) (after-traded-by-hour .traded-by-hour .ensures)
-          (after-traded-by-hour2 .traded-by-hour2 .ensures) (f .fill-tables .ensures) (g .fill-ranges .ensures .1) all,
+          (after-traded-by-hour2 .traded-by-hour2 .ensures) (f .fill-tables .ensures .0) (g .fill-ranges .ensures .1) all,
     )
 
 pub prepare-spec : {M : Type 1} → statement M

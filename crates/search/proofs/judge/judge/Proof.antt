@@ -125,7 +125,7 @@ returns-5 c =
     let b = back prices in
     let r = reached b in
     judged-dropped (dropped-by-limit (r .reach-at .ensures .rest) (r .reach-at .ensures .reach) (prices .before .prices-at .ensures)
-    (prices .prices-at2 .ensures) (not-false _ (b .if3 .left)) (start (r .before) .pre .0 .lastFits)
+    (prices .prices-at2 .ensures) (not-false _ (b .if3 .left))
     (sym (c .before .keeps-limits .ensures) ∙ not-true _ (c .if5 .taken)))
 
 slice-aggregate-ruled-out : tie.Need-slice-aggregate-ruled-out
@@ -146,7 +146,7 @@ returns-6 c =
     let r = reached b in
     let p = start (r .before) .pre in
     judged-open (r .reach-at .ensures .rest) (r .reach-at .ensures .reach) (prices .before .prices-at .ensures) (prices .prices-at2 .ensures)
-    (not-false _ (b .if3 .left)) (p .0 .lastFits) (p .2) (c .ruled-out .ensures)
+    (not-false _ (b .if3 .left)) (p .2) (c .ruled-out .ensures)
 
 pub judge-spec : {M : Type 1} → statement M
 judge-spec =

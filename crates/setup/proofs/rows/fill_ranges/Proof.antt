@@ -21,8 +21,20 @@ loop-holds c = ranges-start _ _ _ _ _ _ _ _ _ (c .before .before .before .before
 mul-from : tie.Need-mul-from Inv-loop μ-loop
 mul-from c = search needs
 
+mul-to : tie.Need-mul-to Inv-loop μ-loop
+mul-to c = search needs
+
+array-read-to : tie.Need-array-read-to Inv-loop μ-loop
+array-read-to c = search needs
+
+cast-to : tie.Need-cast-to Inv-loop μ-loop
+cast-to c = search needs
+
 add-to : tie.Need-add-to Inv-loop μ-loop
-add-to c = search needs
+add-to c = let v = c .before in omega (arith, c .loop-test .taken, v .before .before .before .before .before .before .pre .0 .1 (v .loop .h))
+
+add-to-2 : tie.Need-add-to-2 Inv-loop μ-loop
+add-to-2 c = let v = c .before in omega (arith, c .loop-test .taken, v .before .before .before .before .before .before .pre .0 .1 (v .loop .h))
 
 mul-fill-hour : tie.Need-mul-fill-hour Inv-loop μ-loop
 mul-fill-hour c = search needs
@@ -73,7 +85,10 @@ part-fill-hour-start : tie.Need-part-fill-hour-start Inv-loop μ-loop
 part-fill-hour-start c = search needs
 
 part-fill-hour-end : tie.Need-part-fill-hour-end Inv-loop μ-loop
-part-fill-hour-end c = search needs
+part-fill-hour-end c =
+    let v = c .before in
+    let s = v .before .before .before .before .before .before in
+    omega (arith, s .pre .1 .1 .0, c .loop-test .taken, s .pre .0 .1 (v .loop .h))
 
 mul-fill-hour-7 : tie.Need-mul-fill-hour-7 Inv-loop μ-loop
 mul-fill-hour-7 c = search needs
@@ -85,7 +100,10 @@ part-fill-hour-start-2 : tie.Need-part-fill-hour-start-2 Inv-loop μ-loop
 part-fill-hour-start-2 c = search needs
 
 part-fill-hour-end-2 : tie.Need-part-fill-hour-end-2 Inv-loop μ-loop
-part-fill-hour-end-2 c = omega (arith, c .before .before .loop .inv .size, c .before .loop-test .taken)
+part-fill-hour-end-2 c =
+    let v = c .before .before in
+    let s = v .before .before .before .before .before .before in
+    omega (arith, v .loop .inv .size, c .before .loop-test .taken, s .pre .0 .1 (v .loop .h))
 
 fill-hour-requires : tie.Need-fill-hour-requires Inv-loop μ-loop
 fill-hour-requires c κs =
@@ -94,8 +112,8 @@ fill-hour-requires c κs =
     let k = c .before .before .loop-test .taken in
     let q = s .pre .0 in
     let t = s .pre .1 .1 in (
-      (part-held _ _ _ _ (q .0) (v .h) k, s .pre .1 .0 (v .h) k, q .1 (v .h), q .2 (v .h), part-length (v .gap) (v .h) (v .inv .size) k),
-      (part-length (s .args .unit-prices .now) (v .h) (t .0) k, rw (part-row (s .args .unit-prices .now) (v .h)) (t .1 (v .h) k)),
+      (part-held _ _ _ _ (q .0) (v .h) k, s .pre .1 .0 (v .h) k, q .1 (v .h), q .2 (v .h), part-length (v .gap) (v .h) _ (v .inv .size) k (q .1 (v .h))),
+      (part-length (s .args .unit-prices .now) (v .h) _ (t .0) k (q .1 (v .h)), rw (part-row (s .args .unit-prices .now) (v .h) _) (t .1 (v .h) k)),
     )
 
 cast-first : tie.Need-cast-first Inv-loop μ-loop
@@ -140,9 +158,10 @@ loop-again c =
     let v = after-loop .loop in
     let k = after-loop-test .loop-test .taken in
     let f = after-fill-hour .fill-hour in
-    ranges-next _ _ _ _ _ _ _ _ _ _ _ _ _ (v .h) _ _ _ _ (v .inv) k
-    (f .kept .1 .1 .1 .1 .1 .1 .1 .1 .1 .0 ∙ part-length (v .gap) (v .h) (v .inv .size) k) (row-wide (v .h))
-    (f .ensures .0 .1) (rw (part-row (start .args .unit-prices .now) (v .h)) at (f .ensures .1))
+    let few = start .pre .0 .1 in
+    ranges-next _ _ _ _ _ _ _ _ few _ _ _ _ _ (v .h) _ _ _ _ (v .inv) k
+    (f .kept .1 .1 .1 .1 .1 .1 .1 .1 .1 .0 ∙ part-length (v .gap) (v .h) _ (v .inv .size) k (few (v .h))) (row-wide (v .h) _)
+    (f .ensures .0 .1) (rw (part-row (start .args .unit-prices .now) (v .h) _) at (f .ensures .1))
 
 same-length : tie.Need-same-length Inv-loop μ-loop
 same-length c = c .before .loop .inv .size ∙ sym (c .before .before .before .before .before .before .before .pre .0 .3)
@@ -158,7 +177,11 @@ fill-ranges-spec =
     μ-loop
     loop-holds
     mul-from
+    mul-to
+    array-read-to
+    cast-to
     add-to
+    add-to-2
     mul-fill-hour
     array-read-fill-hour
     cast-fill-hour

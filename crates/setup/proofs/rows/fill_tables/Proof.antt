@@ -7,24 +7,33 @@ use Rattle.setup.proofs.SetupTableLaws.{part-held, part-length, row-wid
 use borrow.Author.Needs.{needs}
 use Rattle.setup.proofs.rows.fill_tables.Statement.{statement}
 use Rattle.setup.proofs.rows.fill_tables.Tie as tie
-use Rattle.setup.proofs.rows.fill_tables.Reads as reads
-use Rattle.setup.proofs.rows.fill_tables.Lts as lts
-use Rattle.setup.proofs.rows.fill_row.Reads as fill-row-reads
 
 abbrev Inv-loop : tie.InvT-loop
-Inv-loop sides prices quantities unitPrices₀ ends off h₀ unitPrices h = RowsTo sides prices quantities ends off unitPrices h
+Inv-loop sides prices quantities unitPrices₀ ends off most h₀ unitPrices h = RowsTo sides prices quantities ends off most unitPrices h
 
 abbrev μ-loop : tie.MeasureT-loop
-μ-loop sides prices quantities unitPrices₀ ends off h₀ unitPrices h = dayHours - h
+μ-loop sides prices quantities unitPrices₀ ends off most h₀ unitPrices h = dayHours - h
 
 loop-holds : tie.Need-loop-holds Inv-loop μ-loop
-loop-holds c = rows-start _ _ _ _ _ _ (c .before .before .before .before .pre .2)
+loop-holds c = let t = c .before .before .before .before .pre .1 in rows-start _ _ _ _ _ _ _ (t .0) (t .1)
 
 mul-from : tie.Need-mul-from Inv-loop μ-loop
 mul-from c = search needs
 
+mul-to : tie.Need-mul-to Inv-loop μ-loop
+mul-to c = search needs
+
+array-read-to : tie.Need-array-read-to Inv-loop μ-loop
+array-read-to c = search needs
+
+cast-to : tie.Need-cast-to Inv-loop μ-loop
+cast-to c = search needs
+
 add-to : tie.Need-add-to Inv-loop μ-loop
-add-to c = search needs
+add-to c = let v = c .before in omega (arith, c .loop-test .taken, v .before .before .before .before .before .pre .0 .2 (v .loop .h))
+
+add-to-2 : tie.Need-add-to-2 Inv-loop μ-loop
+add-to-2 c = let v = c .before in omega (arith, c .loop-test .taken, v .before .before .before .before .before .pre .0 .2 (v .loop .h))
 
 mul-fill-row : tie.Need-mul-fill-row Inv-loop μ-loop
 mul-fill-row c = search needs
@@ -63,14 +72,19 @@ part-fill-row-start : tie.Need-part-fill-row-start Inv-loop μ-loop
 part-fill-row-start c = search needs
 
 part-fill-row-end : tie.Need-part-fill-row-end Inv-loop μ-loop
-part-fill-row-end c = omega (arith, c .before .loop .inv .size, c .loop-test .taken)
+part-fill-row-end c =
+    let v = c .before in
+    let s = v .before .before .before .before .before in
+    omega (arith, v .loop .inv .size, c .loop-test .taken, s .pre .0 .2 (v .loop .h))
 
 fill-row-requires : tie.Need-fill-row-requires Inv-loop μ-loop
 fill-row-requires c κs =
     let v = c .before .before .loop in
     let s = c .before .before .before .before .before .before .before in
     let k = c .before .loop-test .taken in
-    (part-held _ _ _ _ (s .pre .0) (v .h) k, s .pre .1 (v .h), part-length (v .unit-prices) (v .h) (v .inv .size) k)
+    let q = s .pre .0 in
+    let most = q .2 (v .h) in
+    (part-held _ _ _ _ (q .0) (v .h) k, q .1 (v .h), omega (arith, part-length (v .unit-prices) (v .h) _ (v .inv .size) k most, most))
 
 add-h : tie.Need-add-h Inv-loop μ-loop
 add-h c = search needs
@@ -83,14 +97,15 @@ loop-again c =
     let v = c .before .before .before .before .before .loop in
     let k = c .before .before .before .before .loop-test .taken in
     let f = c .before .before .fill-row in
-    rows-next _ _ _ _ _ _ (f .last .1 .1 .1 .1 .1 .1 .0) _ _ (v .inv) k
-    (f .kept .1 .1 .1 .1 .1 .1 .0 ∙ part-length (v .unit-prices) (v .h) (v .inv .size) k) (row-wide (v .h)) (f .ensures)
+    let few = c .before .before .before .before .before .before .before .before .before .before .pre .0 .2 in
+    rows-next _ _ _ _ _ _ few _ (f .last .1 .1 .1 .1 .1 .1 .0) _ _ (v .inv) k
+    (f .kept .1 .1 .1 .1 .1 .1 .0 ∙ part-length (v .unit-prices) (v .h) _ (v .inv .size) k (few (v .h))) (row-wide (v .h) _) (f .ensures)
 
 same-length : tie.Need-same-length Inv-loop μ-loop
-same-length c = c .before .loop .inv .size ∙ sym (c .before .before .before .before .before .before .pre .2)
+same-length c = c .before .loop .inv .size ∙ sym (c .before .before .before .before .before .before .pre .1 .0)
 
 returns : tie.Need-returns Inv-loop μ-loop
-returns c = rows-all _ _ _ _ _ _ _ (c .before .loop .inv) (c .loop-test .left)
+returns c = rows-all _ _ _ _ _ _ _ _ (c .before .loop .inv) (c .loop-test .left)
 
 pub fill-tables-spec : {M : Type 1} → statement M
 fill-tables-spec =
@@ -100,7 +115,11 @@ fill-tables-spec =
     μ-loop
     loop-holds
     mul-from
+    mul-to
+    array-read-to
+    cast-to
     add-to
+    add-to-2
     mul-fill-row
     array-read-fill-row
     cast-fill-row
