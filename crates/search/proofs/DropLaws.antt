@@ -71,7 +71,8 @@ module _ {day : Day} {p rest : ℕ → ℕ} {tables : Tables} (known : Known day
   rest-within (suc n) i (true ∷ t) le e l f k =
       let s = known .shown i (omega arith) in
       let k′ : loss + (against (day .hours) p (s .block) + losses (day .hours) p (drop (suc i) (day .blocks)) t) < limit = rw (s .next) at k in
-      let one = taken-adds (tables .blocks) (isOut out (i - at)) loss limit i (rowQuantity (tables .blocks) i h) (first-not-out n i t f) (omega (arith, s .againstIs)) in
+      let one = taken-adds (tables .blocks) (isOut out (i - at)) loss limit i (rowQuantity (tables .blocks) i h) (first-not-out n i t f)
+      (omega (arith, s .againstIs)) in
       let more = rest-within n (suc i) t (omega arith) (omega arith) (suc-inj l) (avoids-next n i true t le f) (omega arith) in
       let adds = sells-at s h c in
       rw (s .next) (omega arith, omega arith)
@@ -203,7 +204,8 @@ module _ {tables : Tables} {left out : ℕ} {node : Node} {limit : ℕ} where
           )
         where
           gap-least : (h : ℕ) → Counts (day .hours) h →
-              cell (tables .gaps) h (nearest (ofHour (tables .turn) h) (ofHour from h) (ofHour to h)) + rest h ≤ slack (p h) (hourOf day (taken (day .blocks) (d ++ t)) h)
+              cell (tables .gaps) h (nearest (ofHour (tables .turn) h) (ofHour from h) (ofHour to h)) + rest h ≤ slack (p h)
+              (hourOf day (taken (day .blocks) (d ++ t)) h)
           gap-least h c =
               let a = c .first in
               let b = c .last in
@@ -215,13 +217,15 @@ module _ {tables : Tables} {left out : ℕ} {node : Node} {limit : ℕ} where
               omega (
                 arith,
                 gap-of-lawful known (d ++ t) whole law h c,
-                nearest-least (λ i. cell (tables .gaps) h i) (ofHour (tables .turn) h) (ofHour from h) (ofHour to h) (place (day .blocks) (d ++ t) h) (r .0) (r .1)
+                nearest-least (λ i. cell (tables .gaps) h i) (ofHour (tables .turn) h) (ofHour from h) (ofHour to h) (place (day .blocks) (d ++ t) h) (r .0)
+                    (r .1)
                     (λ x y i j z w. at .turning .falls h x y a b (omega arith) j (omega arith) w)
                     (λ x y i j z w. at .turning .rises h x y a b (omega arith) j (omega arith) w),
               )
 
       -- each of its blocks keeps its limit at the best prices there
-      block-could : {high lowest : List ℕ} → PricesOf (tables .unitPrices) from high → PricesOf (tables .unitPrices) to lowest → balances ≡ true → Small lastPlace (tables .last) →
+      block-could : {high lowest : List ℕ} → PricesOf (tables .unitPrices) from high → PricesOf (tables .unitPrices) to lowest → balances ≡ true →
+          Small lastPlace (tables .last) →
           lossAbove day p rest (d ++ t) < limit → (j : ℕ) → j < tables .count → getD (d ++ t) j false ≡ true →
           keepsAt (sideAt (tables .blocks) j) (hoursAt (tables .blocks) j) (limitAt (tables .blocks) j) high lowest ≡ true
       block-could ph pl e small k j inside set-bit =
@@ -243,7 +247,8 @@ module _ {tables : Tables} {left out : ℕ} {node : Node} {limit : ℕ} where
           )
 
       -- the decided ones, and one of the rest
-      decided-could : {high lowest : List ℕ} → PricesOf (tables .unitPrices) from high → PricesOf (tables .unitPrices) to lowest → balances ≡ true → Small lastPlace (tables .last) →
+      decided-could : {high lowest : List ℕ} → PricesOf (tables .unitPrices) from high → PricesOf (tables .unitPrices) to lowest → balances ≡ true →
+          Small lastPlace (tables .last) →
           lossAbove day p rest (d ++ t) < limit → allKeep (tables .blocks) (node .set) high lowest (tables .count - left) ≡ true
       decided-could {high} {lowest} ph pl e small k =
           all-keep (tables .blocks) (node .set) high lowest (tables .count - left) (λ j m bit.
@@ -251,9 +256,11 @@ module _ {tables : Tables} {left out : ℕ} {node : Node} {limit : ℕ} where
           block-could ph pl e small k j (omega arith)
           (List·getD-append d t false j here ∙ rw (← (branch .setIs)) (bits-at (length d) (node .set) j here ∙ eq-eqb _ 1 bit)))
 
-      rest-could : {high lowest : List ℕ} → PricesOf (tables .unitPrices) from high → PricesOf (tables .unitPrices) to lowest → balances ≡ true → Small lastPlace (tables .last) →
+      rest-could : {high lowest : List ℕ} → PricesOf (tables .unitPrices) from high → PricesOf (tables .unitPrices) to lowest → balances ≡ true →
+          Small lastPlace (tables .last) →
           lossAbove day p rest (d ++ t) < limit → (j : ℕ) → j < left → getD t j false ≡ true →
-          keepsAt (sideAt (tables .blocks) (tables .count - left + j)) (hoursAt (tables .blocks) (tables .count - left + j)) (limitAt (tables .blocks) (tables .count - left + j)) high lowest ≡ true
+          keepsAt (sideAt (tables .blocks) (tables .count - left + j)) (hoursAt (tables .blocks) (tables .count - left + j))
+          (limitAt (tables .blocks) (tables .count - left + j)) high lowest ≡ true
       rest-could ph pl e small k j inside bit =
           let here : tables .count - left ≡ length d = omega (arith, size) in
           block-could ph pl e small k (tables .count - left + j) (omega (arith, size)) (rw here (getD-behind d t j ∙ bit))
@@ -269,13 +276,15 @@ module _ {tables : Tables} {left out : ℕ} {node : Node} {limit : ℕ} where
     dropped-by-gaps z day p rest d t at l law = unless _ _ (λ k. absurd (omega (arith, gaps-least t at l law k)))
 
     -- a taken block misses its limit at the best prices within reach
-    pub dropped-by-limit : {high lowest : List ℕ} → PricesOf (tables .unitPrices) from high → PricesOf (tables .unitPrices) to lowest → balances ≡ true → Small lastPlace (tables .last) →
+    pub dropped-by-limit : {high lowest : List ℕ} → PricesOf (tables .unitPrices) from high → PricesOf (tables .unitPrices) to lowest → balances ≡ true →
+        Small lastPlace (tables .last) →
         allKeep (tables .blocks) (node .set) high lowest (tables .count - left) ≡ false → DroppedFrom tables left out node limit
     dropped-by-limit ph pl e small misses day p rest d t at l law =
         unless _ _ (λ k. clash (decided-could t at l law ph pl e small k) misses)
 
     -- WHAT IS OUT: what was before, and an undecided block that misses its limit at the best prices within reach
-    pub judged-open : {high lowest : List ℕ} → PricesOf (tables .unitPrices) from high → PricesOf (tables .unitPrices) to lowest → balances ≡ true → Small lastPlace (tables .last) → left ≤ tables .count → {r : ℕ} →
+    pub judged-open : {high lowest : List ℕ} → PricesOf (tables .unitPrices) from high → PricesOf (tables .unitPrices) to lowest → balances ≡ true →
+        Small lastPlace (tables .last) → left ≤ tables .count → {r : ℕ} →
         ((k : ℕ) → k < tables .count - (tables .count - left) → isOut r k ≡ isRuledOut (tables .blocks) (tables .count - left + k) (isOut out k) high lowest) →
         JudgedFrom tables left out node limit false r
     unfolding isRuledOut

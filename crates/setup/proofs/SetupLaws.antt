@@ -114,7 +114,8 @@ trades-fit h (s ∷ l) e = omega (arith, trade-fits h s (e .0), trades-fit h l (
 row-at : (table : List ℕ) (h i : ℕ) → i < rowSize → getD (tableRow table h) i 0 ≡ getD table (h * rowSize + i) 0
 row-at table h i k = getD-take rowSize (drop (h * rowSize) table) i 0 k ∙ getD-drop (h * rowSize) table i 0
 
-module _ (sides prices quantities ends off unitPrices : List ℕ) (size : length unitPrices ≡ tableSize) (rows : RowsAre sides prices quantities ends off unitPrices) where
+module _ (sides prices quantities ends off unitPrices : List ℕ) (size : length unitPrices ≡ tableSize)
+    (rows : RowsAre sides prices quantities ends off unitPrices) where
   pub prices-small : Small maxPrice unitPrices
   prices-small i = elim (decLe tableSize i) [
     | yes k ↦ let z : length unitPrices ≤ i = omega arith in rw (lib.ListN.List·getD-eq-default unitPrices 0 z) (omega arith)
@@ -286,7 +287,8 @@ module _ (b ends stepRecords sides prices quantities : List ℕ) (count : ℕ) (
   -- THE HOURS
   module _ (off most root unitPrices gap first last turn columns : List ℕ) (pricesSize : length unitPrices ≡ tableSize)
       (bought : TradedBy count blockSides hours blockQuantities false off) (traded : TradedBy count blockSides hours blockQuantities true most)
-      (rows : RowsAre sides prices quantities ends off unitPrices) (ranges : RangesAre sides prices quantities ends off most root unitPrices gap first last turn)
+      (rows : RowsAre sides prices quantities ends off unitPrices)
+      (ranges : RangesAre sides prices quantities ends off most root unitPrices gap first last turn)
       (blocks : Completed blockSides hours blockPrices blockQuantities root count columns) where
     abbrev rootOf : ℕ → ℕ
     rootOf h = getD root (h - 1) 0
@@ -348,7 +350,8 @@ module _ (b ends stepRecords sides prices quantities : List ℕ) (count : ℕ) (
       clears-at : (i : ℕ) → i ≤ lastPlace → ofHour first h ≤ i → i ≤ ofHour last h → Clearable (hourAt (dayFrom b) h i)
       clears-at i k x y = rw (← off-is) (clearing-at i (omega (arith, range .range .inside)) .0 (x, y))
 
-      clears-only : (i : ℕ) → i ≤ overBlocks (sells h) (dayFrom b .blocks) + overBlocks (buys h) (dayFrom b .blocks) → Clearable (hourAt (dayFrom b) h i) → (ofHour first h ≤ i) × (i ≤ ofHour last h)
+      clears-only : (i : ℕ) → i ≤ overBlocks (sells h) (dayFrom b .blocks) + overBlocks (buys h) (dayFrom b .blocks) → Clearable (hourAt (dayFrom b) h i) →
+          (ofHour first h ≤ i) × (i ≤ ofHour last h)
       clears-only i k c = clearing-at i (omega (arith, most-is)) .1 (rw (← off-is) at c)
 
       -- the gap table
@@ -430,7 +433,8 @@ set-up t prices gaps first last fits small blocks few =
     }
 
 pub ready : (sides prices quantities ends : List ℕ) (count : ℕ) (records blockSides hours blockPrices blockQuantities : List ℕ)
-    (off most root unitPrices gap first last turn columns : List ℕ) → length unitPrices ≡ tableSize → TradedBy count blockSides hours blockQuantities false off →
+    (off most root unitPrices gap first last turn columns : List ℕ) → length unitPrices ≡ tableSize →
+    TradedBy count blockSides hours blockQuantities false off →
     TradedBy count blockSides hours blockQuantities true most → RowsAre sides prices quantities ends off unitPrices →
     RangesAre sides prices quantities ends off most root unitPrices gap first last turn →
     Completed blockSides hours blockPrices blockQuantities root count columns →

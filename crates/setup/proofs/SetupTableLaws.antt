@@ -88,7 +88,8 @@ module _ (sides prices quantities ends off : List ℕ) where
     inside = omega arith;
     size = put-size unitPrices row h k (r .size) a full wide;
     done = λ j b. below-next (RowIs sides prices quantities ends off (putMid (h * rowSize) k unitPrices row)) h j
-        (λ c. rw (row-before unitPrices row h k (r .size) a full wide j c) (r .done j c)) (rw (row-put unitPrices row h k (r .size) a full wide) t) (rw add-one at b);
+        (λ c. rw (row-before unitPrices row h k (r .size) a full wide j c) (r .done j c)) (rw (row-put unitPrices row h k (r .size) a full wide) t)
+        (rw add-one at b);
   }
 
   pub rows-all : (unitPrices : List ℕ) (h : ℕ) → RowsTo unitPrices h → dayHours ≤ h → RowsAre sides prices quantities ends off unitPrices
@@ -147,8 +148,10 @@ module _ (sides prices quantities ends off most root unitPrices : List ℕ) wher
     done = λ j a. absurd (omega arith);
   }
 
-  pub ranges-next : (gap first last turn row : List ℕ) (h k f l m : ℕ) → RangesTo gap first last turn h → h < dayHours → length row ≡ rowSize → k ≡ rowSize → l ≤ lastPlace →
-      Ranged (hourPart ends h sides) (hourPart ends h prices) (hourPart ends h quantities) (getD off h 0) (getD most h 0) (getD root h 0) f l m (tableRow unitPrices h) row →
+  pub ranges-next : (gap first last turn row : List ℕ) (h k f l m : ℕ) → RangesTo gap first last turn h → h < dayHours → length row ≡ rowSize → k ≡ rowSize →
+      l ≤ lastPlace →
+      Ranged (hourPart ends h sides) (hourPart ends h prices) (hourPart ends h quantities) (getD off h 0) (getD most h 0) (getD root h 0) f l m
+      (tableRow unitPrices h) row →
       RangesTo (putMid (h * rowSize) k gap row) (set first h f) (set last h l) (set turn h m) (h + 1)
   ranges-next gap first last turn row h k f l m r a full wide small t =
       let inF : h < length first = omega (arith, r .firstSize) in

@@ -29,7 +29,8 @@ prices-size f = f .fill-tables .kept .1 .1 .1 .1 .1 .0 ∙ begun f .pre .1 .1 .0
 prices-fit : (f : tie.After-fill-tables) → Small maxPrice (unitPricesOf f)
 prices-fit f =
     let a = begun f .args in
-    prices-small (a .sides .now) (a .prices .now) (a .quantities .now) (a .ends) (f .before .before .before .traded-by-hour .result) (unitPricesOf f) (prices-size f) (f .fill-tables .ensures)
+    prices-small (a .sides .now) (a .prices .now) (a .quantities .now) (a .ends) (f .before .before .before .traded-by-hour .result) (unitPricesOf f)
+    (prices-size f) (f .fill-tables .ensures)
 
 traded-by-hour-requires : tie.Need-traded-by-hour-requires
 traded-by-hour-requires c κs = search needs
