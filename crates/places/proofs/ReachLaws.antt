@@ -120,7 +120,8 @@ module _ (blocks : List ℕ) (count at out loss limit : ℕ) (places : List ℕ)
   one-more moves h i = added-more blocks moves h count i
 
   pub rest-next : (i : ℕ) (least free more freer : List ℕ) → RestTo i least free → at < i → ((h : ℕ) → rowQuantity blocks (i - 1) h ≤ mostAdded) →
-      AddedTo blocks (i - 1) (mustFrom blocks at out loss limit (i - 1)) (mayFrom blocks at out loss limit (i - 1)) least free more freer → RestTo (i - 1) more freer
+      AddedTo blocks (i - 1) (mustFrom blocks at out loss limit (i - 1)) (mayFrom blocks at out loss limit (i - 1)) least free more freer →
+      RestTo (i - 1) more freer
   rest-next i least free more freer r pos few added =
       let sm = added .moreSize in
       let sf = added .freerSize in

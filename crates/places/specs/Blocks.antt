@@ -8,7 +8,21 @@ use lib.ListN.{length, getD}
 use Rattle.rules.specs.Execution.{testSide}
 use Rattle.orders.specs.Columns.{sideFor}
 use Rattle.rules.specs.Hour.{when}
-use Rattle.places.specs.Layout.{dayHours, mostBlocks, mostAdded, mostPlace, hoursColumn, quantityColumn, limitColumn, againstColumn, gainColumn, aheadColumn, behindColumn, blockRows, blockListSize}
+use Rattle.places.specs.Layout.{
+  dayHours,
+  mostBlocks,
+  mostAdded,
+  mostPlace,
+  hoursColumn,
+  quantityColumn,
+  limitColumn,
+  againstColumn,
+  gainColumn,
+  aheadColumn,
+  behindColumn,
+  blockRows,
+  blockListSize,
+}
 use Rattle.places.specs.Hours.{Small, sumOfHours, ofHour}
 
 -- THE BLOCKS: eight columns: side, hours, quantity, limit (price times hour count), loss if taken, loss if left out, and for twins the

@@ -30,7 +30,8 @@ pub fn moved(places: [u32; HOURS], hours: u32, quantity: u32) -> [u32; HOURS]
 // The places with what block i trades in each hour more, where the test passes.
 pub fn moved_where(test: bool, places: [u32; HOURS], blocks: &[u32], i: usize) -> [u32; HOURS]
     requires { ⌜ BlocksSized (now blocks) × (i < mostBlocks) × Small mostPlace places ⌝ }
-    ensures { λ r. ⌜ (length r ≡ dayHours) × ((h : ℕ) → 1 ≤ h → h ≤ dayHours → getD r (h - 1) 0 ≡ getD places (h - 1) 0 + when test (rowQuantity (now (blocks .entry)) i h)) ⌝ }
+    ensures { λ r. ⌜ (length r ≡ dayHours)
+        × ((h : ℕ) → 1 ≤ h → h ≤ dayHours → getD r (h - 1) 0 ≡ getD places (h - 1) 0 + when test (rowQuantity (now (blocks .entry)) i h)) ⌝ }
 {
     let times = number_of(test);
     let row = BLOCK_ROWS + HOURS * i;

@@ -142,8 +142,10 @@ pub fn reach_at(
     limit: u64,
     places: [u32; HOURS],
 ) -> Reach
-    requires { ⌜ BlocksSized (now blocks) × (length (now hours) ≡ hourListSize) × (count ≤ mostBlocks) × (at ≤ count) × (loss ≤ mostLoss) × Small (at * mostAdded) places ⌝ }
-    ensures { λ r. ⌜ ReachedBy (clearsFirst (now (hours .entry))) (clearsLast (now (hours .entry))) (now (blocks .entry)) count at out loss limit places (r .balances) (r .from) (r .to) ⌝ }
+    requires { ⌜ BlocksSized (now blocks) × (length (now hours) ≡ hourListSize) × (count ≤ mostBlocks) × (at ≤ count) × (loss ≤ mostLoss)
+        × Small (at * mostAdded) places ⌝ }
+    ensures { λ r. ⌜ ReachedBy (clearsFirst (now (hours .entry))) (clearsLast (now (hours .entry))) (now (blocks .entry)) count at out loss limit places
+        (r .balances) (r .from) (r .to) ⌝ }
 {
     let rest = rest_of(blocks, count, at, out, loss, limit, places);
     let least = rest.least;

@@ -49,7 +49,8 @@ fn hour_traded(
     price: u32,
 ) -> u32
     requires { ⌜ PartSized (now sides) (now prices) (now quantities) from to × (buys ≤ mostPlace) ⌝ }
-    ensures { λ r. ⌜ TradedAt (slice from to (now (sides .entry))) (slice from to (now (prices .entry))) (slice from to (now (quantities .entry))) sales buys price r ⌝ }
+    ensures { λ r. ⌜ TradedAt (slice from to (now (sides .entry))) (slice from to (now (prices .entry)))
+        (slice from to (now (quantities .entry))) sales buys price r ⌝ }
 {
     traded_at(
         &sides[from..to],
@@ -71,7 +72,8 @@ pub fn hours_traded(
     middles: [u32; HOURS],
 ) -> [u32; HOURS]
     requires { ⌜ (length (now ends) ≡ dayHours + 1) × StepsSized (now ends) (now sides) (now prices) (now quantities) × Small mostPlace (trades .buys) ⌝ }
-    ensures { λ r. ⌜ HoursTraded (stepsAt (now (ends .entry)) (now (sides .entry)) (now (prices .entry)) (now (quantities .entry))) (trades .sales) (trades .buys) middles r ⌝ }
+    ensures { λ r. ⌜ HoursTraded (stepsAt (now (ends .entry)) (now (sides .entry)) (now (prices .entry)) (now (quantities .entry))) (trades .sales)
+        (trades .buys) middles r ⌝ }
 {
     let sales = trades.sales;
     let buys = trades.buys;

@@ -27,7 +27,23 @@ use Rattle.places.specs.Hours.{Small, ofHour}
 use Rattle.places.specs.Blocks.{sideAt, againstAt, gainAt, aheadAt, behindAt, rowQuantity, BlocksSized}
 use Rattle.places.specs.Reach.{isOut}
 use Rattle.search.specs.Decisions.{isBarred, isDue}
-use Rattle.search.specs.Meaning.{Fits, Shown, Known, Branch, lossAbove, DayOf, Outcome, Decided, OutOf, At, ExploredFrom, DroppedFrom, JudgedFrom, TakenTo, LeftTo}
+use Rattle.search.specs.Meaning.{
+  Fits,
+  Shown,
+  Known,
+  Branch,
+  lossAbove,
+  DayOf,
+  Outcome,
+  Decided,
+  OutOf,
+  At,
+  ExploredFrom,
+  DroppedFrom,
+  JudgedFrom,
+  TakenTo,
+  LeftTo,
+}
 use Rattle.search.specs.Tables.{Tables}
 use Rattle.places.proofs.AddedLaws.{places-grow}
 use Rattle.search.proofs.TradedLaws.{sells-at, buys-at}
@@ -124,7 +140,8 @@ decided-bit {d = d} {node} branch a k = rw (← (branch .setIs)) (bits-at (lengt
 
 -- a block is in no completion that counts: a twin that is taken before it is left out, or it is out
 barred-not : {day : Day} {p rest : ℕ → ℕ} {tables : Tables} → Known day p rest tables →
-    {d : List Bool} {node : Node} → Branch day p d node → length d < tables .count → isBarred (tables .blocks) (length d) (node .set) ≡ true → (t : List Bool) → InTurn day p (d ++ (true ∷ t)) → ⊥
+    {d : List Bool} {node : Node} → Branch day p d node → length d < tables .count → isBarred (tables .blocks) (length d) (node .set) ≡ true →
+    (t : List Bool) → InTurn day p (d ++ (true ∷ t)) → ⊥
 unfolding isBarred
 barred-not {day} {p} {tables = tables} known {d} {node} branch k barred t kept =
     let tests = both (not (eqb (aheadAt (tables .blocks) (length d)) 0)) (eqb (node .set / 2 ^ (aheadAt (tables .blocks) (length d) - 1) % 2) 0) barred in
@@ -133,7 +150,8 @@ barred-not {day} {p} {tables = tables} known {d} {node} branch k barred t kept =
     let twin = known .ahead (length d) (aheadAt (tables .blocks) (length d) - 1) k is in
     let zero-bit = eqb-true (node .set / 2 ^ (aheadAt (tables .blocks) (length d) - 1) % 2) 0 (tests .1) in
     let without : getD d (aheadAt (tables .blocks) (length d) - 1) false ≡ false =
-    decided-bit branch (aheadAt (tables .blocks) (length d) - 1) (twin .0) ∙ ne-eqb (node .set / 2 ^ (aheadAt (tables .blocks) (length d) - 1) % 2) 1 (λ e. omega arith) in
+    decided-bit branch (aheadAt (tables .blocks) (length d) - 1) (twin .0) ∙ ne-eqb (node .set / 2 ^ (aheadAt (tables .blocks) (length d) - 1) % 2) 1
+    (λ e. omega arith) in
     turn-left day p d (aheadAt (tables .blocks) (length d) - 1) (twin .0) (twin .1) without t kept
 
 -- A BRANCH, one law for each way out
@@ -196,7 +214,8 @@ module _ {tables : Tables} where
 
   -- a block is taken and then left out
   pub explored-both : {steps : ℕ → List Step} {left out : ℕ} {node taken-node left-node : Node} {best m r : Best} → 0 < left → left ≤ tables .count →
-      node .set < 2 ^ (tables .count - left) → TakenTo (tables .blocks) (tables .count - left) node taken-node → LeftTo (tables .blocks) (tables .count - left) node left-node →
+      node .set < 2 ^ (tables .count - left) → TakenTo (tables .blocks) (tables .count - left) node taken-node →
+      LeftTo (tables .blocks) (tables .count - left) node left-node →
       ExploredFrom tables steps (left - 1) (out / 2) taken-node best m →
       ExploredFrom tables steps (left - 1) (out / 2) left-node m r →
       ExploredFrom tables steps left out node best r
@@ -218,7 +237,8 @@ module _ {tables : Tables} where
       by-which less a b le (inl e) = rw (b .same e) (a .found (omega arith))
       by-which less a b le (inr e) = b .found e
 
-  pub explored-left : {steps : ℕ → List Step} {left out : ℕ} {node left-node : Node} {best r : Best} → 0 < left → left ≤ tables .count → node .set < 2 ^ (tables .count - left) →
+  pub explored-left : {steps : ℕ → List Step} {left out : ℕ} {node left-node : Node} {best r : Best} → 0 < left → left ≤ tables .count →
+      node .set < 2 ^ (tables .count - left) →
       (isOut out 0 || isBarred (tables .blocks) (tables .count - left) (node .set)) ≡ true → LeftTo (tables .blocks) (tables .count - left) node left-node →
       ExploredFrom tables steps (left - 1) (out / 2) left-node best r →
       ExploredFrom tables steps left out node best r
@@ -228,7 +248,8 @@ module _ {tables : Tables} where
       let one : suc (left - 1) ≡ left = omega arith in
       record {
         explored = rw one at (by-loss.only-left day (InTurn day p) (lossAbove day p rest) (left - 1) d _ _
-            (λ t lt law kept. by-test (λ u. (u || isBarred (tables .blocks) (length d) (node .set)) ≡ true → isOut out 0 ≡ u → best .limit ≤ lossAbove day p rest (d ++ (true ∷ t))) (isOut out 0)
+            (λ t lt law kept. by-test (λ u. (u || isBarred (tables .blocks) (length d) (node .set)) ≡ true → isOut out 0 ≡ u →
+            best .limit ≤ lossAbove day p rest (d ++ (true ∷ t))) (isOut out 0)
             (λ is _ _. out-not day p rest d left (best .limit) out pos (at .outOf) is t lt law)
             (λ _ is _. absurd (barred-not (at .known) (at .branch) (omega (arith, at .size)) is t kept))
             (rw here at barred) refl)
@@ -237,7 +258,8 @@ module _ {tables : Tables} where
         found = b .found;
       }
 
-  pub explored-taken : {steps : ℕ → List Step} {left out : ℕ} {node taken-node : Node} {best r : Best} → 0 < left → left ≤ tables .count → node .set < 2 ^ (tables .count - left) →
+  pub explored-taken : {steps : ℕ → List Step} {left out : ℕ} {node taken-node : Node} {best r : Best} → 0 < left → left ≤ tables .count →
+      node .set < 2 ^ (tables .count - left) →
       isDue (tables .blocks) (tables .count - left) (node .set) ≡ true → TakenTo (tables .blocks) (tables .count - left) node taken-node →
       ExploredFrom tables steps (left - 1) (out / 2) taken-node best r →
       ExploredFrom tables steps left out node best r
@@ -249,7 +271,8 @@ module _ {tables : Tables} where
       let branch = at .branch in
       let b = f day p rest (d ++ (true ∷ [])) same (at-taken pos le room at (best .limit) t (omega arith)) in
       let one : suc (left - 1) ≡ left = omega arith in
-      let tests = both (not (eqb (behindAt (tables .blocks) (length d)) 0)) (eqb (node .set / 2 ^ (behindAt (tables .blocks) (length d) - 1) % 2) 1) (rw here at due) in
+      let tests = both (not (eqb (behindAt (tables .blocks) (length d)) 0)) (eqb (node .set / 2 ^ (behindAt (tables .blocks) (length d) - 1) % 2) 1)
+      (rw here at due) in
       let some = eqb-false (behindAt (tables .blocks) (length d)) 0 (not-true _ (tests .0)) in
       let is : behindAt (tables .blocks) (length d) ≡ suc (behindAt (tables .blocks) (length d) - 1) = omega arith in
       let twin = known .behind (length d) (behindAt (tables .blocks) (length d) - 1) k is in

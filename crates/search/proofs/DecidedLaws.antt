@@ -21,7 +21,19 @@ use Rattle.rules.proofs.NeighbourLaws.{slack}
 use Rattle.rules.proofs.LossLaws.{lossOf}
 use Rattle.rules.proofs.TwinLaws.{InTurn, block-at, passes-taken}
 use Rattle.rules.proofs.SetBits.{bits-at}
-use Rattle.rules.proofs.PlaceLaws.{place, hourAt, pricesAt, gapsAt, place-is, gaps-by-place, price-at-place, lawful-by-places, lawful-clears, lawful-limits, slack-at-place}
+use Rattle.rules.proofs.PlaceLaws.{
+  place,
+  hourAt,
+  pricesAt,
+  gapsAt,
+  place-is,
+  gaps-by-place,
+  price-at-place,
+  lawful-by-places,
+  lawful-clears,
+  lawful-limits,
+  slack-at-place,
+}
 use Rattle.rules.proofs.LawCutLaws.{taken-passes}
 use Rattle.rules.proofs.LossSearchLaws as by-loss
 use Rattle.places.specs.Layout.{dayHours}
@@ -100,7 +112,8 @@ module _ {day : Day} {p rest : ℕ → ℕ} {tables : Tables} (known : Known day
         known .clears h (place (day .blocks) d h) c (rw e at (r .0)) (rw e at (r .1))
 
     -- the loss by the gap table
-    pub loss-is : (sum : ℕ) → sum ≡ sumTo dayHours (λ h. cell (tables .gaps) h (ofHour (node .places) h)) → lossOf day p d ≡ node .loss + sum + daySum (day .hours) rest
+    pub loss-is : (sum : ℕ) → sum ≡ sumTo dayHours (λ h. cell (tables .gaps) h (ofHour (node .places) h)) →
+        lossOf day p d ≡ node .loss + sum + daySum (day .hours) rest
     unfolding lossOf gapsAt
     loss-is sum e =
         let at : ℕ → ℕ = λ h. cell (tables .gaps) h (ofHour (node .places) h) in
@@ -134,7 +147,8 @@ module _ {day : Day} {p rest : ℕ → ℕ} {tables : Tables} (known : Known day
           keepsLimit (day .hours) (pricesAt day (place (day .blocks) d)) (s .block) ≡ keepsHere (tables .blocks) (node .set) prices prices j
       unfolding keepsLimit keepsAt priceSum
       keeps-same j s =
-          let sum : daySum (day .hours) (λ h. when (s .block .runs h) (pricesAt day (place (day .blocks) d) h)) ≡ sumOfHours prices (hoursAt (tables .blocks) j) =
+          let sum : daySum (day .hours) (λ h. when (s .block .runs h) (pricesAt day (place (day .blocks) d) h)) ≡ sumOfHours prices
+          (hoursAt (tables .blocks) j) =
           daySum-in (day .hours) _ _ (λ h c. rw (s .runsIs h, ← (price-at h c))) ∙ block-sum (day .hours) prices (hoursAt (tables .blocks) j) in
           same-test _ _ _ _ _ _ (s .sideIs) sum (s .limitIs)
 
@@ -148,7 +162,8 @@ module _ {day : Day} {p rest : ℕ → ℕ} {tables : Tables} (known : Known day
           let kc : j < tables .count = omega (arith, known .counted) in
           let s = known .shown j kc in
           rw (block-at (day .blocks) j (s .block) _ noBlock (s .next))
-          (keeps-same j s ∙ all-keep-at (tables .blocks) (node .set) prices prices (tables .count) j e kc (borrow.Author.Tests.eqb-true _ _ (sym (bit-is j kc) ∙ t)))))
+          (keeps-same j s ∙ all-keep-at (tables .blocks) (node .set) prices prices (tables .count) j e kc
+          (borrow.Author.Tests.eqb-true _ _ (sym (bit-is j kc) ∙ t)))))
 
       pub limits-broken : allKeep (tables .blocks) (node .set) prices prices (tables .count) ≡ false → lawful day d ≡ true → ⊥
       limits-broken e law =
@@ -215,7 +230,8 @@ module _ {tables : Tables} {node : Node} {clears : Bool} {sum : ℕ}
 
       -- it is lawful and loses less
       pub decided-better : allKeep (tables .blocks) (node .set) prices prices (tables .count) ≡ true → node .loss + sum < best .limit →
-          {sales purchases quantities : List ℕ} → SetTrades (tables .blocks) (tables .count) (node .set) sales purchases → HoursTraded steps sales purchases prices quantities →
+          {sales purchases quantities : List ℕ} → SetTrades (tables .blocks) (tables .count) (node .set) sales purchases →
+          HoursTraded steps sales purchases prices quantities →
           Decided tables steps node best
           record { limit = node .loss + sum; set = node .set; day = record { prices = prices; quantities = quantities } }
       decided-better k less {sales} {purchases} {quantities} sets trades day p rest d same known branch whole room =
@@ -229,7 +245,8 @@ module _ {tables : Tables} {node : Node} {clears : Bool} {sum : ℕ}
 module _ {day : Day} {p rest : ℕ → ℕ} {tables : Tables} (known : Known day p rest tables) where
   -- a lawful set's places are in range
   pub lawful-place : (s : List Bool) → length s ≡ tables .count →
-      lawful day s ≡ true → (h : ℕ) → Counts (day .hours) h → (ofHour (tables .first) h ≤ place (day .blocks) s h) × (place (day .blocks) s h ≤ ofHour (tables .last) h)
+      lawful day s ≡ true → (h : ℕ) → Counts (day .hours) h → (ofHour (tables .first) h ≤ place (day .blocks) s h) ×
+      (place (day .blocks) s h ≤ ofHour (tables .last) h)
   lawful-place s size law h c =
       let n : length s ≡ length (day .blocks) = size ∙ sym (known .counted) in
       let i = place (day .blocks) s h in

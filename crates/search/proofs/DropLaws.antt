@@ -71,7 +71,8 @@ module _ {day : Day} {p rest : ℕ → ℕ} {tables : Tables} (known : Known day
   rest-within (suc n) i (true ∷ t) le e l f k =
       let s = known .shown i (omega arith) in
       let k′ : loss + (against (day .hours) p (s .block) + losses (day .hours) p (drop (suc i) (day .blocks)) t) < limit = rw (s .next) at k in
-      let one = taken-adds (tables .blocks) (isOut out (i - at)) loss limit i (rowQuantity (tables .blocks) i h) (first-not-out n i t f) (omega (arith, s .againstIs)) in
+      let one = taken-adds (tables .blocks) (isOut out (i - at)) loss limit i (rowQuantity (tables .blocks) i h) (first-not-out n i t f)
+      (omega (arith, s .againstIs)) in
       let more = rest-within n (suc i) t (omega arith) (omega arith) (suc-inj l) (avoids-next n i true t le f) (omega arith) in
       let adds = sells-at s h c in
       rw (s .next) (omega arith, omega arith)
@@ -203,7 +204,8 @@ module _ {tables : Tables} {left out : ℕ} {node : Node} {limit : ℕ} where
           )
         where
           gap-least : (h : ℕ) → Counts (day .hours) h →
-              cell (tables .gaps) h (nearest (ofHour (tables .turn) h) (ofHour from h) (ofHour to h)) + rest h ≤ slack (p h) (hourOf day (taken (day .blocks) (d ++ t)) h)
+              cell (tables .gaps) h (nearest (ofHour (tables .turn) h) (ofHour from h) (ofHour to h)) + rest h ≤ slack (p h)
+              (hourOf day (taken (day .blocks) (d ++ t)) h)
           gap-least h c =
               let a = c .first in
               let b = c .last in
@@ -215,7 +217,8 @@ module _ {tables : Tables} {left out : ℕ} {node : Node} {limit : ℕ} where
               omega (
                 arith,
                 gap-of-lawful known (d ++ t) whole law h c,
-                nearest-least (λ i. cell (tables .gaps) h i) (ofHour (tables .turn) h) (ofHour from h) (ofHour to h) (place (day .blocks) (d ++ t) h) (r .0) (r .1)
+                nearest-least (λ i. cell (tables .gaps) h i) (ofHour (tables .turn) h) (ofHour from h) (ofHour to h) (place (day .blocks) (d ++ t) h) (r .0)
+                    (r .1)
                     (λ x y i j z w. at .turning .falls h x y a b (omega arith) j (omega arith) w)
                     (λ x y i j z w. at .turning .rises h x y a b (omega arith) j (omega arith) w),
               )

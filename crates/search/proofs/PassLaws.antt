@@ -104,7 +104,8 @@ module _ {tables : Tables} (few : tables .count ≤ mostBlocks) (small : (i : �
 
     whole-pass : by-loss.Pass day (InTurn day p) (lossAbove day p rest) (bestAs (tables .count) best) (bestAs (tables .count) r)
     whole-pass =
-        subst (λ n. by-loss.Explored day (InTurn day p) (lossAbove day p rest) n [] (bestAs (tables .count) best) (bestAs (tables .count) r)) (sym (known .counted)) (outcome-of .explored)
+        subst (λ n. by-loss.Explored day (InTurn day p) (lossAbove day p rest) n [] (bestAs (tables .count) best) (bestAs (tables .count) r))
+        (sym (known .counted)) (outcome-of .explored)
 
     in-turn : InTurn day p (outcome day)
     in-turn = outcome-in-turn day (known .prices) (known .hours) p

@@ -110,4 +110,5 @@ traded-are {day} known same {chosen} {d} size is law prices quantities sets pric
     let positive : 1 ≤ ofHour prices h = rw (priced h c) (price-positive day (known .prices) (known .hours) d law h c) in
     trades h a b positive
     ∙ rw (sets .salesAre h a b, sets .purchasesAre h a b, t .0, t .1, same h a b, priced h c)
-    (sym (traded-lesser (hourOf day (taken (day .blocks) d) h) (setPrices day (taken (day .blocks) d) h) (all-clear day (known .prices) (known .hours) d law h c)))
+    (sym (traded-lesser (hourOf day (taken (day .blocks) d) h) (setPrices day (taken (day .blocks) d) h)
+    (all-clear day (known .prices) (known .hours) d law h c)))

@@ -128,18 +128,22 @@ module _ (c : List ℕ) (i v₀ v₁ v₂ v₃ v₄ v₅ : ℕ) (k : i < mostBlo
 
   six₁ : getD l₆ (hoursColumn + i) 0 ≡ v₁
   six₁ =
-      getD-set-other l₅ (gainColumn + i) (hoursColumn + i) v₅ 0 (λ e. omega arith) ∙ getD-set-other l₄ (againstColumn + i) (hoursColumn + i) v₄ 0 (λ e. omega arith)
-      ∙ getD-set-other l₃ (limitColumn + i) (hoursColumn + i) v₃ 0 (λ e. omega arith) ∙ getD-set-other l₂ (quantityColumn + i) (hoursColumn + i) v₂ 0 (λ e. omega arith)
+      getD-set-other l₅ (gainColumn + i) (hoursColumn + i) v₅ 0 (λ e. omega arith) ∙ getD-set-other l₄ (againstColumn + i) (hoursColumn + i) v₄ 0
+      (λ e. omega arith)
+      ∙ getD-set-other l₃ (limitColumn + i) (hoursColumn + i) v₃ 0 (λ e. omega arith) ∙ getD-set-other l₂ (quantityColumn + i) (hoursColumn + i) v₂ 0
+      (λ e. omega arith)
       ∙ getD-set-same l₁ (hoursColumn + i) v₁ 0 (omega (arith, size₁))
 
   six₂ : getD l₆ (quantityColumn + i) 0 ≡ v₂
   six₂ =
-      getD-set-other l₅ (gainColumn + i) (quantityColumn + i) v₅ 0 (λ e. omega arith) ∙ getD-set-other l₄ (againstColumn + i) (quantityColumn + i) v₄ 0 (λ e. omega arith)
+      getD-set-other l₅ (gainColumn + i) (quantityColumn + i) v₅ 0 (λ e. omega arith) ∙ getD-set-other l₄ (againstColumn + i) (quantityColumn + i) v₄ 0
+      (λ e. omega arith)
       ∙ getD-set-other l₃ (limitColumn + i) (quantityColumn + i) v₃ 0 (λ e. omega arith) ∙ getD-set-same l₂ (quantityColumn + i) v₂ 0 (omega (arith, size₂))
 
   six₃ : getD l₆ (limitColumn + i) 0 ≡ v₃
   six₃ =
-      getD-set-other l₅ (gainColumn + i) (limitColumn + i) v₅ 0 (λ e. omega arith) ∙ getD-set-other l₄ (againstColumn + i) (limitColumn + i) v₄ 0 (λ e. omega arith)
+      getD-set-other l₅ (gainColumn + i) (limitColumn + i) v₅ 0 (λ e. omega arith) ∙ getD-set-other l₄ (againstColumn + i) (limitColumn + i) v₄ 0
+      (λ e. omega arith)
       ∙ getD-set-same l₃ (limitColumn + i) v₃ 0 (omega (arith, size₃))
 
   six₄ : getD l₆ (againstColumn + i) 0 ≡ v₄
@@ -163,7 +167,8 @@ module _ (c : List ℕ) (i side hours quantity limit sum : ℕ) (k : i < mostBlo
   unfolding written
   written-size = six-size c i side hours quantity limit lost won k size
 
-  written-other : (at : ℕ) → (at ≡ i → ⊥) → (at ≡ hoursColumn + i → ⊥) → (at ≡ quantityColumn + i → ⊥) → (at ≡ limitColumn + i → ⊥) → (at ≡ againstColumn + i → ⊥) →
+  written-other : (at : ℕ) → (at ≡ i → ⊥) → (at ≡ hoursColumn + i → ⊥) → (at ≡ quantityColumn + i → ⊥) → (at ≡ limitColumn + i → ⊥) →
+      (at ≡ againstColumn + i → ⊥) →
       (at ≡ gainColumn + i → ⊥) → getD after at 0 ≡ getD c at 0
   unfolding written
   written-other = six-other c i side hours quantity limit lost won k size
@@ -200,19 +205,23 @@ module _ (c : List ℕ) (i side hours quantity limit sum : ℕ) (k : i < mostBlo
 
     pub hours-there : hoursAt after j ≡ hoursAt c j
     hours-there =
-        written-other (hoursColumn + j) (λ e. omega arith) (λ e. other (omega arith)) (λ e. omega arith) (λ e. omega arith) (λ e. omega arith) (λ e. omega arith)
+        written-other (hoursColumn + j) (λ e. omega arith) (λ e. other (omega arith)) (λ e. omega arith) (λ e. omega arith) (λ e. omega arith)
+        (λ e. omega arith)
 
     pub quantity-there : quantityAt after j ≡ quantityAt c j
     quantity-there =
-        written-other (quantityColumn + j) (λ e. omega arith) (λ e. omega arith) (λ e. other (omega arith)) (λ e. omega arith) (λ e. omega arith) (λ e. omega arith)
+        written-other (quantityColumn + j) (λ e. omega arith) (λ e. omega arith) (λ e. other (omega arith)) (λ e. omega arith) (λ e. omega arith)
+        (λ e. omega arith)
 
     pub limit-there : limitAt after j ≡ limitAt c j
     limit-there =
-        written-other (limitColumn + j) (λ e. omega arith) (λ e. omega arith) (λ e. omega arith) (λ e. other (omega arith)) (λ e. omega arith) (λ e. omega arith)
+        written-other (limitColumn + j) (λ e. omega arith) (λ e. omega arith) (λ e. omega arith) (λ e. other (omega arith)) (λ e. omega arith)
+        (λ e. omega arith)
 
     pub against-there : againstAt after j ≡ againstAt c j
     against-there =
-        written-other (againstColumn + j) (λ e. omega arith) (λ e. omega arith) (λ e. omega arith) (λ e. omega arith) (λ e. other (omega arith)) (λ e. omega arith)
+        written-other (againstColumn + j) (λ e. omega arith) (λ e. omega arith) (λ e. omega arith) (λ e. omega arith) (λ e. other (omega arith))
+        (λ e. omega arith)
 
     pub gain-there : gainAt after j ≡ gainAt c j
     gain-there =

@@ -11,7 +11,23 @@ use lib.Dec.{leb, ltb, eqb}
 use lib.ListN.{length, take, drop, getD, set, replicate, length-set, length-take, length-drop}
 use lib.Seq.{getD-set-same, getD-set-other, getD-take, getD-drop, ext-getD}
 use borrow.Author.Tests.{leb-true, leb-false, ltb-true, eqb-true}
-use Rattle.places.specs.Layout.{againstColumn, aheadColumn, behindColumn, blockListSize, blockRows, dayHours, gainColumn, hourListSize, hoursColumn, lastColumn, limitColumn, mostBlocks, mostQuantity, quantityColumn, turnColumn}
+use Rattle.places.specs.Layout.{
+  againstColumn,
+  aheadColumn,
+  behindColumn,
+  blockListSize,
+  blockRows,
+  dayHours,
+  gainColumn,
+  hourListSize,
+  hoursColumn,
+  lastColumn,
+  limitColumn,
+  mostBlocks,
+  mostQuantity,
+  quantityColumn,
+  turnColumn,
+}
 use Rattle.records.specs.Records.{holdsHour}
 use Rattle.orders.specs.Columns.{sideFor}
 use Rattle.rules.specs.Orders.{Side, buy, sell}
@@ -147,7 +163,8 @@ module _ (blocks : List ℕ) where
   -- it is at most 50, and comes of a bit
   trade-is : (k : ℕ) → hoursAt blocks (k / dayHours) / 2 ^ (k % dayHours) % 2 * quantityAt blocks (k / dayHours) ≡ tradeAt k
   trade-is k =
-      rw (hour-bit (hoursAt blocks (k / dayHours)) (k % dayHours)) (bit-times (hoursAt blocks (k / dayHours) / 2 ^ (k % dayHours)) (quantityAt blocks (k / dayHours)))
+      rw (hour-bit (hoursAt blocks (k / dayHours)) (k % dayHours)) (bit-times (hoursAt blocks (k / dayHours) / 2 ^ (k % dayHours)) (quantityAt blocks
+      (k / dayHours)))
 
   pub trade-small : (count k : ℕ) → RowsEmpty blocks → count ≤ mostBlocks → k < dayHours * count →
       hoursAt blocks (k / dayHours) / 2 ^ (k % dayHours) % 2 * quantityAt blocks (k / dayHours) ≤ mostQuantity
@@ -235,7 +252,8 @@ twin-next blocks i j found next ahead twins better nearer so k are is e =
     (by-test (λ t. TwinOf blocks i ahead (cond t (j + 1) found)) (((twins && ltb 0 (quantityAt blocks i)) && Bool·beq better ahead) && nearer)
     (λ p a z.
     let same : a ≡ j = omega arith in
-    let three = both (twins && ltb 0 (quantityAt blocks i)) (Bool·beq better ahead) (both ((twins && ltb 0 (quantityAt blocks i)) && Bool·beq better ahead) nearer p .0) in
+    let three = both (twins && ltb 0 (quantityAt blocks i)) (Bool·beq better ahead)
+    (both ((twins && ltb 0 (quantityAt blocks i)) && Bool·beq better ahead) nearer p .0) in
     let two = both twins (ltb 0 (quantityAt blocks i)) (three .0) in
     rw same (k, are (two .0), sym is ∙ agree better ahead (three .1), ltb-true 0 (quantityAt blocks i) (two .1)))
     (λ p. so))
@@ -262,7 +280,8 @@ module _ (blocks : List ℕ) where
     none = λ j a b. (empty (aheadColumn + j) (omega arith) (omega arith), empty (behindColumn + j) (omega arith) (omega arith));
   }
 
-  pub twins-next : (count i : ℕ) (r : List ℕ) (a b : ℕ) → TwinsTo count i r → count ≤ mostBlocks → i < count → TwinOf blocks i true a → TwinOf blocks i false b →
+  pub twins-next : (count i : ℕ) (r : List ℕ) (a b : ℕ) → TwinsTo count i r → count ≤ mostBlocks → i < count → TwinOf blocks i true a →
+      TwinOf blocks i false b →
       TwinsTo count (i + 1) (set (set r (aheadColumn + i) a) (behindColumn + i) b)
   twins-next count i r a b t few below fa fb = record {
     inside = omega arith;
@@ -293,7 +312,8 @@ module _ (blocks : List ℕ) where
       other at e₀ e₁ = getD-set-other r₁ (behindColumn + i) at b 0 e₁ ∙ getD-set-other r (aheadColumn + i) at a 0 e₀
 
       ahead-here : aheadAt r₂ i ≡ a
-      ahead-here = getD-set-other r₁ (behindColumn + i) (aheadColumn + i) b 0 (λ e. omega arith) ∙ getD-set-same r (aheadColumn + i) a 0 (omega (arith, t .size))
+      ahead-here = getD-set-other r₁ (behindColumn + i) (aheadColumn + i) b 0 (λ e. omega arith) ∙ getD-set-same r (aheadColumn + i) a 0
+          (omega (arith, t .size))
 
       behind-here : behindAt r₂ i ≡ b
       behind-here = getD-set-same r₁ (behindColumn + i) b 0 (omega (arith, size₁))
@@ -389,7 +409,12 @@ module _ (count : ℕ) (columns wide traded blocks : List ℕ) (few : count ≤ 
   pub blocks-sized : BlocksSized blocks
   blocks-sized = record {
     columns = twins .size;
-    rowsFit = λ i h. omega (arith, twins .rows (blockRows + dayHours * i + (h - 1)) (omega arith), rows .fits (blockRows + dayHours * i + (h - 1)) (omega arith));
+    rowsFit = λ i h. omega (
+      arith,
+      twins .rows (blockRows + dayHours * i + (h - 1)) (omega arith),
+      rows .fits (blockRows + dayHours * i + (h - 1))
+          (omega arith),
+    );
     twinsFit = λ i k. elim (decLe count i) [
       | yes a ↦ let n = twins .none i a k in (omega (arith, n .0), omega (arith, n .1))
       | no a ↦

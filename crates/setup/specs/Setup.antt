@@ -13,7 +13,22 @@ use Rattle.rules.specs.Hour.{bySide, when}
 use Rattle.rules.specs.Execution.{testSide}
 use Rattle.tables.specs.Tables.{PriceTable, AllOf, ClearRange, GapTable}
 use Rattle.rules.specs.Orders.{maxPrice}
-use Rattle.places.specs.Layout.{dayHours, mostBlocks, mostQuantity, mostSteps, lastPlace, rowSize, hoursColumn, quantityColumn, limitColumn, againstColumn, gainColumn, aheadColumn, blockRows, blockListSize}
+use Rattle.places.specs.Layout.{
+  dayHours,
+  mostBlocks,
+  mostQuantity,
+  mostSteps,
+  lastPlace,
+  rowSize,
+  hoursColumn,
+  quantityColumn,
+  limitColumn,
+  againstColumn,
+  gainColumn,
+  aheadColumn,
+  blockRows,
+  blockListSize,
+}
 use Rattle.places.specs.Hours.{Small, FirstSmall, sumOfHours}
 use Rattle.places.specs.Blocks.{sideAt, hoursAt, quantityAt, limitAt, againstAt, gainAt, aheadAt, behindAt, rowQuantity}
 use Rattle.search.specs.Tables.{Tables}

@@ -17,7 +17,8 @@ use Rattle.roots.proofs.limits_of.Reads as limits-of-reads
 use Rattle.roots.proofs.moves.moved_on.Reads as moved-on-reads
 
 abbrev Inv-loop : tie.InvT-loop
-Inv-loop unitPrices off count sides hours quantities limits best₀ least₀ trail₀ n₀ best least trail n = (1 ≤ n) × (n ≤ allMoves + roundMoves) × Small maxPrice best × Small maxPrice (trail .prices) × Small (n * lastPlace) (trail .sum)
+Inv-loop unitPrices off count sides hours quantities limits best₀ least₀ trail₀ n₀ best least trail n =
+    (1 ≤ n) × (n ≤ allMoves + roundMoves) × Small maxPrice best × Small maxPrice (trail .prices) × Small (n * lastPlace) (trail .sum)
 
 abbrev μ-loop : tie.MeasureT-loop
 μ-loop unitPrices off count sides hours quantities limits best₀ least₀ trail₀ n₀ best least trail n = allMoves + roundMoves - n

@@ -32,11 +32,17 @@ size s = search needs
 
 -- what is added is at most the row
 added : (c : tie.After-shared-slice-known2 Inv-loop μ-loop) →
-    c .before .before .before .number-of .result * getD (c .before .before .before .before .before .args .blocks .now) (blockRows + dayHours * c .before .before .before .before .before .args .i + c .before .before .loop .h) 0 ≤ mostAdded
+    c .before .before .before .number-of .result * getD (c .before .before .before .before .before .args .blocks .now)
+    (blockRows + dayHours * c .before .before .before .before .before .args .i + c .before .before .loop .h) 0 ≤ mostAdded
 added c =
     let s = c .before .before .before .before .before in
     let row = rw sub-one at (s .pre .0 .rowsFit (s .args .i) (suc (c .before .before .loop .h))) in
-    omega (arith, row, times-le (s .args .test) (c .before .before .before .number-of .result) (getD (s .args .blocks .now) (blockRows + dayHours * s .args .i + c .before .before .loop .h) 0) (c .before .before .before .number-of .ensures))
+    omega (
+      arith,
+      row,
+      times-le (s .args .test) (c .before .before .before .number-of .result)
+          (getD (s .args .blocks .now) (blockRows + dayHours * s .args .i + c .before .before .loop .h) 0) (c .before .before .before .number-of .ensures),
+    )
 
 loop-holds : tie.Need-loop-holds Inv-loop μ-loop
 loop-holds c = row-start _ _ _ _ (size (c .before .before))

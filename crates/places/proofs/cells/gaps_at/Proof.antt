@@ -66,7 +66,11 @@ shared-slice-read-cell c =
     omega (arith, s .pre .0, passed-fits (g .gap .now) (g .first .now) (g .last .now) (g .t4) (a .loop .h) (s .pre .3) (c .before .if1 .left))
 
 cast-sum : tie.Need-cast-sum Inv-loop μ-loop
-cast-sum c = omega (arith, c .shared-slice-known3 .given (c .before .before .before .before .before .loop .h * rowSize + getD (c .before .before .before .before .before .before .args .t4) (c .before .before .before .before .before .loop .h) 0))
+cast-sum c = omega (
+  arith,
+  c .shared-slice-known3 .given (c .before .before .before .before .before .loop .h * rowSize + getD
+      (c .before .before .before .before .before .before .args .t4) (c .before .before .before .before .before .loop .h) 0),
+)
 
 add-sum : tie.Need-add-sum Inv-loop μ-loop
 add-sum c =

@@ -18,7 +18,8 @@ abbrev μ-loop : tie.MeasureT-loop
 
 -- a number of the gap table
 gap-small : (c : tie.After-shared-slice-known4 Inv-loop μ-loop) →
-    getD (c .before .before .before .before .before .before .before .before .args .gap .now) (c .before .before .before .before .before .loop .h * rowSize + c .before .smaller .result) 0 < 2 ^ 32
+    getD (c .before .before .before .before .before .before .before .before .args .gap .now)
+    (c .before .before .before .before .before .loop .h * rowSize + c .before .smaller .result) 0 < 2 ^ 32
 gap-small c = omega (arith, c .shared-slice-known4 .given (c .before .before .before .before .before .loop .h * rowSize + c .before .smaller .result))
 
 loop-holds : tie.Need-loop-holds Inv-loop μ-loop

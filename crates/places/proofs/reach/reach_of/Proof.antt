@@ -78,7 +78,8 @@ loop-less c = search needs
 
 loop-again : tie.Need-loop-again Inv-loop μ-loop
 loop-again c =
-    reach-next _ _ _ _ _ _ _ _ _ _ (c .before .before .before .before .before .loop .inv) (c .before .before .before .before .loop-test .taken) (c .before .before .larger .ensures) (c .smaller .ensures)
+    reach-next _ _ _ _ _ _ _ _ _ _ (c .before .before .before .before .before .loop .inv) (c .before .before .before .before .loop-test .taken)
+    (c .before .before .larger .ensures) (c .smaller .ensures)
 
 returns : tie.Need-returns Inv-loop μ-loop
 returns c = reach-all _ _ _ _ _ _ _ _ (c .before .loop .inv) (c .loop-test .left)

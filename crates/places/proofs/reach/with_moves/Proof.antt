@@ -39,7 +39,8 @@ free-size s = search needs
 
 -- what is added is at most the row
 added : (c : tie.After-shared-slice-known2 Inv-loop μ-loop) (t : Bool) (n : ℕ) → n ≡ cond t 1 0 →
-    n * getD (c .before .before .before .before .before .before .args .blocks .now) (blockRows + dayHours * c .before .before .before .before .before .before .args .i + c .before .before .loop .h) 0 ≤ mostAdded
+    n * getD (c .before .before .before .before .before .before .args .blocks .now)
+    (blockRows + dayHours * c .before .before .before .before .before .before .args .i + c .before .before .loop .h) 0 ≤ mostAdded
 added c t n e =
     let s = c .before .before .before .before .before .before in
     let row = rw sub-one at (s .pre .0 .rowsFit (s .args .i) (suc (c .before .before .loop .h))) in
@@ -58,7 +59,11 @@ shared-slice-read-traded : tie.Need-shared-slice-read-traded Inv-loop μ-loop
 shared-slice-read-traded c = search needs
 
 mul-more : tie.Need-mul-more Inv-loop μ-loop
-mul-more c = omega (arith, added c (c .before .before .before .before .before .before .args .moves .must) (c .before .before .before .before .number-of .result) (c .before .before .before .before .number-of .ensures))
+mul-more c = omega (
+  arith,
+  added c (c .before .before .before .before .before .before .args .moves .must)
+      (c .before .before .before .before .number-of .result) (c .before .before .before .before .number-of .ensures),
+)
 
 mul-more-2 : tie.Need-mul-more-2 Inv-loop μ-loop
 mul-more-2 c = search needs
@@ -70,13 +75,23 @@ add-more : tie.Need-add-more Inv-loop μ-loop
 add-more c =
     let v = c .before .before .loop in
     let s = c .before .before .before .before .before .before in
-    omega (arith, added c (s .args .moves .must) (c .before .before .before .before .number-of .result) (c .before .before .before .before .number-of .ensures), v .inv .0 .ahead (v .h) (omega arith), s .pre .2 (v .h))
+    omega (
+      arith,
+      added c (s .args .moves .must) (c .before .before .before .before .number-of .result)
+          (c .before .before .before .before .number-of .ensures),
+      v .inv .0 .ahead (v .h) (omega arith),
+      s .pre .2 (v .h),
+    )
 
 array-write-more : tie.Need-array-write-more Inv-loop μ-loop
 array-write-more c = search needs
 
 mul-freer : tie.Need-mul-freer Inv-loop μ-loop
-mul-freer c = omega (arith, added c (c .before .before .before .before .before .before .args .moves .may) (c .before .before .before .number-of2 .result) (c .before .before .before .number-of2 .ensures))
+mul-freer c = omega (
+  arith,
+  added c (c .before .before .before .before .before .before .args .moves .may) (c .before .before .before .number-of2 .result)
+      (c .before .before .before .number-of2 .ensures),
+)
 
 mul-freer-2 : tie.Need-mul-freer-2 Inv-loop μ-loop
 mul-freer-2 c = search needs
@@ -88,7 +103,13 @@ add-freer : tie.Need-add-freer Inv-loop μ-loop
 add-freer c =
     let v = c .before .before .loop in
     let s = c .before .before .before .before .before .before in
-    omega (arith, added c (s .args .moves .may) (c .before .before .before .number-of2 .result) (c .before .before .before .number-of2 .ensures), v .inv .1 .ahead (v .h) (omega arith), s .pre .3 (v .h))
+    omega (
+      arith,
+      added c (s .args .moves .may) (c .before .before .before .number-of2 .result)
+          (c .before .before .before .number-of2 .ensures),
+      v .inv .1 .ahead (v .h) (omega arith),
+      s .pre .3 (v .h),
+    )
 
 array-write-freer : tie.Need-array-write-freer Inv-loop μ-loop
 array-write-freer c = search needs
@@ -100,7 +121,11 @@ loop-less : tie.Need-loop-less Inv-loop μ-loop
 loop-less c = search needs
 
 loop-again : tie.Need-loop-again Inv-loop μ-loop
-loop-again c = (row-next _ _ _ _ _ _ (c .before .before .loop .inv .0) (c .before .loop-test .taken), row-next _ _ _ _ _ _ (c .before .before .loop .inv .1) (c .before .loop-test .taken))
+loop-again c = (
+  row-next _ _ _ _ _ _ (c .before .before .loop .inv .0) (c .before .loop-test .taken),
+  row-next _ _ _ _ _ _ (c .before .before .loop .inv .1)
+      (c .before .loop-test .taken),
+)
 
 returns : tie.Need-returns Inv-loop μ-loop
 returns c =
@@ -110,7 +135,8 @@ returns c =
     record {
       moreSize = v .inv .0 .size;
       freerSize = v .inv .1 .size;
-      moreIs = row-all (s .args .least) (s .args .blocks .now) (s .args .i) _ (s .args .moves .must) (c .before .before .before .number-of .ensures) _ _ (v .inv .0) k;
+      moreIs = row-all (s .args .least) (s .args .blocks .now) (s .args .i) _ (s .args .moves .must) (c .before .before .before .number-of .ensures) _ _
+          (v .inv .0) k;
       freerIs = row-all (s .args .free) (s .args .blocks .now) (s .args .i) _ (s .args .moves .may) (c .before .before .number-of2 .ensures) _ _ (v .inv .1) k;
     }
 

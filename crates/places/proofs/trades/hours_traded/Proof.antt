@@ -83,7 +83,8 @@ loop-again : tie.Need-loop-again Inv-loop μ-loop
 loop-again c =
     let turn = c .before .before .before in
     let loop = turn .before in
-    traded-next _ _ _ _ (loop .loop .h) _ _ (loop .loop .inv) (turn .loop-test .taken) (hour-of-columns _ _ _ _ (loop .loop .h) _ _ _ _ (c .hour-traded .ensures))
+    traded-next _ _ _ _ (loop .loop .h) _ _ (loop .loop .inv) (turn .loop-test .taken)
+    (hour-of-columns _ _ _ _ (loop .loop .h) _ _ _ _ (c .hour-traded .ensures))
 
 returns : tie.Need-returns Inv-loop μ-loop
 returns c = traded-all _ _ _ _ _ _ (c .before .loop .inv) (c .loop-test .left)

@@ -61,7 +61,8 @@ moved-requires c κs =
     let v = c .before .before .before .before .loop in
     let s = c .before .before .before .before .before in
     let few = s .pre .0 .1 (v .i) (c .before .before .before .loop-test .taken) in
-    let fits : c .choose .result ≤ mostQuantity = rw (c .choose .ensures) (chosen-le (leb (getD (s .args .t4) (v .i) 0) (c .before .price-sum .result)) _ mostQuantity few) in
+    let fits : c .choose .result ≤ mostQuantity = rw (c .choose .ensures)
+    (chosen-le (leb (getD (s .args .t4) (v .i) 0) (c .before .price-sum .result)) _ mostQuantity few) in
     (λ j. omega (arith, v .inv .1 j, v .inv .0, s .pre .0 .0, s .pre .1 .0 j), omega (arith, fits))
 
 add-i : tie.Need-add-i Inv-loop μ-loop
@@ -76,7 +77,8 @@ loop-again c =
     let v = o .before .before .before .before .loop in
     let s = o .before .before .before .before .before in
     let k = o .before .before .before .loop-test .taken in
-    let fits : o .choose .result ≤ mostQuantity = rw (o .choose .ensures) (chosen-le (leb (getD (s .args .t4) (v .i) 0) (o .before .price-sum .result)) _ mostQuantity (s .pre .0 .1 (v .i) k)) in
+    let fits : o .choose .result ≤ mostQuantity = rw (o .choose .ensures)
+    (chosen-le (leb (getD (s .args .t4) (v .i) 0) (o .before .price-sum .result)) _ mostQuantity (s .pre .0 .1 (v .i) k)) in
     let m = moved-most _ _ (v .places) (c .moved .result) (c .moved .ensures .0) (c .moved .ensures .1) in
     (omega (arith, k), λ j. omega (arith, m j, fits, v .inv .1 j))
 

@@ -33,13 +33,16 @@ abbrev claims-explore : ℕ → explore-lts.Claims
 claims-explore t = (judge-reads.Asked, judge-reads.Learnt, decide-reads.Asked, decide-reads.Learnt, leave-reads.Asked, leave-reads.Learnt, is-out-reads.Asked, is-out-reads.Learnt, is-barred-reads.Asked, is-barred-reads.Learnt, explore-below t, explore.Post, take-reads.Asked, take-reads.Learnt, is-due-reads.Asked, is-due-reads.Learnt)
 
 -- THE STATES on the way: the start behind the judgement, the judgement behind the block left out, that behind the tests of whether it is only left out
-abbrev start : (t : ℕ) → explore-lts.After-judge (claims-explore t) (explore-at t) explore.Post → explore-lts.Start (claims-explore t) (explore-at t) explore.Post
+abbrev start : (t : ℕ) → explore-lts.After-judge (claims-explore t) (explore-at t) explore.Post →
+    explore-lts.Start (claims-explore t) (explore-at t) explore.Post
 start t c = c .before .before .before .before .before .before .before .before .before
 
-abbrev judged : (t : ℕ) → explore-lts.After-leave (claims-explore t) (explore-at t) explore.Post → explore-lts.After-judge (claims-explore t) (explore-at t) explore.Post
+abbrev judged : (t : ℕ) → explore-lts.After-leave (claims-explore t) (explore-at t) explore.Post →
+    explore-lts.After-judge (claims-explore t) (explore-at t) explore.Post
 judged t c = c .before .before .before .before
 
-abbrev left : (t : ℕ) → explore-lts.Else3 (claims-explore t) (explore-at t) explore.Post → explore-lts.After-leave (claims-explore t) (explore-at t) explore.Post
+abbrev left : (t : ℕ) → explore-lts.Else3 (claims-explore t) (explore-at t) explore.Post →
+    explore-lts.After-leave (claims-explore t) (explore-at t) explore.Post
 left t c = c .before .before .before
 
 explore-judge-requires : (t : ℕ) → explore-lts.Need-judge-requires (claims-explore t) (explore-at t) explore.Post

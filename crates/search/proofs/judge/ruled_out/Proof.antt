@@ -30,14 +30,19 @@ is-ruled-out-requires c κs =
 
 mul-r : tie.Need-mul-r Inv-loop μ-loop
 mul-r c =
-    omega (arith, ruled-room _ _ _ _ _ _ _ _ (c .before .before .before .loop .inv) (c .before .before .loop-test .taken) (c .before .before .before .before .before .before .before .pre .1))
+    omega (
+      arith,
+      ruled-room _ _ _ _ _ _ _ _ (c .before .before .before .loop .inv) (c .before .before .loop-test .taken)
+          (c .before .before .before .before .before .before .before .pre .1),
+    )
 
 number-of-requires : tie.Need-number-of-requires Inv-loop μ-loop
 number-of-requires c κs = search needs
 
 add-r : tie.Need-add-r Inv-loop μ-loop
 add-r c =
-    let room = ruled-room _ _ _ _ _ _ _ _ (c .before .before .before .before .loop .inv) (c .before .before .before .loop-test .taken) (c .before .before .before .before .before .before .before .before .pre .1) in
+    let room = ruled-room _ _ _ _ _ _ _ _ (c .before .before .before .before .loop .inv) (c .before .before .before .loop-test .taken)
+    (c .before .before .before .before .before .before .before .before .pre .1) in
     omega (arith, room, bit-small (c .before .is-ruled-out .result) _ (c .number-of .ensures))
 
 loop-less : tie.Need-loop-less Inv-loop μ-loop

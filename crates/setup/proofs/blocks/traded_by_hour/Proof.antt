@@ -41,7 +41,11 @@ moved-requires c κs =
     let v = c .before .before .before .loop in
     let s = c .before .before .before .before in (
       λ j. omega (arith, v .inv .1 .small j, s .pre .0, c .before .before .loop-test .taken),
-      omega (arith, traded-fits (s .args .t2) (s .args .t3) (s .args .t4) (s .args .all) (v .i) _ _ (s .pre .1 (v .i) (c .before .before .loop-test .taken)) (c .before .choose .ensures) (c .by-side .ensures)),
+      omega (
+        arith,
+        traded-fits (s .args .t2) (s .args .t3) (s .args .t4) (s .args .all) (v .i) _ _ (s .pre .1 (v .i) (c .before .before .loop-test .taken))
+            (c .before .choose .ensures) (c .by-side .ensures),
+      ),
     )
 
 add-i : tie.Need-add-i Inv-loop μ-loop
@@ -55,7 +59,8 @@ loop-again c =
     let v = c .before .before .before .before .loop in
     let k = c .before .before .before .loop-test .taken in (
       omega arith,
-      traded-next _ _ _ _ _ (v .sum) _ _ _ (v .inv .1) (c .before .before .before .before .before .pre .1 (v .i) k) (c .before .before .choose .ensures) (c .before .by-side .ensures)
+      traded-next _ _ _ _ _ (v .sum) _ _ _ (v .inv .1) (c .before .before .before .before .before .pre .1 (v .i) k) (c .before .before .choose .ensures)
+          (c .before .by-side .ensures)
           (c .moved .ensures .0) (c .moved .ensures .1),
     )
 

@@ -70,7 +70,8 @@ returns c =
     let q = s .pre .0 in
     let t = s .pre .1 in
     let g = c .before .before .fill-gaps in
-    hour-ranged _ _ _ _ _ _ _ (t .1) (t .0) (q .1) (q .2) (q .3) _ _ _ _ (g .result) _ (r .before .all-totals .ensures) (r .clear-range .ensures) (g .ensures .0)
+    hour-ranged _ _ _ _ _ _ _ (t .1) (t .0) (q .1) (q .2) (q .3) _ _ _ _ (g .result) _ (r .before .all-totals .ensures) (r .clear-range .ensures)
+    (g .ensures .0)
 
 pub fill-hour-spec : {M : Type 1} → statement M
 fill-hour-spec =

@@ -11,6 +11,7 @@ use crate::twin::by_value::places::layout::BEHIND;
 use crate::twin::by_value::places::layout::GAIN;
 use crate::twin::by_value::places::reach::is_out;
 
+// The set that holds block number at alone.
 fn bit(at: u32) -> u32
 {
     1u32 << at

@@ -89,17 +89,9 @@ pub fn judge(
             out: out,
         };
     }
+    let loss = node.loss;
     let places = node.places;
-    let reach = reach_at(
-        hours,
-        blocks,
-        count as usize,
-        at,
-        out,
-        node.loss,
-        limit,
-        places,
-    );
+    let reach = reach_at(hours, blocks, count as usize, at, out, loss, limit, places);
     if !reach.balances {
         return drop;
     }
