@@ -13,7 +13,7 @@ use Rattle.rules.specs.Orders.{maxPrice}
 use Rattle.rules.specs.Day.{sumTo}
 use Rattle.rules.proofs.Tests.{clash}
 use Rattle.book.proofs.Laws.{or-left, or-right}
-use Rattle.places.specs.Layout.{dayHours, lastPlace, mostGaps, rowSize}
+use Rattle.places.specs.Layout.{hourPlaces, lastPlace, mostGaps, rowSize}
 use Rattle.places.specs.Hours.{Small, cell, ofHour, PlacesClear, GapsOf, PricesOf, nearest, leastGaps}
 use Rattle.places.proofs.NumberLaws.{below-next, zeros}
 
@@ -23,7 +23,7 @@ module _ (gap first last places : List ℕ) where
   ClearsAt k = (getD first k 0 ≤ getD places k 0) × (getD places k 0 ≤ getD last k 0)
 
   pub record GapsTo (h sum : ℕ) : Type 0 where
-    pub inside : h ≤ dayHours
+    pub inside : h ≤ hourPlaces
     pub ranges : (k : ℕ) → k < h → ClearsAt k
     pub is : sum ≡ sumTo h (λ k. cell gap k (ofHour places k))
     pub fits : sum ≤ h * 2 ^ 32
@@ -32,7 +32,7 @@ module _ (gap first last places : List ℕ) where
   unfolding sumTo
   gaps-start = record { inside = omega arith; ranges = λ k a. absurd (omega arith); is = refl; fits = omega arith }
 
-  pub gaps-next : (h sum : ℕ) → GapsTo h sum → h < dayHours → (ltb (getD places h 0) (getD first h 0) || ltb (getD last h 0) (getD places h 0)) ≡ false →
+  pub gaps-next : (h sum : ℕ) → GapsTo h sum → h < hourPlaces → (ltb (getD places h 0) (getD first h 0) || ltb (getD last h 0) (getD places h 0)) ≡ false →
       getD gap (h * rowSize + getD places h 0) 0 < 2 ^ 32 → GapsTo (h + 1) (sum + getD gap (h * rowSize + getD places h 0) 0)
   unfolding sumTo
   gaps-next h sum g k t small =
@@ -51,7 +51,7 @@ module _ (gap first last places : List ℕ) where
       getD places h 0 ≤ lastPlace
   passed-fits h small t = omega (arith, ltb-false (getD last h 0) (getD places h 0) (or-right (ltb (getD places h 0) (getD first h 0)) _ t), small h)
 
-  pub gaps-out : (h : ℕ) → h < dayHours → (ltb (getD places h 0) (getD first h 0) || ltb (getD last h 0) (getD places h 0)) ≡ true →
+  pub gaps-out : (h : ℕ) → h < hourPlaces → (ltb (getD places h 0) (getD first h 0) || ltb (getD last h 0) (getD places h 0)) ≡ true →
       GapsOf gap first last places false 0
   gaps-out h k t = record {
     inRange = λ e. let z : _≡_ {A = ℕ} 0 1 = cc in absurd (omega arith);
@@ -62,9 +62,9 @@ module _ (gap first last places : List ℕ) where
     fits = omega arith;
   }
 
-  pub gaps-all : (h sum : ℕ) → GapsTo h sum → dayHours ≤ h → GapsOf gap first last places true sum
+  pub gaps-all : (h sum : ℕ) → GapsTo h sum → hourPlaces ≤ h → GapsOf gap first last places true sum
   gaps-all h sum g k =
-      let e : h ≡ dayHours = omega (arith, g .inside) in
+      let e : h ≡ hourPlaces = omega (arith, g .inside) in
       record {
         inRange = λ _ j a b. g .ranges (j - 1) (omega arith);
         notInRange = λ z. let w : _≡_ {A = ℕ} 0 1 = cc in absurd (omega arith);
@@ -77,15 +77,15 @@ module _ (unitPrices places : List ℕ) where
   priceHere k = (getD unitPrices (k * rowSize + getD places k 0) 0 + getD unitPrices (k * rowSize + getD places k 0 + 1) 0) / 2
 
   pub record PricesTo (h : ℕ) (prices : List ℕ) : Type 0 where
-    pub inside : h ≤ dayHours
-    pub size : length prices ≡ dayHours
+    pub inside : h ≤ hourPlaces
+    pub size : length prices ≡ hourPlaces
     pub done : (k : ℕ) → k < h → getD prices k 0 ≡ priceHere k
     pub ahead : (k : ℕ) → h ≤ k → getD prices k 0 ≡ 0
 
-  pub prices-start : PricesTo 0 (replicate dayHours 0)
-  prices-start = record { inside = omega arith; size = refl; done = λ k a. absurd (omega arith); ahead = λ k a. zeros dayHours k }
+  pub prices-start : PricesTo 0 (replicate hourPlaces 0)
+  prices-start = record { inside = omega arith; size = refl; done = λ k a. absurd (omega arith); ahead = λ k a. zeros hourPlaces k }
 
-  pub prices-next : (h : ℕ) (prices : List ℕ) → PricesTo h prices → h < dayHours → PricesTo (h + 1) (set prices h (priceHere h))
+  pub prices-next : (h : ℕ) (prices : List ℕ) → PricesTo h prices → h < hourPlaces → PricesTo (h + 1) (set prices h (priceHere h))
   prices-next h prices g k =
       let inside : h < length prices = omega (arith, g .size) in
       record {
@@ -96,17 +96,17 @@ module _ (unitPrices places : List ℕ) where
         ahead = λ j a. getD-set-other prices h j _ 0 (omega arith) ∙ g .ahead j (omega arith);
       }
 
-  pub prices-all : (h : ℕ) (prices : List ℕ) → PricesTo h prices → dayHours ≤ h → Small maxPrice unitPrices → PricesOf unitPrices places prices
+  pub prices-all : (h : ℕ) (prices : List ℕ) → PricesTo h prices → hourPlaces ≤ h → Small maxPrice unitPrices → PricesOf unitPrices places prices
   prices-all h prices g k small =
-      let e : h ≡ dayHours = omega (arith, g .inside) in
+      let e : h ≡ hourPlaces = omega (arith, g .inside) in
       record {
         are = λ j a b.
             let at : (j - 1) * rowSize + (ofHour places j + 1) ≡ (j - 1) * rowSize + ofHour places j + 1 = omega arith in
             rw at (g .done (j - 1) (omega arith));
-        small = λ i. fits i (native.Mathlib.Decide.decLe dayHours i);
+        small = λ i. fits i (native.Mathlib.Decide.decLe hourPlaces i);
       }
     where
-      fits : (i : ℕ) → Dec (dayHours ≤ i) → getD prices i 0 ≤ maxPrice
+      fits : (i : ℕ) → Dec (hourPlaces ≤ i) → getD prices i 0 ≤ maxPrice
       fits i (yes a) = omega (arith, g .ahead i (omega (arith, g .inside)))
       fits i (no a) =
           omega (
@@ -117,10 +117,10 @@ module _ (unitPrices places : List ℕ) where
           )
 
 -- places in range are small
-pub places-small : (first last places : List ℕ) → PlacesClear first last places → Small lastPlace last → length places ≡ dayHours → Small lastPlace places
-places-small first last places r small e i = at (native.Mathlib.Decide.decLe dayHours i)
+pub places-small : (first last places : List ℕ) → PlacesClear first last places → Small lastPlace last → length places ≡ hourPlaces → Small lastPlace places
+places-small first last places r small e i = at (native.Mathlib.Decide.decLe hourPlaces i)
   where
-    at : Dec (dayHours ≤ i) → getD places i 0 ≤ lastPlace
+    at : Dec (hourPlaces ≤ i) → getD places i 0 ≤ lastPlace
     at (yes k) = let z : length places ≤ i = omega arith in rw (lib.ListN.List·getD-eq-default places 0 z) (omega arith)
     at (no k) =
         let a = rw sub-one at (r (suc i) (omega arith) (omega (arith, native.Mathlib.Nat.lt-of-not-le k))) in
@@ -129,7 +129,7 @@ places-small first last places r small e i = at (native.Mathlib.Decide.decLe day
 -- the hours one after the other
 module _ (gap turn from to : List ℕ) where
   pub record LeastTo (h sum : ℕ) : Type 0 where
-    pub inside : h ≤ dayHours
+    pub inside : h ≤ hourPlaces
     pub is : sum ≡ sumTo h (λ k. cell gap k (nearest (ofHour turn k) (ofHour from k) (ofHour to k)))
     pub fits : sum ≤ h * 2 ^ 32
 
@@ -137,13 +137,13 @@ module _ (gap turn from to : List ℕ) where
   unfolding sumTo
   least-start = record { inside = omega arith; is = refl; fits = omega arith }
 
-  pub least-next : (h sum near : ℕ) → LeastTo h sum → h < dayHours → near ≡ nearest (getD turn h 0) (getD from h 0) (getD to h 0) →
+  pub least-next : (h sum near : ℕ) → LeastTo h sum → h < hourPlaces → near ≡ nearest (getD turn h 0) (getD from h 0) (getD to h 0) →
       getD gap (h * rowSize + near) 0 < 2 ^ 32 → LeastTo (h + 1) (sum + getD gap (h * rowSize + near) 0)
   unfolding sumTo
   least-next h sum near g k e small = record { inside = omega arith; is = rw (g .is, e, add-one, sub-one); fits = omega (arith, g .fits) }
 
-  pub least-all : (h sum : ℕ) → LeastTo h sum → dayHours ≤ h → (sum ≡ leastGaps gap turn from to) × (sum ≤ mostGaps)
+  pub least-all : (h sum : ℕ) → LeastTo h sum → hourPlaces ≤ h → (sum ≡ leastGaps gap turn from to) × (sum ≤ mostGaps)
   unfolding leastGaps
   least-all h sum g k =
-      let e : h ≡ dayHours = omega (arith, g .inside) in
+      let e : h ≡ hourPlaces = omega (arith, g .inside) in
       (rw (g .is, e), omega (arith, g .fits))

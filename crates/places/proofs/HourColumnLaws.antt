@@ -16,7 +16,7 @@ use Rattle.rules.specs.Day.{sumTo}
 use Rattle.rules.proofs.Tests.{by-eq}
 use Rattle.rules.proofs.CurveLaws.{when-le}
 use Rattle.records.specs.Records.{holdsHour}
-use Rattle.places.specs.Layout.{dayHours, mostLimit}
+use Rattle.places.specs.Layout.{hourPlaces, mostLimit}
 use Rattle.places.specs.Hours.{Small, sumOfHours}
 
 -- a bit times a number
@@ -39,16 +39,16 @@ hour-bit hours h = rw sub-one
 -- A QUANTITY ADDED in each hour of a block
 pub record MovedTo (places : List ℕ) (hours quantity h rest : ℕ) (r : List ℕ) : Type 0 where
   pub bits : rest ≡ hours / 2 ^ h
-  pub size : length r ≡ dayHours
-  pub inside : h ≤ dayHours
+  pub size : length r ≡ hourPlaces
+  pub inside : h ≤ hourPlaces
   pub done : (k : ℕ) → k < h → getD r k 0 ≡ getD places k 0 + when (holdsHour hours (suc k)) quantity
   pub ahead : (k : ℕ) → h ≤ k → getD r k 0 ≡ getD places k 0
 
-pub moved-start : (places : List ℕ) (hours quantity : ℕ) → length places ≡ dayHours → MovedTo places hours quantity 0 hours places
+pub moved-start : (places : List ℕ) (hours quantity : ℕ) → length places ≡ hourPlaces → MovedTo places hours quantity 0 hours places
 moved-start places hours quantity e =
     record { bits = sym (div-one hours); size = e; inside = omega arith; done = λ k a. absurd (omega arith); ahead = λ k a. refl }
 
-pub moved-next : (places : List ℕ) (hours quantity h rest : ℕ) (r : List ℕ) → MovedTo places hours quantity h rest r → h < dayHours →
+pub moved-next : (places : List ℕ) (hours quantity h rest : ℕ) (r : List ℕ) → MovedTo places hours quantity h rest r → h < hourPlaces →
     MovedTo places hours quantity (h + 1) (rest / 2) (set r h (getD r h 0 + rest % 2 * quantity))
 moved-next places hours quantity h rest r m k =
     let inside : h < length r = omega (arith, m .size) in
@@ -67,8 +67,8 @@ moved-next places hours quantity h rest r m k =
         let e : j ≡ h = omega arith in
         rw (e, getD-set-same r h _ 0 i, m .ahead h (omega arith), bit-times rest quantity, m .bits, hour-bit hours h)
 
-pub moved-all : (places : List ℕ) (hours quantity h rest : ℕ) (r : List ℕ) → MovedTo places hours quantity h rest r → dayHours ≤ h →
-    (k : ℕ) → 1 ≤ k → k ≤ dayHours → getD r (k - 1) 0 ≡ getD places (k - 1) 0 + when (holdsHour hours k) quantity
+pub moved-all : (places : List ℕ) (hours quantity h rest : ℕ) (r : List ℕ) → MovedTo places hours quantity h rest r → hourPlaces ≤ h →
+    (k : ℕ) → 1 ≤ k → k ≤ hourPlaces → getD r (k - 1) 0 ≡ getD places (k - 1) 0 + when (holdsHour hours k) quantity
 moved-all places hours quantity h rest r m e k a b =
     let t = m .done (k - 1) (omega (arith, m .inside)) in
     let one : suc (k - 1) ≡ k = omega arith in
@@ -77,7 +77,7 @@ moved-all places hours quantity h rest r m e k a b =
 -- A SUM OVER THE HOURS of a block
 pub record SummedTo (column : List ℕ) (hours h rest sum : ℕ) : Type 0 where
   pub bits : rest ≡ hours / 2 ^ h
-  pub inside : h ≤ dayHours
+  pub inside : h ≤ hourPlaces
   pub is : sum ≡ sumTo h (λ k. when (holdsHour hours k) (getD column (k - 1) 0))
   pub fits : sum ≤ h * maxPrice
 
@@ -85,7 +85,7 @@ pub sum-start : (column : List ℕ) (hours : ℕ) → SummedTo column hours 0 ho
 unfolding sumTo
 sum-start column hours = record { bits = sym (div-one hours); inside = omega arith; is = refl; fits = omega arith }
 
-pub sum-next : (column : List ℕ) (hours h rest sum : ℕ) → Small maxPrice column → SummedTo column hours h rest sum → h < dayHours →
+pub sum-next : (column : List ℕ) (hours h rest sum : ℕ) → Small maxPrice column → SummedTo column hours h rest sum → h < hourPlaces →
     SummedTo column hours (h + 1) (rest / 2) (sum + rest % 2 * getD column h 0)
 unfolding sumTo
 sum-next column hours h rest sum small m k =
@@ -98,8 +98,8 @@ sum-next column hours h rest sum small m k =
       fits = omega (arith, m .fits, small h, when-le (holdsHour hours (suc h)) (getD column h 0));
     }
 
-pub sum-all : (column : List ℕ) (hours h rest sum : ℕ) → SummedTo column hours h rest sum → dayHours ≤ h → (sum ≡ sumOfHours column hours) × (sum ≤ mostLimit)
+pub sum-all : (column : List ℕ) (hours h rest sum : ℕ) → SummedTo column hours h rest sum → hourPlaces ≤ h → (sum ≡ sumOfHours column hours) × (sum ≤ mostLimit)
 unfolding sumOfHours
 sum-all column hours h rest sum m k =
-    let e : h ≡ dayHours = omega (arith, m .inside) in
+    let e : h ≡ hourPlaces = omega (arith, m .inside) in
     (rw (m .is, e), omega (arith, m .fits))

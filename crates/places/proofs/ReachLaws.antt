@@ -14,7 +14,8 @@ use borrow.Author.Tests.{leb-true, le-leb, lt-leb}
 use Rattle.rules.specs.Hour.{when}
 use Rattle.rules.proofs.Tests.{by-test, both, clash}
 use Rattle.rules.proofs.CurveLaws.{when-le}
-use Rattle.places.specs.Layout.{dayHours, mostBlocks, lastPlace, mostAdded}
+use Rattle.book.specs.Bounds.{mostBlocks}
+use Rattle.places.specs.Layout.{hourPlaces, lastPlace, mostAdded}
 use Rattle.places.specs.Hours.{Small, ofHour, larger, smaller}
 use Rattle.places.specs.Blocks.{sideAt, againstAt, gainAt, rowQuantity, addedIn}
 use Rattle.places.specs.Reach.{isLeft, isTaken, mustMove, mayMove, mustFrom, mayFrom, AddedTo, RestOf, ReachOf}
@@ -62,23 +63,23 @@ module _ (blocks : List ℕ) (out : Bool) (loss limit i row : ℕ) where
       go false false = (omega arith, omega arith)
 
 -- THE PLACES WITHIN REACH lie in the tables' rows
-column-small : (m : ℕ) (l : List ℕ) → length l ≡ dayHours → ((h : ℕ) → h < dayHours → getD l h 0 ≤ m) → Small m l
-column-small m l size f i = elim (decLe dayHours i) [
+column-small : (m : ℕ) (l : List ℕ) → length l ≡ hourPlaces → ((h : ℕ) → h < hourPlaces → getD l h 0 ≤ m) → Small m l
+column-small m l size f i = elim (decLe hourPlaces i) [
   | yes k ↦ let z : length l ≤ i = omega arith in rw (List·getD-eq-default l 0 z) (omega arith)
   | no k ↦ f i (lt-of-not-le k)
 ]
 
 module _ {first last least free : List ℕ} {balances : Bool} {from to : List ℕ} (reach : ReachOf first last least free balances from to)
     (small : Small lastPlace last) where
-  pub to-fits : (h : ℕ) → h < dayHours → getD to h 0 ≤ lastPlace
+  pub to-fits : (h : ℕ) → h < hourPlaces → getD to h 0 ≤ lastPlace
   to-fits h k =
       let is = rw sub-one at (reach .toIs (suc h) (omega arith) (omega arith)) in
       omega (arith, small h, smaller-below (getD least h 0 + getD free h 0) (getD last h 0) .1)
 
-  pub to-small : length to ≡ dayHours → Small lastPlace to
+  pub to-small : length to ≡ hourPlaces → Small lastPlace to
   to-small size = column-small lastPlace to size to-fits
 
-  pub from-small : balances ≡ true → length from ≡ dayHours → Small lastPlace from
+  pub from-small : balances ≡ true → length from ≡ hourPlaces → Small lastPlace from
   from-small e size =
       column-small lastPlace from size (λ h k.
       let le = rw sub-one at (reach .balanced e (suc h) (omega arith) (omega arith)) in
@@ -92,14 +93,14 @@ module _ (blocks : List ℕ) (count at out loss limit : ℕ) (places : List ℕ)
   pub record RestTo (i : ℕ) (least free : List ℕ) : Type 0 where
     pub from : at ≤ i
     pub to : i ≤ count
-    pub leastSize : length least ≡ dayHours
-    pub freeSize : length free ≡ dayHours
-    pub leastIs : (h : ℕ) → 1 ≤ h → h ≤ dayHours → ofHour least h ≡ ofHour places h + added (mustFrom blocks at out loss limit) h i
-    pub freeIs : (h : ℕ) → 1 ≤ h → h ≤ dayHours → ofHour free h ≡ added (mayFrom blocks at out loss limit) h i
+    pub leastSize : length least ≡ hourPlaces
+    pub freeSize : length free ≡ hourPlaces
+    pub leastIs : (h : ℕ) → 1 ≤ h → h ≤ hourPlaces → ofHour least h ≡ ofHour places h + added (mustFrom blocks at out loss limit) h i
+    pub freeIs : (h : ℕ) → 1 ≤ h → h ≤ hourPlaces → ofHour free h ≡ added (mayFrom blocks at out loss limit) h i
     pub leastFits : Small ((at + (count - i)) * mostAdded) least
     pub freeFits : Small ((count - i) * mostAdded) free
 
-  pub rest-start : at ≤ count → length places ≡ dayHours → Small (at * mostAdded) places → RestTo count places (replicate dayHours 0)
+  pub rest-start : at ≤ count → length places ≡ hourPlaces → Small (at * mostAdded) places → RestTo count places (replicate hourPlaces 0)
   unfolding addedIn
   rest-start few size small =
       let none : count - count ≡ 0 = omega arith in
@@ -110,9 +111,9 @@ module _ (blocks : List ℕ) (count at out loss limit : ℕ) (places : List ℕ)
         leastSize = size;
         freeSize = refl;
         leastIs = λ h a b. rw none (omega arith);
-        freeIs = λ h a b. rw none (zeros dayHours (h - 1));
+        freeIs = λ h a b. rw none (zeros hourPlaces (h - 1));
         leastFits = rw same small;
-        freeFits = λ i. omega (arith, zeros dayHours i);
+        freeFits = λ i. omega (arith, zeros hourPlaces i);
       }
 
   one-more : (moves : ℕ → Bool) (h i : ℕ) → 0 < i → i ≤ count →
@@ -161,15 +162,15 @@ module _ (first last least free : List ℕ) where
   highestAt k = smaller (getD least k 0 + getD free k 0) (getD last k 0)
 
   pub record ReachTo (h : ℕ) (balances : Bool) (from to : List ℕ) : Type 0 where
-    pub inside : h ≤ dayHours
-    pub fromSize : length from ≡ dayHours
-    pub toSize : length to ≡ dayHours
+    pub inside : h ≤ hourPlaces
+    pub fromSize : length from ≡ hourPlaces
+    pub toSize : length to ≡ hourPlaces
     pub fromIs : (k : ℕ) → k < h → getD from k 0 ≡ lowestAt k
     pub toIs : (k : ℕ) → k < h → getD to k 0 ≡ highestAt k
     pub balanced : balances ≡ true → (k : ℕ) → k < h → lowestAt k ≤ highestAt k
     pub unbalanced : balances ≡ false → ((k : ℕ) → k < h → lowestAt k ≤ highestAt k) → ⊥
 
-  pub reach-start : ReachTo 0 true (replicate dayHours 0) (replicate dayHours 0)
+  pub reach-start : ReachTo 0 true (replicate hourPlaces 0) (replicate hourPlaces 0)
   reach-start = record {
     inside = omega arith;
     fromSize = refl;
@@ -180,7 +181,7 @@ module _ (first last least free : List ℕ) where
     unbalanced = λ e. clash refl e;
   }
 
-  pub reach-next : (h : ℕ) (balances : Bool) (from to : List ℕ) (lowest highest : ℕ) → ReachTo h balances from to → h < dayHours →
+  pub reach-next : (h : ℕ) (balances : Bool) (from to : List ℕ) (lowest highest : ℕ) → ReachTo h balances from to → h < hourPlaces →
       lowest ≡ lowestAt h → highest ≡ highestAt h →
       ReachTo (h + 1) (balances && leb lowest highest) (set from h lowest) (set to h highest)
   reach-next h balances from to lowest highest r k el eh =
@@ -203,10 +204,10 @@ module _ (first last least free : List ℕ) where
             (λ b _ _. r .unbalanced b (λ j a. f j (omega arith))) e refl;
       }
 
-  pub reach-all : (h : ℕ) (balances : Bool) (from to : List ℕ) → ReachTo h balances from to → dayHours ≤ h →
+  pub reach-all : (h : ℕ) (balances : Bool) (from to : List ℕ) → ReachTo h balances from to → hourPlaces ≤ h →
       ReachOf first last least free balances from to
   reach-all h balances from to r k =
-      let e : h ≡ dayHours = omega (arith, r .inside) in
+      let e : h ≡ hourPlaces = omega (arith, r .inside) in
       record {
         fromIs = λ j a b. r .fromIs (j - 1) (omega arith);
         toIs = λ j a b. r .toIs (j - 1) (omega arith);

@@ -8,7 +8,7 @@ use lib.Seq.{slice}
 use borrow.Rule.Slice.PartMut.{mid-len}
 use Rattle.orders.specs.Columns.{stepsFrom}
 use Rattle.pricing.specs.Curves.{Columns}
-use Rattle.places.specs.Layout.{dayHours}
+use Rattle.places.specs.Layout.{hourPlaces}
 use Rattle.places.specs.Hours.{Small, FirstSmall}
 use Rattle.places.specs.Steps.{stepsAt, StepsSized, PartSized}
 
@@ -59,15 +59,15 @@ unfolding stepsAt
 steps-next ends sides prices quantities h = let e : h + 1 - 1 ≡ h = omega arith in rw e
 
 -- no hour ends past the last
-pub hour-inside : (ends sides prices quantities : List ℕ) (h : ℕ) → StepsSized ends sides prices quantities → h < dayHours →
-    getD ends (h + 1) 0 ≤ getD ends dayHours 0
-hour-inside ends sides prices quantities h s k = down (dayHours - (h + 1)) (h + 1) (omega arith)
+pub hour-inside : (ends sides prices quantities : List ℕ) (h : ℕ) → StepsSized ends sides prices quantities → h < hourPlaces →
+    getD ends (h + 1) 0 ≤ getD ends hourPlaces 0
+hour-inside ends sides prices quantities h s k = down (hourPlaces - (h + 1)) (h + 1) (omega arith)
   where
-    down : (n j : ℕ) → j + n ≡ dayHours → getD ends j 0 ≤ getD ends dayHours 0
-    down zero j e = let f : j ≡ dayHours = omega arith in rw f (omega arith)
+    down : (n j : ℕ) → j + n ≡ hourPlaces → getD ends j 0 ≤ getD ends hourPlaces 0
+    down zero j e = let f : j ≡ hourPlaces = omega arith in rw f (omega arith)
     down (suc n) j e = omega (arith, s .rise j (omega arith), down n (j + 1) (omega arith))
 
-pub hour-part : (ends sides prices quantities : List ℕ) (h : ℕ) → StepsSized ends sides prices quantities → h < dayHours →
+pub hour-part : (ends sides prices quantities : List ℕ) (h : ℕ) → StepsSized ends sides prices quantities → h < hourPlaces →
     PartSized sides prices quantities (getD ends h 0) (getD ends (h + 1) 0)
 hour-part ends sides prices quantities h s k =
     let e = hour-inside ends sides prices quantities h s k in

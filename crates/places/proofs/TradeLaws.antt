@@ -11,7 +11,8 @@ use Rattle.rules.specs.Orders.{Step}
 use Rattle.rules.specs.Hour.{when, buysFrom, sellsTo}
 use Rattle.rules.proofs.CurveLaws.{when-le}
 use Rattle.pricing.specs.Curves.{TradedAt}
-use Rattle.places.specs.Layout.{dayHours, mostBlocks, mostAdded}
+use Rattle.book.specs.Bounds.{mostBlocks}
+use Rattle.places.specs.Layout.{hourPlaces, mostAdded}
 use Rattle.places.specs.Hours.{Small, ofHour}
 use Rattle.places.specs.Blocks.{rowQuantity, addedIn, sellsIn, buysIn, SetTrades}
 use Rattle.places.specs.Steps.{stepsAt, HoursTraded}
@@ -27,14 +28,14 @@ module _ (steps : ℕ → List Step) (sales purchases prices : List ℕ) where
       v ≡ min (buysFrom (getD prices k 0) (steps (suc k)) + getD purchases k 0) (sellsTo (getD prices k 0) (steps (suc k)) + getD sales k 0)
 
   pub record TradedTo (h : ℕ) (quantities : List ℕ) : Type 0 where
-    pub inside : h ≤ dayHours
-    pub size : length quantities ≡ dayHours
+    pub inside : h ≤ hourPlaces
+    pub size : length quantities ≡ hourPlaces
     pub done : (k : ℕ) → k < h → TradedHere k (getD quantities k 0)
 
-  pub traded-start : TradedTo 0 (replicate dayHours 0)
+  pub traded-start : TradedTo 0 (replicate hourPlaces 0)
   traded-start = record { inside = omega arith; size = refl; done = λ k a. absurd (omega arith) }
 
-  pub traded-next : (h : ℕ) (quantities : List ℕ) (v : ℕ) → TradedTo h quantities → h < dayHours → TradedHere h v → TradedTo (h + 1) (set quantities h v)
+  pub traded-next : (h : ℕ) (quantities : List ℕ) (v : ℕ) → TradedTo h quantities → h < hourPlaces → TradedHere h v → TradedTo (h + 1) (set quantities h v)
   traded-next h quantities v t k is =
       let inside : h < length quantities = omega (arith, t .size) in
       record {
@@ -45,9 +46,9 @@ module _ (steps : ℕ → List Step) (sales purchases prices : List ℕ) where
             (rw (getD-set-same quantities h v 0 inside) is) (rw add-one at a);
       }
 
-  pub traded-all : (h : ℕ) (quantities : List ℕ) → TradedTo h quantities → dayHours ≤ h → HoursTraded steps sales purchases prices quantities
+  pub traded-all : (h : ℕ) (quantities : List ℕ) → TradedTo h quantities → hourPlaces ≤ h → HoursTraded steps sales purchases prices quantities
   traded-all h quantities t k j a b =
-      let e : h ≡ dayHours = omega (arith, t .inside) in
+      let e : h ≡ hourPlaces = omega (arith, t .inside) in
       let one : suc (j - 1) ≡ j = omega arith in
       rw one at (t .done (j - 1) (omega arith))
 
@@ -64,26 +65,26 @@ hour-of-columns ends sides prices quantities h sales purchases price v t pos =
 module _ (blocks : List ℕ) (count chosen : ℕ) where
   pub record TradesTo (i : ℕ) (sales purchases : List ℕ) : Type 0 where
     pub inside : i ≤ count
-    pub salesAre : (h : ℕ) → 1 ≤ h → h ≤ dayHours → ofHour sales h ≡ addedIn blocks (sellsIn blocks chosen) h (count - i) i
-    pub purchasesAre : (h : ℕ) → 1 ≤ h → h ≤ dayHours → ofHour purchases h ≡ addedIn blocks (buysIn blocks chosen) h (count - i) i
+    pub salesAre : (h : ℕ) → 1 ≤ h → h ≤ hourPlaces → ofHour sales h ≡ addedIn blocks (sellsIn blocks chosen) h (count - i) i
+    pub purchasesAre : (h : ℕ) → 1 ≤ h → h ≤ hourPlaces → ofHour purchases h ≡ addedIn blocks (buysIn blocks chosen) h (count - i) i
     pub salesFit : Small ((count - i) * mostAdded) sales
     pub purchasesFit : Small ((count - i) * mostAdded) purchases
 
-  pub trades-start : TradesTo count (replicate dayHours 0) (replicate dayHours 0)
+  pub trades-start : TradesTo count (replicate hourPlaces 0) (replicate hourPlaces 0)
   unfolding addedIn
   trades-start =
       let none : count - count ≡ 0 = omega arith in
       record {
         inside = omega arith;
-        salesAre = λ h a b. rw none (zeros dayHours (h - 1));
-        purchasesAre = λ h a b. rw none (zeros dayHours (h - 1));
-        salesFit = λ j. omega (arith, zeros dayHours j);
-        purchasesFit = λ j. omega (arith, zeros dayHours j);
+        salesAre = λ h a b. rw none (zeros hourPlaces (h - 1));
+        purchasesAre = λ h a b. rw none (zeros hourPlaces (h - 1));
+        salesFit = λ j. omega (arith, zeros hourPlaces j);
+        purchasesFit = λ j. omega (arith, zeros hourPlaces j);
       }
 
   -- a list with block i - 1 added where a test passes
   abbrev AddedBy : ℕ → Bool → List ℕ → List ℕ → Type 0
-  AddedBy i test l r = (length r ≡ dayHours) × ((h : ℕ) → 1 ≤ h → h ≤ dayHours → ofHour r h ≡ ofHour l h + when test (rowQuantity blocks (i - 1) h))
+  AddedBy i test l r = (length r ≡ hourPlaces) × ((h : ℕ) → 1 ≤ h → h ≤ hourPlaces → ofHour r h ≡ ofHour l h + when test (rowQuantity blocks (i - 1) h))
 
   grown : (i : ℕ) (test : Bool) (l r : List ℕ) → 0 < i → i ≤ count → ((h : ℕ) → rowQuantity blocks (i - 1) h ≤ mostAdded) → AddedBy i test l r →
       Small ((count - i) * mostAdded) l → Small ((count - (i - 1)) * mostAdded) r

@@ -8,21 +8,8 @@ use lib.ListN.{length, getD}
 use Rattle.rules.specs.Execution.{testSide}
 use Rattle.orders.specs.Columns.{sideFor}
 use Rattle.rules.specs.Hour.{when}
-use Rattle.places.specs.Layout.{
-  dayHours,
-  mostBlocks,
-  mostAdded,
-  mostPlace,
-  hoursColumn,
-  quantityColumn,
-  limitColumn,
-  againstColumn,
-  gainColumn,
-  aheadColumn,
-  behindColumn,
-  blockRows,
-  blockListSize,
-}
+use Rattle.book.specs.Bounds.{mostBlocks}
+use Rattle.places.specs.Layout.{hourPlaces, mostAdded, mostPlace, hoursColumn, quantityColumn, limitColumn, againstColumn, gainColumn, aheadColumn, behindColumn, rowsColumn, blockListSize}
 use Rattle.places.specs.Hours.{Small, sumOfHours, ofHour}
 
 -- THE BLOCKS: eight columns: side, hours, quantity, limit (price times hour count), loss if taken, loss if left out, and for twins the
@@ -53,7 +40,7 @@ behindAt blocks i = getD blocks (behindColumn + i) 0
 
 -- What block i trades in hour h.
 abbrev pub rowQuantity : List ℕ → ℕ → ℕ → ℕ
-rowQuantity blocks i h = getD blocks (blockRows + dayHours * i + (h - 1)) 0
+rowQuantity blocks i h = getD blocks (rowsColumn + hourPlaces * i + (h - 1)) 0
 
 -- What is asked of them, for safe arithmetic and indexing.
 pub record BlocksSized (blocks : List ℕ) : Type 0 where
@@ -88,6 +75,6 @@ buysIn blocks set i = eqb (set / 2 ^ i % 2) 1 && eqb (sideAt blocks i) 0
 
 -- What the first count blocks of a set sell and buy in each hour.
 pub record SetTrades (blocks : List ℕ) (count set : ℕ) (sales purchases : List ℕ) : Type 0 where
-  pub salesAre : (h : ℕ) → 1 ≤ h → h ≤ dayHours → ofHour sales h ≡ addedIn blocks (sellsIn blocks set) h count 0
-  pub purchasesAre : (h : ℕ) → 1 ≤ h → h ≤ dayHours → ofHour purchases h ≡ addedIn blocks (buysIn blocks set) h count 0
+  pub salesAre : (h : ℕ) → 1 ≤ h → h ≤ hourPlaces → ofHour sales h ≡ addedIn blocks (sellsIn blocks set) h count 0
+  pub purchasesAre : (h : ℕ) → 1 ≤ h → h ≤ hourPlaces → ofHour purchases h ≡ addedIn blocks (buysIn blocks set) h count 0
   pub purchasesFit : Small mostPlace purchases

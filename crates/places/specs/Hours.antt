@@ -9,7 +9,7 @@ use Rattle.rules.specs.Orders.{maxPrice}
 use Rattle.rules.specs.Hour.{when}
 use Rattle.rules.specs.Day.{sumTo}
 use Rattle.records.specs.Records.{holdsHour}
-use Rattle.places.specs.Layout.{dayHours, mostGaps, rowSize, turnColumn}
+use Rattle.places.specs.Layout.{hourPlaces, mostGaps, rowSize, turnColumn}
 
 -- Every number of a list is at most m.
 abbrev pub Small : ℕ → List ℕ → Type 0
@@ -17,7 +17,7 @@ Small m l = (i : ℕ) → getD l i 0 ≤ m
 
 -- A price of at most the greatest for each hour.
 abbrev pub DayPrices : List ℕ → Type 0
-DayPrices l = (length l ≡ dayHours) × Small maxPrice l
+DayPrices l = (length l ≡ hourPlaces) × Small maxPrice l
 
 -- Every one of the first n numbers of a list is at most m.
 abbrev pub FirstSmall : ℕ → ℕ → List ℕ → Type 0
@@ -25,7 +25,7 @@ FirstSmall n m l = (i : ℕ) → i < n → getD l i 0 ≤ m
 
 -- The sum of a column of hours over the hours of a block, given as bits.
 unfoldable pub sumOfHours : List ℕ → ℕ → ℕ
-sumOfHours column hours = sumTo dayHours (λ h. when (holdsHour hours h) (getD column (h - 1) 0))
+sumOfHours column hours = sumTo hourPlaces (λ h. when (holdsHour hours h) (getD column (h - 1) 0))
 
 -- THE TABLES: a row of places for each hour, hour 1 first.
 -- The number at a place of hour h.
@@ -38,28 +38,28 @@ ofHour column h = getD column (h - 1) 0
 
 -- THE HOURS: three columns: the first and the last place at which each clears, and the place of its least gap, where its gaps turn.
 abbrev pub clearsFirst : List ℕ → List ℕ
-clearsFirst hours = take dayHours hours
+clearsFirst hours = take hourPlaces hours
 
 abbrev pub clearsLast : List ℕ → List ℕ
-clearsLast hours = take dayHours (drop dayHours hours)
+clearsLast hours = take hourPlaces (drop hourPlaces hours)
 
 abbrev pub gapsTurn : List ℕ → List ℕ
-gapsTurn hours = take dayHours (drop turnColumn hours)
+gapsTurn hours = take hourPlaces (drop turnColumn hours)
 
 -- Each hour clears at its place, the place lying from the hour's first to its last.
 abbrev pub PlacesClear : List ℕ → List ℕ → List ℕ → Type 0
-PlacesClear first last places = (h : ℕ) → 1 ≤ h → h ≤ dayHours → (ofHour first h ≤ ofHour places h) × (ofHour places h ≤ ofHour last h)
+PlacesClear first last places = (h : ℕ) → 1 ≤ h → h ≤ hourPlaces → (ofHour first h ≤ ofHour places h) × (ofHour places h ≤ ofHour last h)
 
 -- The gaps at the places: their sum where every place is in range.
 pub record GapsOf (gap first last places : List ℕ) (clears : Bool) (sum : ℕ) : Type 0 where
   pub inRange : clears ≡ true → PlacesClear first last places
   pub notInRange : clears ≡ false → PlacesClear first last places → ⊥
-  pub sumIs : clears ≡ true → sum ≡ sumTo dayHours (λ h. cell gap h (ofHour places h))
+  pub sumIs : clears ≡ true → sum ≡ sumTo hourPlaces (λ h. cell gap h (ofHour places h))
   pub fits : sum ≤ mostGaps
 
 -- The prices at the places: the middle of the two neighbouring entries.
 pub record PricesOf (unitPrices places prices : List ℕ) : Type 0 where
-  pub are : (h : ℕ) → 1 ≤ h → h ≤ dayHours → ofHour prices h ≡ (cell unitPrices h (ofHour places h) + cell unitPrices h (ofHour places h + 1)) / 2
+  pub are : (h : ℕ) → 1 ≤ h → h ≤ hourPlaces → ofHour prices h ≡ (cell unitPrices h (ofHour places h) + cell unitPrices h (ofHour places h + 1)) / 2
   pub small : Small maxPrice prices
 
 -- The larger and the smaller of two numbers; the number from a to b that is nearest to n.
@@ -74,4 +74,4 @@ nearest n a b = smaller (larger n a) b
 
 -- The sum of the hours' gaps at the places from `from` to `to` that are nearest to where the gaps turn.
 unfoldable pub leastGaps : (gap turn from to : List ℕ) → ℕ
-leastGaps gap turn from to = sumTo dayHours (λ h. cell gap h (nearest (ofHour turn h) (ofHour from h) (ofHour to h)))
+leastGaps gap turn from to = sumTo hourPlaces (λ h. cell gap h (nearest (ofHour turn h) (ofHour from h) (ofHour to h)))

@@ -6,7 +6,7 @@ use mathlib.Core.Path.{_≡_}
 use lib.Dec.{eqb, leb}
 use lib.ListN.{length}
 use Rattle.rules.specs.Hour.{when}
-use Rattle.places.specs.Layout.{dayHours, mostPlace}
+use Rattle.places.specs.Layout.{hourPlaces, mostPlace}
 use Rattle.places.specs.Hours.{Small, ofHour, larger, smaller}
 use Rattle.places.specs.Blocks.{sideAt, againstAt, gainAt, rowQuantity, addedIn}
 
@@ -40,24 +40,24 @@ mayFrom blocks j out loss limit i = mayMove blocks (isOut out (i - j)) loss limi
 
 -- The least places and what is free with block i more, each where the block moves it.
 pub record AddedTo (blocks : List ℕ) (i : ℕ) (must may : Bool) (least free more freer : List ℕ) : Type 0 where
-  pub moreSize : length more ≡ dayHours
-  pub freerSize : length freer ≡ dayHours
-  pub moreIs : (h : ℕ) → 1 ≤ h → h ≤ dayHours → ofHour more h ≡ ofHour least h + when must (rowQuantity blocks i h)
-  pub freerIs : (h : ℕ) → 1 ≤ h → h ≤ dayHours → ofHour freer h ≡ ofHour free h + when may (rowQuantity blocks i h)
+  pub moreSize : length more ≡ hourPlaces
+  pub freerSize : length freer ≡ hourPlaces
+  pub moreIs : (h : ℕ) → 1 ≤ h → h ≤ hourPlaces → ofHour more h ≡ ofHour least h + when must (rowQuantity blocks i h)
+  pub freerIs : (h : ℕ) → 1 ≤ h → h ≤ hourPlaces → ofHour freer h ≡ ofHour free h + when may (rowQuantity blocks i h)
 
 -- The least places of the hours, and what the blocks from number j on are free to add.
 pub record RestOf (blocks : List ℕ) (count j out loss limit : ℕ) (places least free : List ℕ) : Type 0 where
-  pub leastIs : (h : ℕ) → 1 ≤ h → h ≤ dayHours → ofHour least h ≡ ofHour places h + addedIn blocks (mustFrom blocks j out loss limit) h (count - j) j
-  pub freeIs : (h : ℕ) → 1 ≤ h → h ≤ dayHours → ofHour free h ≡ addedIn blocks (mayFrom blocks j out loss limit) h (count - j) j
+  pub leastIs : (h : ℕ) → 1 ≤ h → h ≤ hourPlaces → ofHour least h ≡ ofHour places h + addedIn blocks (mustFrom blocks j out loss limit) h (count - j) j
+  pub freeIs : (h : ℕ) → 1 ≤ h → h ≤ hourPlaces → ofHour free h ≡ addedIn blocks (mayFrom blocks j out loss limit) h (count - j) j
   pub leastFits : Small mostPlace least
   pub freeFits : Small mostPlace free
 
 -- From its least place, with so much free to add, an hour reaches the places from..to at which it clears; it can balance where there are any.
 pub record ReachOf (first last least free : List ℕ) (balances : Bool) (from to : List ℕ) : Type 0 where
-  pub fromIs : (h : ℕ) → 1 ≤ h → h ≤ dayHours → ofHour from h ≡ larger (ofHour least h) (ofHour first h)
-  pub toIs : (h : ℕ) → 1 ≤ h → h ≤ dayHours → ofHour to h ≡ smaller (ofHour least h + ofHour free h) (ofHour last h)
-  pub balanced : balances ≡ true → (h : ℕ) → 1 ≤ h → h ≤ dayHours → ofHour from h ≤ ofHour to h
-  pub unbalanced : balances ≡ false → ((h : ℕ) → 1 ≤ h → h ≤ dayHours → ofHour from h ≤ ofHour to h) → ⊥
+  pub fromIs : (h : ℕ) → 1 ≤ h → h ≤ hourPlaces → ofHour from h ≡ larger (ofHour least h) (ofHour first h)
+  pub toIs : (h : ℕ) → 1 ≤ h → h ≤ hourPlaces → ofHour to h ≡ smaller (ofHour least h + ofHour free h) (ofHour last h)
+  pub balanced : balances ≡ true → (h : ℕ) → 1 ≤ h → h ≤ hourPlaces → ofHour from h ≤ ofHour to h
+  pub unbalanced : balances ≡ false → ((h : ℕ) → 1 ≤ h → h ≤ hourPlaces → ofHour from h ≤ ofHour to h) → ⊥
 
 -- A branch at these places reaches that with its blocks from number j on.
 pub record ReachedBy (first last blocks : List ℕ) (count j out loss limit : ℕ) (places : List ℕ) (balances : Bool) (from to : List ℕ) : Type 0 where

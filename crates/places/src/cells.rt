@@ -5,7 +5,7 @@ ghost use mathlib.Core.Path.{_≡_};
 ghost use Prim.Native.Nat.{ℕ, _≤_, _<_};
 ghost use lib.ListN.{length, getD};
 ghost use Rattle.rules.specs.Orders.{maxPrice};
-ghost use Rattle.places.specs.Layout.{dayHours, lastPlace, mostGaps, tableSize};
+ghost use Rattle.places.specs.Layout.{hourPlaces, lastPlace, mostGaps, tableSize};
 ghost use Rattle.places.specs.Hours.{Small, GapsOf, PricesOf, leastGaps};
 use crate::layout::HOURS;
 use crate::layout::ROW;
@@ -19,7 +19,7 @@ pub struct Gaps {
 }
 
 pub fn gaps_at(gap: &[u32], first: &[u32], last: &[u32], places: [u32; HOURS]) -> Gaps
-    requires { ⌜ (length (now gap) ≡ tableSize) × (length (now first) ≡ dayHours) × (length (now last) ≡ dayHours) × Small lastPlace (now last) ⌝ }
+    requires { ⌜ (length (now gap) ≡ tableSize) × (length (now first) ≡ hourPlaces) × (length (now last) ≡ hourPlaces) × Small lastPlace (now last) ⌝ }
     ensures { λ r. ⌜ GapsOf (now (gap .entry)) (now (first .entry)) (now (last .entry)) places (r .clears) (r .sum) ⌝ }
 {
     let mut sum: u64 = 0;
@@ -59,7 +59,7 @@ pub fn prices_at(unit_prices: &[u32], places: [u32; HOURS]) -> [u32; HOURS]
 
 // The sum of the hours' least gaps over the places from `from` to `to`.
 pub fn least_gaps(gap: &[u32], turn: &[u32], from: [u32; HOURS], to: [u32; HOURS]) -> u64
-    requires { ⌜ (length (now gap) ≡ tableSize) × (length (now turn) ≡ dayHours) × ((h : ℕ) → h < dayHours → getD to h 0 ≤ lastPlace) ⌝ }
+    requires { ⌜ (length (now gap) ≡ tableSize) × (length (now turn) ≡ hourPlaces) × ((h : ℕ) → h < hourPlaces → getD to h 0 ≤ lastPlace) ⌝ }
     ensures { λ r. ⌜ (r ≡ leastGaps (now (gap .entry)) (now (turn .entry)) from to) × (r ≤ mostGaps) ⌝ }
 {
     let mut sum: u64 = 0;

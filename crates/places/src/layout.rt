@@ -1,11 +1,13 @@
 // Where the search's tables and lists have what: their sizes, and the place at which each column begins. No code, no contract; the same numbers for the
 // contracts stand in specs/Layout.antt.
+use orders::layout::BLOCK_PLACES;
+use orders::layout::HOURS as DAY_HOURS;
 
 // The hours of a day: the rows of a table, and what a column of the hours holds.
-pub const HOURS: usize = 24;
+pub const HOURS: usize = DAY_HOURS;
 
 // The most blocks of a book: what a column of the blocks holds.
-pub const MOST_BLOCKS: usize = 32;
+pub const MOST_BLOCKS: usize = BLOCK_PLACES;
 
 // The most that a block trades in an hour.
 pub const MOST_QUANTITY: usize = 50;

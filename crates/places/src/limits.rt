@@ -2,7 +2,8 @@
 ghost use mathlib.Core.Path.{_≡_};
 ghost use Prim.Native.Nat.{_≤_};
 ghost use lib.ListN.{length};
-ghost use Rattle.places.specs.Layout.{mostBlocks, mostLimit, blockListSize};
+ghost use Rattle.book.specs.Bounds.{mostBlocks};
+ghost use Rattle.places.specs.Layout.{mostLimit, blockListSize};
 ghost use Rattle.places.specs.Hours.{DayPrices, sumOfHours};
 ghost use Rattle.places.specs.Blocks.{keepsAt, allKeep};
 use crate::layout::HOURS;

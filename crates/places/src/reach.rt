@@ -2,7 +2,8 @@
 ghost use mathlib.Core.Path.{_≡_};
 ghost use Prim.Native.Nat.{_*_, _≤_, _<_};
 ghost use lib.ListN.{length};
-ghost use Rattle.places.specs.Layout.{dayHours, mostBlocks, mostAdded, mostPlace, mostLoss, hourListSize};
+ghost use Rattle.book.specs.Bounds.{mostBlocks};
+ghost use Rattle.places.specs.Layout.{hourPlaces, mostAdded, mostPlace, mostLoss, hourListSize};
 ghost use Rattle.places.specs.Hours.{Small, clearsFirst, clearsLast};
 ghost use Rattle.places.specs.Blocks.{BlocksSized};
 ghost use Rattle.places.specs.Reach.{isOut, mustMove, mayMove, AddedTo, RestOf, ReachOf, ReachedBy};
@@ -113,7 +114,7 @@ pub struct Reach {
 }
 
 fn reach_of(first: &[u32], last: &[u32], least: [u32; HOURS], free: [u32; HOURS]) -> Reach
-    requires { ⌜ (length (now first) ≡ dayHours) × (length (now last) ≡ dayHours) × Small mostPlace least × Small mostPlace free ⌝ }
+    requires { ⌜ (length (now first) ≡ hourPlaces) × (length (now last) ≡ hourPlaces) × Small mostPlace least × Small mostPlace free ⌝ }
     ensures { λ r. ⌜ ReachOf (now (first .entry)) (now (last .entry)) least free (r .balances) (r .from) (r .to) ⌝ }
 {
     let mut balances = true;

@@ -4,7 +4,8 @@ ghost use Prim.Native.Nat.{_+_, _≤_};
 ghost use lib.ListN.{length};
 ghost use lib.Seq.{slice};
 ghost use Rattle.pricing.specs.Curves.{TradedAt};
-ghost use Rattle.places.specs.Layout.{dayHours, mostBlocks, mostPlace};
+ghost use Rattle.book.specs.Bounds.{mostBlocks};
+ghost use Rattle.places.specs.Layout.{hourPlaces, mostPlace};
 ghost use Rattle.places.specs.Hours.{Small};
 ghost use Rattle.places.specs.Blocks.{BlocksSized, SetTrades};
 ghost use Rattle.places.specs.Steps.{stepsAt, StepsSized, PartSized, HoursTraded};
@@ -71,7 +72,7 @@ pub fn hours_traded(
     trades: Trades,
     middles: [u32; HOURS],
 ) -> [u32; HOURS]
-    requires { ⌜ (length (now ends) ≡ dayHours + 1) × StepsSized (now ends) (now sides) (now prices) (now quantities) × Small mostPlace (trades .buys) ⌝ }
+    requires { ⌜ (length (now ends) ≡ hourPlaces + 1) × StepsSized (now ends) (now sides) (now prices) (now quantities) × Small mostPlace (trades .buys) ⌝ }
     ensures { λ r. ⌜ HoursTraded (stepsAt (now (ends .entry)) (now (sides .entry)) (now (prices .entry)) (now (quantities .entry))) (trades .sales)
         (trades .buys) middles r ⌝ }
 {

@@ -9,7 +9,7 @@ use lib.ListN.{length, getD}
 use Rattle.records.specs.Records.{number}
 use Rattle.rules.specs.Orders.{Block}
 use Rattle.rules.specs.Day.{taken, overBlocks, sells, buys}
-use Rattle.rules.proofs.TradeBounds.{AtMost, taken-within}
+use Rattle.rules.proofs.TradeBounds.{EachAtMost, taken-within}
 use Rattle.orders.specs.Columns.{blocksFrom, blockOf}
 use Rattle.pricing.specs.Curves.{tradersFrom}
 
@@ -43,7 +43,7 @@ few (s ∷ sides) [] quantities = omega arith
 few (s ∷ sides) (x ∷ hours) [] = omega arith
 few (s ∷ sides) (x ∷ hours) (q ∷ quantities) = omega (arith, few sides hours quantities)
 
-at-most : (most : ℕ) (sides hours quantities : List ℕ) → ((i : ℕ) → i < length sides → getD quantities i 0 ≤ most) → AtMost most (tradersFrom sides hours quantities)
+at-most : (most : ℕ) (sides hours quantities : List ℕ) → ((i : ℕ) → i < length sides → getD quantities i 0 ≤ most) → EachAtMost most (tradersFrom sides hours quantities)
 unfolding tradersFrom
 at-most most [] hours quantities small = tt
 at-most most (s ∷ sides) [] quantities small = tt

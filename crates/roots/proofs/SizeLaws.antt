@@ -12,7 +12,7 @@ use Rattle.records.specs.Records.{holdsHour, hoursSet}
 use Rattle.rules.specs.Orders.{Side, buy, sell, maxPrice}
 use Rattle.rules.specs.Hour.{bySide, when}
 use Rattle.rules.proofs.CurveLaws.{when-le}
-use Rattle.places.specs.Layout.{mostQuantity, mostLimit, dayHours}
+use Rattle.places.specs.Layout.{mostQuantity, mostLimit, hourPlaces}
 use Rattle.places.specs.Hours.{Small}
 
 -- a number for each side stays below what both do
@@ -38,13 +38,13 @@ hours-most (suc n) x = at (holdsHour x (suc n)) (hours-most n x)
     at true k = omega arith
     at false k = omega arith
 
-pub limit-fits : (price x : ℕ) → price ≤ maxPrice → price * hoursSet dayHours x ≤ mostLimit
-limit-fits price x a = omega (arith, mul-le-mul a (hours-most dayHours x))
+pub limit-fits : (price x : ℕ) → price ≤ maxPrice → price * hoursSet hourPlaces x ≤ mostLimit
+limit-fits price x a = omega (arith, mul-le-mul a (hours-most hourPlaces x))
 
 -- places moved on by a quantity in some hours
-pub moved-most : (x q : ℕ) (places more : List ℕ) → length more ≡ dayHours →
-    ((h : ℕ) → 1 ≤ h → h ≤ dayHours → getD more (h - 1) 0 ≡ getD places (h - 1) 0 + when (holdsHour x h) q) → (j : ℕ) → getD more j 0 ≤ getD places j 0 + q
-moved-most x q places more size moved j = elim (decLe dayHours j) [
+pub moved-most : (x q : ℕ) (places more : List ℕ) → length more ≡ hourPlaces →
+    ((h : ℕ) → 1 ≤ h → h ≤ hourPlaces → getD more (h - 1) 0 ≡ getD places (h - 1) 0 + when (holdsHour x h) q) → (j : ℕ) → getD more j 0 ≤ getD places j 0 + q
+moved-most x q places more size moved j = elim (decLe hourPlaces j) [
   | yes k ↦ let z : length more ≤ j = omega arith in rw (lib.ListN.List·getD-eq-default more 0 z) (omega arith)
   | no k ↦
       let one : suc j - 1 ≡ j = omega arith in

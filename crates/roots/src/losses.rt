@@ -3,7 +3,8 @@ ghost use Prim.Native.Nat.{ℕ, _+_, _-_, _*_, _≤_};
 ghost use mathlib.Core.Path.{_≡_};
 ghost use lib.ListN.{length, getD};
 ghost use Rattle.rules.specs.Orders.{maxPrice};
-ghost use Rattle.places.specs.Layout.{dayHours, mostBlocks, mostQuantity, mostLimit, lastPlace, rowSize, tableSize};
+ghost use Rattle.book.specs.Bounds.{mostBlocks};
+ghost use Rattle.places.specs.Layout.{hourPlaces, mostQuantity, mostLimit, lastPlace, rowSize, tableSize};
 ghost use Rattle.places.specs.Hours.{Small, FirstSmall};
 use places::layout::HOURS;
 use places::layout::MOST_BLOCKS;
@@ -51,7 +52,7 @@ fn gap_down(unit_prices: &[u32], row: usize, from: usize, price: u32) -> u64
 // What the hours at the places off lose at the prices.
 fn gaps_from(unit_prices: &[u32], off: [u32; HOURS], prices: [u32; HOURS]) -> u64
     requires { ⌜ (length (now «unit_prices») ≡ tableSize) × Small maxPrice (now «unit_prices») × Small lastPlace off × Small maxPrice prices ⌝ }
-    ensures { λ r. ⌜ r ≤ 2 * dayHours * (rowSize * maxPrice) ⌝ }
+    ensures { λ r. ⌜ r ≤ 2 * hourPlaces * (rowSize * maxPrice) ⌝ }
 {
     let mut sum: u64 = 0;
     let mut h: usize = 0;

@@ -9,7 +9,7 @@ use native.Mathlib.Nat.{le-trans, mul-le-mul-left, mul-le-mul-right}
 use lib.Dec.{eqb}
 use lib.ListN.{length}
 use Rattle.rules.specs.Orders.{Side, buy, sell, Step, Block, maxPrice}
-use Rattle.rules.specs.Hour.{bySide, when, Pricing, cleared, doesNotClear, pricing, priceIn}
+use Rattle.rules.specs.Hour.{bySide, when, Pricing, cleared, doesNotClear, pricing, answeredPrice}
 use Rattle.rules.specs.Execution.{bought}
 use Rattle.rules.specs.Day.{
   Day,
@@ -177,7 +177,7 @@ pub price-small : (day : Day) → PricesInRange (day .steps) → (set : List Blo
 unfolding setPrices
 price-small day prices set h = at (pricing (hourOf day set h)) (pricing-is (hourOf day set h) (prices-in h (day .steps) prices))
   where
-    at : (a : Pricing) → Priced (hourOf day set h) a → priceIn a ≤ maxPrice
+    at : (a : Pricing) → Priced (hourOf day set h) a → answeredPrice a ≤ maxPrice
     at (cleared l u p) c = omega (arith, c .isMiddle, c .ordered, c .inRange)
     at doesNotClear c = omega arith
 

@@ -23,7 +23,7 @@ use Rattle.rules.specs.Hour.{
   doesNotClear,
   pricing,
   isCleared,
-  priceIn,
+  answeredPrice,
 }
 use Rattle.rules.specs.Execution.{buyAmount, sellAmount, shares, execution, bought, sold}
 use Rattle.rules.specs.Day.{
@@ -145,7 +145,7 @@ unfoldable pub testedClears : Day → List Block → ℕ → Bool
 testedClears day set h = isCleared (tested (hourOf day set h))
 
 unfoldable pub testedPrices : Day → List Block → ℕ → ℕ
-testedPrices day set h = priceIn (tested (hourOf day set h))
+testedPrices day set h = answeredPrice (tested (hourOf day set h))
 
 pub clears-tested : (day : Day) (set : List Block) → hourClears day set ≡ testedClears day set
 unfolding hourClears testedClears
@@ -153,7 +153,7 @@ clears-tested day set = fun-ext (λ h. ap isCleared (tested-is (hourOf day set h
 
 pub price-tested : (day : Day) (set : List Block) (h : ℕ) → setPrices day set h ≡ testedPrices day set h
 unfolding setPrices testedPrices
-price-tested day set h = ap priceIn (tested-is (hourOf day set h))
+price-tested day set h = ap answeredPrice (tested-is (hourOf day set h))
 
 pub prices-tested : (day : Day) (set : List Block) → setPrices day set ≡ testedPrices day set
 prices-tested day set = fun-ext (price-tested day set)

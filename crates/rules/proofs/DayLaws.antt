@@ -10,7 +10,7 @@ use lib.Dec.{leb}
 use lib.ListN.{length, replicate}
 use borrow.Author.Tests.{leb-true}
 use Rattle.rules.specs.Orders.{Side, buy, sell, Step, Block}
-use Rattle.rules.specs.Hour.{bySide, when, allBuys, allSells, Hour, Pricing, cleared, doesNotClear, pricing, isCleared, priceIn}
+use Rattle.rules.specs.Hour.{bySide, when, allBuys, allSells, Hour, Pricing, cleared, doesNotClear, pricing, isCleared, answeredPrice}
 use Rattle.rules.specs.Execution.{testSide, execution, bought, sold}
 use Rattle.rules.specs.Day.{
   Day,
@@ -189,7 +189,7 @@ module _ (day : Day) (prices : PricesInRange (day .steps)) (hours : HoursInRange
     unfolding hourClears setPrices
     setPrices-clear h = go (pricing (hourOf day set h)) (pricing-is (hourOf day set h) (prices-in h (day .steps) prices))
       where
-        go : (a : Pricing) → Priced (hourOf day set h) a → isCleared a ≡ true → Clears (hourOf day set h) (priceIn a)
+        go : (a : Pricing) → Priced (hourOf day set h) a → isCleared a ≡ true → Clears (hourOf day set h) (answeredPrice a)
         go (cleared l u p) s e = middle-clears (hourOf day set h) l u p s
         go doesNotClear s e = absurd (false≢true e)
 

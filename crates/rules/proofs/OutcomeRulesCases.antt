@@ -10,7 +10,7 @@ use native.Mathlib.Omega.{arith}
 use lib.Dec.{leb}
 use borrow.Author.Tests.{lt-ltb}
 use Rattle.rules.specs.Orders.{buy, sell, maxPrice, canonical}
-use Rattle.rules.specs.Hour.{Hour, clears, least, doesNotClear, pricing, isCleared, priceIn}
+use Rattle.rules.specs.Hour.{Hour, clears, least, doesNotClear, pricing, isCleared, answeredPrice}
 use Rattle.rules.specs.Day.{dayOf, everyHour, taken, hourOf}
 use Rattle.rules.specs.Contender.{Counts}
 use Rattle.rules.specs.Cases.{
@@ -134,9 +134,9 @@ all-clear : (c : Case) → everyHour (c .day .hours) (λ h. isCleared (tested (h
     (h : ℕ) → Counts (c .day .hours) h → isCleared (pricing (hourIn c h)) ≡ true
 all-clear c e h k = rw tested-is (everyHour-at (c .day .hours) (λ h. isCleared (tested (hourIn c h))) e h k)
 
-all-middle : (c : Case) → HourByHour 24 (λ h. c .price h ≡ priceIn (tested (hourIn c h))) →
-    (h : ℕ) → Counts (c .day .hours) h → c .price h ≡ priceIn (pricing (hourIn c h))
-all-middle c e h k = rw tested-is (each-hour (λ h. c .price h ≡ priceIn (tested (hourIn c h))) e h k)
+all-middle : (c : Case) → HourByHour 24 (λ h. c .price h ≡ answeredPrice (tested (hourIn c h))) →
+    (h : ℕ) → Counts (c .day .hours) h → c .price h ≡ answeredPrice (pricing (hourIn c h))
+all-middle c e h k = rw tested-is (each-hour (λ h. c .price h ≡ answeredPrice (tested (hourIn c h))) e h k)
 
 -- a buy is no sell
 buy-no-sell : buy ≡ sell → 1 ≤ 0
@@ -283,7 +283,7 @@ nobody-sells-row =
 pub sold-at-nothing-row : Marked (broken ∷ keeping 11 []) (rules soldAtNothing)
 unfolding computed nothingHour
 sold-at-nothing-row =
-    row sold-at-nothing (all-middle soldAtNothing (omega (arith, ap priceIn no-price)))
+    row sold-at-nothing (all-middle soldAtNothing (omega (arith, ap answeredPrice no-price)))
     (omega sides) (omega sides) (omega sides) (omega sides) (omega sides) (omega sides) (omega sides) (omega sides)
     (each-hour _ (omega arith)) (each-hour _ (omega arith))
 

@@ -11,7 +11,7 @@ use native.Mathlib.Decide.{decLe}
 use lib.Dec.{leb}
 use borrow.Author.Tests.{leb-true, leb-false}
 use Rattle.rules.specs.Orders.{Step, maxPrice}
-use Rattle.rules.specs.Hour.{Hour, buysAbove, sellsTo, least, Pricing, cleared, doesNotClear, middle, pricing, priceIn}
+use Rattle.rules.specs.Hour.{Hour, buysAbove, sellsTo, least, Pricing, cleared, doesNotClear, middle, pricing, answeredPrice}
 use Rattle.rules.specs.Contender.{PricesInRange}
 use Rattle.rules.proofs.CurveLaws.{buysAbove-max, sellsTo-max}
 use Rattle.rules.proofs.PricingLaws.{
@@ -47,7 +47,7 @@ unfoldable pub highOf : Hour → ℕ
 highOf h = highIn (pricing h)
 
 unfoldable pub priceOf : Hour → ℕ
-priceOf h = priceIn (pricing h)
+priceOf h = answeredPrice (pricing h)
 
 pub answered : (h : Hour) → PricesInRange (h .steps) → Clearable h → Cleared h (lowOf h) (highOf h) (priceOf h)
 unfolding lowOf highOf priceOf

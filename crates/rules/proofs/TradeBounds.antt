@@ -19,8 +19,8 @@ take-one f b l true set = refl
 take-one f b l false set = omega arith
 
 -- Each block trades at most so much in an hour.
-abbrev pub AtMost : ℕ → List Block → Type 0
-AtMost most = EachBlock (λ b. b .quantity ≤ most)
+abbrev pub EachAtMost : ℕ → List Block → Type 0
+EachAtMost most = EachBlock (λ b. b .quantity ≤ most)
 
 module _ (most h : ℕ) where
   -- a block trades on one side only
@@ -31,12 +31,12 @@ module _ (most h : ℕ) where
       at buy t = omega (arith, when-le t 0, when-le t (b .quantity), k)
       at sell t = omega (arith, when-le t 0, when-le t (b .quantity), k)
 
-  pub trades-within : (l : List Block) → AtMost most l → overBlocks (sells h) l + overBlocks (buys h) l ≤ length l * most
+  pub trades-within : (l : List Block) → EachAtMost most l → overBlocks (sells h) l + overBlocks (buys h) l ≤ length l * most
   trades-within [] e = omega arith
   trades-within (b ∷ l) e = rw (suc-mul (length l) most) (omega (arith, trade-within b (e .0), trades-within l (e .1)))
 
   -- the blocks of a set trade no more
-  pub taken-within : (l : List Block) (set : List Bool) → AtMost most l →
+  pub taken-within : (l : List Block) (set : List Bool) → EachAtMost most l →
       overBlocks (sells h) (taken l set) + overBlocks (buys h) (taken l set) ≤ length l * most
   taken-within [] set e = omega arith
   taken-within (b ∷ l) [] e = omega arith

@@ -5,7 +5,7 @@ use mathlib.Core.Path.{_≡_, refl, _∙_, fun-ext}
 use mathlib.Core.List.{List, [], _∷_}
 use Rattle.rules.specs.Orders.{Block, Orders, executedOf}
 use Rattle.rules.specs.Day.{Day, dayOf, taken, hourOf, keepsLimits, lawful, executed, welfare, traded}
-use Rattle.rules.specs.Outcome.{allSets, bestOf, outcome, forHours, Published, published}
+use Rattle.rules.specs.Outcome.{allSets, bestOf, outcome, forHours, PublishedOutcome, published}
 use Rattle.rules.specs.WorkedDays.{PriceFact, WorkedDay, workedDays, furtherDays, Answered, Hold}
 use Rattle.rules.proofs.CertifiedHours.{tested, tested-is, clears-tested, price-tested, prices-tested, computed}
 
@@ -43,7 +43,7 @@ outcome-as day asked e = best-as day _ asked e
 
 -- what is published, once the outcome is known
 published-as : (orders : Orders) (chosen : List Bool) → outcome (dayOf orders) ≡ chosen →
-    (asked : Published) → asked ≡ published orders → ValueOf asked
+    (asked : PublishedOutcome) → asked ≡ published orders → ValueOf asked
 unfolding published
 published-as orders chosen best asked e =
     let day = dayOf orders in

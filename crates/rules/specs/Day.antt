@@ -6,7 +6,7 @@ use mathlib.Core.List.{List, [], _∷_}
 use lib.Dec.{leb, eqb}
 use lib.ListN.{drop, getD}
 use Rattle.rules.specs.Orders.{Step, Block, Orders, stepsOf, canonical}
-use Rattle.rules.specs.Hour.{Hour, bySide, when, pricing, isCleared, priceIn}
+use Rattle.rules.specs.Hour.{Hour, bySide, when, pricing, isCleared, answeredPrice}
 use Rattle.rules.specs.Execution.{testSide, execution, total₂, bought}
 
 -- A day: how many hours it has, its steps and its blocks, each in rising order number.
@@ -93,7 +93,7 @@ hourClears day set h = isCleared (pricing (hourOf day set h))
 
 -- The price of each hour under a set. Today it is the hour's middle price.
 unfoldable pub setPrices : Day → List Block → ℕ → ℕ
-setPrices day set h = priceIn (pricing (hourOf day set h))
+setPrices day set h = answeredPrice (pricing (hourOf day set h))
 
 -- How many hours a block runs in, and the sum of prices over them.
 unfoldable pub hourCount : ℕ → Block → ℕ

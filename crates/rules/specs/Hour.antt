@@ -109,6 +109,6 @@ abbrev pub isCleared : Pricing → Bool
 isCleared (cleared low high price) = true
 isCleared doesNotClear = false
 
-abbrev pub priceIn : Pricing → ℕ
-priceIn (cleared low high price) = price
-priceIn doesNotClear = 0
+abbrev pub answeredPrice : Pricing → ℕ
+answeredPrice (cleared low high price) = price
+answeredPrice doesNotClear = 0

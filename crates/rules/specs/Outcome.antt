@@ -32,14 +32,14 @@ forHours zero f = []
 forHours (suc n) f = forHours n f ++ (f (suc n) ∷ [])
 
 -- What is published of a book's orders.
-pub record Published : Type 0 where
+pub record PublishedOutcome : Type 0 where
   pub welfare : ℕ
   pub prices : List ℕ
   pub traded : List ℕ
   pub chosen : List Bool
   pub executed : List ℕ
 
-unfoldable pub published : Orders → Published
+unfoldable pub published : Orders → PublishedOutcome
 published orders =
     let day = dayOf orders in
     let set = taken (day .blocks) (outcome day) in

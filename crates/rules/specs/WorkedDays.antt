@@ -9,7 +9,7 @@ use lib.ListN.{replicate}
 use Rattle.rules.specs.Orders.{Side, buy, sell, Order, Block, Orders}
 use Rattle.rules.specs.Hour.{Pricing, cleared, doesNotClear, pricing}
 use Rattle.rules.specs.Day.{dayOf, taken, hourOf}
-use Rattle.rules.specs.Outcome.{Published, published}
+use Rattle.rules.specs.Outcome.{PublishedOutcome, published}
 
 -- An order of the step chain: number, side, hour, quantity, price.
 abbrev pub step : ℕ → Side → ℕ → ℕ → ℕ → Order
@@ -57,7 +57,7 @@ pub record PriceFact : Type 0 where
 -- A worked day.
 pub record WorkedDay : Type 0 where
   pub orders : Orders
-  pub publishes : Published
+  pub publishes : PublishedOutcome
   pub prices : List PriceFact
 
 -- A day of the base book: its blocks, and what is published: both prices and traded quantities, taken blocks, executed rows, welfare; price facts.

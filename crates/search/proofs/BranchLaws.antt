@@ -22,7 +22,8 @@ use Rattle.rules.proofs.TwinLaws.{InTurn, turn-left, turn-taken}
 use Rattle.rules.proofs.SetBits.{bits-at, bits-taken, bits-left, bits-room}
 use Rattle.rules.proofs.PlaceLaws.{place-taken, place-left}
 use Rattle.rules.proofs.LossSearchLaws as by-loss
-use Rattle.places.specs.Layout.{dayHours, mostBlocks, mostAdded}
+use Rattle.book.specs.Bounds.{mostBlocks}
+use Rattle.places.specs.Layout.{hourPlaces, mostAdded}
 use Rattle.places.specs.Hours.{Small, ofHour}
 use Rattle.places.specs.Blocks.{sideAt, againstAt, gainAt, aheadAt, behindAt, rowQuantity, BlocksSized}
 use Rattle.places.specs.Reach.{isOut}
@@ -54,9 +55,9 @@ use Rattle.search.specs.declared.Node.{Node}
 -- ONE MORE BLOCK, in the code's numbers
 -- the node with the block taken, and with it left out
 module _ (blocks : List ℕ) (at : ℕ) (node : Node) (moved : List ℕ) (sized : BlocksSized blocks)
-    (fits : Fits at node) (size : length moved ≡ dayHours) where
+    (fits : Fits at node) (size : length moved ≡ hourPlaces) where
   abbrev MovedBy : Bool → Type 0
-  MovedBy t = (h : ℕ) → 1 ≤ h → h ≤ dayHours → ofHour moved h ≡ ofHour (node .places) h + when t (rowQuantity blocks at h)
+  MovedBy t = (h : ℕ) → 1 ≤ h → h ≤ hourPlaces → ofHour moved h ≡ ofHour (node .places) h + when t (rowQuantity blocks at h)
 
   moved-fits : (t : Bool) → MovedBy t → Small ((at + 1) * mostAdded) moved
   moved-fits t m =

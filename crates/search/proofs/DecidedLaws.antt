@@ -36,7 +36,7 @@ use Rattle.rules.proofs.PlaceLaws.{
 }
 use Rattle.rules.proofs.LawCutLaws.{taken-passes}
 use Rattle.rules.proofs.LossSearchLaws as by-loss
-use Rattle.places.specs.Layout.{dayHours}
+use Rattle.places.specs.Layout.{hourPlaces}
 use Rattle.places.specs.Hours.{sumOfHours, cell, ofHour, PlacesClear, GapsOf, PricesOf}
 use Rattle.places.specs.Blocks.{hoursAt, keepsAt, allKeep, SetTrades}
 use Rattle.places.specs.Steps.{HoursTraded}
@@ -112,7 +112,7 @@ module _ {day : Day} {p rest : ℕ → ℕ} {tables : Tables} (known : Known day
         known .clears h (place (day .blocks) d h) c (rw e at (r .0)) (rw e at (r .1))
 
     -- the loss by the gap table
-    pub loss-is : (sum : ℕ) → sum ≡ sumTo dayHours (λ h. cell (tables .gaps) h (ofHour (node .places) h)) →
+    pub loss-is : (sum : ℕ) → sum ≡ sumTo hourPlaces (λ h. cell (tables .gaps) h (ofHour (node .places) h)) →
         lossOf day p d ≡ node .loss + sum + daySum (day .hours) rest
     unfolding lossOf gapsAt
     loss-is sum e =

@@ -8,7 +8,7 @@ use native.Mathlib.Nat.{div-one}
 use lib.Dec.{eqb, leb}
 use borrow.Author.Tests.{eq-eqb, ne-eqb}
 use lib.Pow.{shr-shr, pow-mono}
-use Rattle.places.specs.Layout.{mostBlocks}
+use Rattle.book.specs.Bounds.{mostBlocks}
 use Rattle.places.specs.Blocks.{sideAt, hoursAt, limitAt, againstAt, gainAt, aheadAt, behindAt, keepsAt}
 use Rattle.places.specs.Reach.{isOut}
 use Rattle.search.specs.Decisions.{isBarred, isDue, isForced, isRuledOut}

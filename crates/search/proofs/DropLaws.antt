@@ -23,7 +23,7 @@ use Rattle.rules.proofs.SetBits.{bits-at}
 use Rattle.rules.proofs.PlaceLaws.{place, place-none, place-split, pricesAt}
 use Rattle.rules.proofs.TwinLaws.{block-at}
 use Rattle.rules.proofs.LawCutLaws.{couldKeep, taken-could}
-use Rattle.places.specs.Layout.{dayHours}
+use Rattle.places.specs.Layout.{hourPlaces}
 use Rattle.places.specs.Hours.{Small, sumOfHours, cell, ofHour, PricesOf, nearest, leastGaps}
 use Rattle.places.specs.Blocks.{sideAt, hoursAt, limitAt, rowQuantity, keepsAt, allKeep, addedIn}
 use Rattle.places.specs.Reach.{isOut, mustFrom, mayFrom, RestOf, ReachOf}

@@ -18,7 +18,8 @@ use Rattle.rules.proofs.LossLaws.{gaps, wholeOf, lossOf, losses-none, losses-em
 use Rattle.rules.proofs.TwinLaws.{InTurn, outcome-in-turn}
 use Rattle.rules.proofs.PlaceLaws.{place, place-none}
 use Rattle.rules.proofs.LossSearchLaws as by-loss
-use Rattle.places.specs.Layout.{dayHours, mostBlocks, lastLimit, rowSize, gainColumn}
+use Rattle.book.specs.Bounds.{mostBlocks}
+use Rattle.places.specs.Layout.{hourPlaces, lastLimit, rowSize, gainColumn}
 use Rattle.places.specs.Hours.{cell}
 use Rattle.places.specs.Reach.{isOut}
 use Rattle.search.specs.Meaning.{Fits, Known, Turning, Branch, lossAbove, bestAs, DayOf, Outcome, StepsAre, ExploredFrom}
@@ -31,17 +32,17 @@ use Rattle.search.specs.declared.Node.{Node}
 
 -- THE ROOT: nothing is decided
 abbrev pub root : Node
-root = record { set = 0; loss = 0; places = replicate dayHours 0 }
+root = record { set = 0; loss = 0; places = replicate hourPlaces 0 }
 
 pub root-fits : (n : ℕ) → Fits n root
-root-fits n = record { setFits = pow-pos n; lossFits = omega arith; placesSize = refl; placesFit = λ i. omega (arith, zeros dayHours i) }
+root-fits n = record { setFits = pow-pos n; lossFits = omega arith; placesSize = refl; placesFit = λ i. omega (arith, zeros hourPlaces i) }
 
 root-branch : (day : Day) (p : ℕ → ℕ) → Branch day p [] root
 unfolding decisions
 root-branch day p = record {
   setIs = refl;
   lossIs = sym (losses-none (day .hours) p (day .blocks));
-  placesAre = λ h c. zeros dayHours (h - 1) ∙ sym (place-none (day .blocks) h);
+  placesAre = λ h c. zeros hourPlaces (h - 1) ∙ sym (place-none (day .blocks) h);
 }
 
 -- and none is out
@@ -82,7 +83,7 @@ module _ {tables : Tables} (few : tables .count ≤ mostBlocks) (small : (i : �
         daySum-in (day .hours) g (λ h. at h + rest h) (λ h c. gap-of-lawful known none size law h c),
         daySum-add (day .hours) at rest,
         daySum-plain (day .hours) at,
-        sum-fits dayHours (2 ^ 32) at (λ h. omega (arith, smallGap ((h - 1) * rowSize + place (day .blocks) none h))),
+        sum-fits hourPlaces (2 ^ 32) at (λ h. omega (arith, smallGap ((h - 1) * rowSize + place (day .blocks) none h))),
       )
 
   adds : by-loss.Adds day (lossAbove day p rest) (wholeOf day p - daySum (day .hours) rest)

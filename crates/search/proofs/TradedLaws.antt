@@ -10,7 +10,7 @@ use lib.ListN.{length, drop, getD}
 use borrow.Author.Tests.{ne-eqb}
 use Rattle.orders.specs.Columns.{sideFor}
 use Rattle.rules.specs.Orders.{Step, Block}
-use Rattle.rules.specs.Hour.{bySide, when, Pricing, cleared, doesNotClear, pricing, priceIn}
+use Rattle.rules.specs.Hour.{bySide, when, Pricing, cleared, doesNotClear, pricing, answeredPrice}
 use Rattle.rules.specs.Day.{Day, taken, decisions, overBlocks, sells, buys, hourOf, setPrices, lawful, traded}
 use Rattle.rules.specs.Contender.{Counts, PricesInRange, HoursInRange}
 use Rattle.rules.proofs.CurveLaws.{when-zero}
@@ -92,7 +92,7 @@ price-positive day prices hours chosen law h c =
     go (pricing hour) (pricing-is hour (prices-in h (day .steps) prices))
     (clearable hour (setPrices day (taken (day .blocks) chosen) h) (all-clear day prices hours chosen law h c))
   where
-    go : (p : Pricing) → Priced (hourOf day (taken (day .blocks) chosen) h) p → Clearable (hourOf day (taken (day .blocks) chosen) h) → 1 ≤ priceIn p
+    go : (p : Pricing) → Priced (hourOf day (taken (day .blocks) chosen) h) p → Clearable (hourOf day (taken (day .blocks) chosen) h) → 1 ≤ answeredPrice p
     go (cleared l u p) s k = omega (arith, s .isMiddle, s .positive, s .ordered)
     go doesNotClear s k = absurd (s k)
 

@@ -6,7 +6,8 @@ use lib.Dec.{eqb}
 use mathlib.Core.List.{List, _∷_, _++_}
 use mathlib.Core.Path.{_≡_}
 use lib.ListN.{length, drop, getD}
-use Rattle.places.specs.Layout.{blockListSize, dayHours, lastPlace, mostAdded, mostBlocks, tableSize}
+use Rattle.book.specs.Bounds.{mostBlocks}
+use Rattle.places.specs.Layout.{blockListSize, hourPlaces, lastPlace, mostAdded, tableSize}
 use Rattle.records.specs.Records.{holdsHour}
 use Rattle.orders.specs.Columns.{sideFor}
 use Rattle.rules.specs.Orders.{Step, Block, maxPrice}
@@ -34,8 +35,8 @@ use Rattle.rules.specs.Hour.{when}
 pub record Sized (t : Tables) : Type 0 where
   pub priceRows : length (t .unitPrices) ≡ tableSize
   pub gapRows : length (t .gaps) ≡ tableSize
-  pub firstHours : length (t .first) ≡ dayHours
-  pub lastHours : length (t .last) ≡ dayHours
+  pub firstHours : length (t .first) ≡ hourPlaces
+  pub lastHours : length (t .last) ≡ hourPlaces
   pub lastFits : Small lastPlace (t .last)
   pub pricesFit : Small maxPrice (t .unitPrices)
   pub blocksFit : BlocksSized (t .blocks)
@@ -45,7 +46,7 @@ pub record Sized (t : Tables) : Type 0 where
 pub record Fits (decided : ℕ) (node : Node) : Type 0 where
   pub setFits : node .set < 2 ^ decided
   pub lossFits : node .loss ≤ decided * 2 ^ 32
-  pub placesSize : length (node .places) ≡ dayHours
+  pub placesSize : length (node .places) ≡ hourPlaces
   pub placesFit : Small (decided * mostAdded) (node .places)
 
 -- THE DAY behind the tables, at hourly prices p; `rest` is what the tables leave off each hour's gaps
@@ -86,9 +87,9 @@ pub record Known (day : Day) (p rest : ℕ → ℕ) (t : Tables) : Type 0 where
 
 -- Each hour's gaps fall to the place where they turn, and rise from it.
 pub record Turning (t : Tables) : Type 0 where
-  pub falls : (h i j : ℕ) → 1 ≤ h → h ≤ dayHours → ofHour (t .first) h ≤ i → i ≤ j → j ≤ ofHour (t .last) h → j ≤ ofHour (t .turn) h →
+  pub falls : (h i j : ℕ) → 1 ≤ h → h ≤ hourPlaces → ofHour (t .first) h ≤ i → i ≤ j → j ≤ ofHour (t .last) h → j ≤ ofHour (t .turn) h →
       cell (t .gaps) h j ≤ cell (t .gaps) h i
-  pub rises : (h i j : ℕ) → 1 ≤ h → h ≤ dayHours → ofHour (t .first) h ≤ i → i ≤ j → j ≤ ofHour (t .last) h → ofHour (t .turn) h ≤ i →
+  pub rises : (h i j : ℕ) → 1 ≤ h → h ≤ hourPlaces → ofHour (t .first) h ≤ i → i ≤ j → j ≤ ofHour (t .last) h → ofHour (t .turn) h ≤ i →
       cell (t .gaps) h i ≤ cell (t .gaps) h j
 
 -- THE BRANCH of the decided blocks d
@@ -118,7 +119,7 @@ pub record Outcome (day : Day) (p rest : ℕ → ℕ) (count left : ℕ) (d : Li
 
 -- the steps of each hour are the day's
 abbrev pub StepsAre : Day → (ℕ → List Step) → Type 0
-StepsAre day steps = (h : ℕ) → 1 ≤ h → h ≤ dayHours → steps h ≡ stepsIn h (day .steps)
+StepsAre day steps = (h : ℕ) → 1 ≤ h → h ≤ hourPlaces → steps h ≡ stepsIn h (day .steps)
 
 abbrev pub Decided : (t : Tables) (steps : ℕ → List Step) (node : Node) (best r : Best) → Type 0
 Decided t steps node best r =
@@ -159,13 +160,13 @@ pub record JudgedFrom (t : Tables) (left out : ℕ) (node : Node) (limit : ℕ) 
 pub record TakenTo (blocks : List ℕ) (at : ℕ) (node r : Node) : Type 0 where
   pub setIs : r .set ≡ node .set + 2 ^ at
   pub lossIs : r .loss ≡ node .loss + againstAt blocks at
-  pub placesAre : (h : ℕ) → 1 ≤ h → h ≤ dayHours →
+  pub placesAre : (h : ℕ) → 1 ≤ h → h ≤ hourPlaces →
       ofHour (r .places) h ≡ ofHour (node .places) h + when (not (eqb (sideAt blocks at) 0)) (rowQuantity blocks at h)
 
 pub record LeftTo (blocks : List ℕ) (at : ℕ) (node r : Node) : Type 0 where
   pub setIs : r .set ≡ node .set
   pub lossIs : r .loss ≡ node .loss + gainAt blocks at
-  pub placesAre : (h : ℕ) → 1 ≤ h → h ≤ dayHours →
+  pub placesAre : (h : ℕ) → 1 ≤ h → h ≤ hourPlaces →
       ofHour (r .places) h ≡ ofHour (node .places) h + when (eqb (sideAt blocks at) 0) (rowQuantity blocks at h)
 
 -- THE PUBLISHED SET, with its day

@@ -2,7 +2,7 @@
 ghost use mathlib.Core.Path.{_≡_};
 ghost use Prim.Native.Nat.{_+_, _≤_};
 ghost use lib.ListN.{length};
-ghost use Rattle.places.specs.Layout.{dayHours, mostLoss, hourListSize};
+ghost use Rattle.places.specs.Layout.{hourPlaces, mostLoss, hourListSize};
 ghost use Rattle.places.specs.Steps.{stepsAt, StepsSized};
 ghost use Rattle.search.specs.Meaning.{Sized, Decided};
 ghost use Rattle.search.specs.Tables.{tablesOf};
@@ -33,7 +33,7 @@ pub fn decide(
     best: Best,
 ) -> Best
     requires { ⌜ Sized (tablesOf (now «unit_prices») (now gap) (now hours) (now blocks) count) × (length (now hours) ≡ hourListSize)
-        × (length (now ends) ≡ dayHours + 1) × StepsSized (now ends) (now sides) (now prices) (now quantities) × (node .loss ≤ mostLoss) ⌝ }
+        × (length (now ends) ≡ hourPlaces + 1) × StepsSized (now ends) (now sides) (now prices) (now quantities) × (node .loss ≤ mostLoss) ⌝ }
     ensures { λ r. ⌜ Decided (tablesOf (now («unit_prices» .entry)) (now (gap .entry)) (now (hours .entry)) (now (blocks .entry)) count)
         (stepsAt (now (ends .entry)) (now (sides .entry)) (now (prices .entry)) (now (quantities .entry))) node best r ⌝ }
 {

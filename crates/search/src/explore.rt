@@ -2,7 +2,8 @@
 ghost use mathlib.Core.Path.{_≡_};
 ghost use Prim.Native.Nat.{_+_, _-_, _^_, _≤_, _<_};
 ghost use lib.ListN.{length};
-ghost use Rattle.places.specs.Layout.{dayHours, mostBlocks, hourListSize};
+ghost use Rattle.book.specs.Bounds.{mostBlocks};
+ghost use Rattle.places.specs.Layout.{hourPlaces, hourListSize};
 ghost use Rattle.places.specs.Blocks.{BlocksSized};
 ghost use Rattle.places.specs.Steps.{stepsAt, StepsSized};
 ghost use Rattle.search.specs.Decisions.{isBarred, isDue};
@@ -99,7 +100,7 @@ pub fn explore(
     best: Best,
 ) -> Best
     requires { ⌜ Sized (tablesOf (now «unit_prices») (now gap) (now hours) (now blocks) count) × (length (now hours) ≡ hourListSize)
-        × (length (now ends) ≡ dayHours + 1) × StepsSized (now ends) (now sides) (now prices) (now quantities) × (left ≤ count) × Fits (count - left) node ⌝ }
+        × (length (now ends) ≡ hourPlaces + 1) × StepsSized (now ends) (now sides) (now prices) (now quantities) × (left ≤ count) × Fits (count - left) node ⌝ }
     ensures { λ r. ⌜ ExploredFrom (tablesOf (now («unit_prices» .entry)) (now (gap .entry)) (now (hours .entry)) (now (blocks .entry)) count)
         (stepsAt (now (ends .entry)) (now (sides .entry)) (now (prices .entry)) (now (quantities .entry))) left out node best r ⌝ }
 {

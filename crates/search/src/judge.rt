@@ -2,7 +2,8 @@
 ghost use mathlib.Core.Path.{_≡_};
 ghost use Prim.Native.Nat.{ℕ, _+_, _-_, _≤_, _<_};
 ghost use lib.ListN.{length};
-ghost use Rattle.places.specs.Layout.{mostBlocks, mostLoss, hourListSize, blockListSize};
+ghost use Rattle.book.specs.Bounds.{mostBlocks};
+ghost use Rattle.places.specs.Layout.{mostLoss, hourListSize, blockListSize};
 ghost use Rattle.places.specs.Hours.{DayPrices};
 ghost use Rattle.places.specs.Blocks.{BlocksSized};
 ghost use Rattle.places.specs.Reach.{isOut};

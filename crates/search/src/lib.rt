@@ -3,7 +3,7 @@
 ghost use mathlib.Core.Path.{_≡_};
 ghost use Prim.Native.Nat.{_+_};
 ghost use lib.ListN.{length};
-ghost use Rattle.places.specs.Layout.{dayHours, hourListSize};
+ghost use Rattle.places.specs.Layout.{hourPlaces, hourListSize};
 ghost use Rattle.places.specs.Steps.{stepsAt, StepsSized};
 ghost use Rattle.search.specs.Meaning.{Sized, FoundIn};
 ghost use Rattle.search.specs.Tables.{tablesOf};
@@ -53,7 +53,7 @@ pub fn find(
     count: u32,
 ) -> Best
     requires { ⌜ Sized (tablesOf (now «unit_prices») (now gap) (now hours) (now blocks) count) × (length (now hours) ≡ hourListSize)
-        × (length (now ends) ≡ dayHours + 1) × StepsSized (now ends) (now sides) (now prices) (now quantities) ⌝ }
+        × (length (now ends) ≡ hourPlaces + 1) × StepsSized (now ends) (now sides) (now prices) (now quantities) ⌝ }
     ensures { λ r. ⌜ FoundIn (tablesOf (now («unit_prices» .entry)) (now (gap .entry)) (now (hours .entry)) (now (blocks .entry)) count)
         (stepsAt (now (ends .entry)) (now (sides .entry)) (now (prices .entry)) (now (quantities .entry))) r ⌝ }
 {

@@ -9,7 +9,8 @@ use native.Mathlib.Nat.{lt-of-not-le}
 use native.Mathlib.Numerals.{add-one}
 use lib.ListN.{length, getD, set, replicate, length-set}
 use lib.Seq.{getD-set-same, getD-set-other}
-use Rattle.places.specs.Layout.{againstColumn, aheadColumn, dayHours, gainColumn, hoursColumn, limitColumn, mostBlocks, mostQuantity, quantityColumn}
+use Rattle.book.specs.Bounds.{mostBlocks}
+use Rattle.places.specs.Layout.{againstColumn, aheadColumn, hourPlaces, gainColumn, hoursColumn, limitColumn, mostQuantity, quantityColumn}
 use Rattle.records.specs.Records.{holdsHour, hoursSet}
 use Rattle.orders.specs.Columns.{sideFor}
 use Rattle.rules.specs.Orders.{Side, buy, sell}
@@ -23,13 +24,13 @@ use Rattle.roots.proofs.SizeLaws.{side-le, chosen-le, moved-most}
 -- WHAT THE BLOCKS TRADE in each hour
 module _ (sides hours quantities : List ℕ) (all : Bool) where
   pub record TradedTo (i : ℕ) (column : List ℕ) : Type 0 where
-    pub size : length column ≡ dayHours
+    pub size : length column ≡ hourPlaces
     pub small : Small (i * mostQuantity) column
-    pub is : (h : ℕ) → 1 ≤ h → h ≤ dayHours → getD column (h - 1) 0 ≡ blocksTrade i sides hours quantities all h
+    pub is : (h : ℕ) → 1 ≤ h → h ≤ hourPlaces → getD column (h - 1) 0 ≡ blocksTrade i sides hours quantities all h
 
-  pub traded-start : TradedTo 0 (replicate dayHours 0)
+  pub traded-start : TradedTo 0 (replicate hourPlaces 0)
   unfolding sumBelow
-  traded-start = record { size = refl; small = λ j. omega (arith, zeros dayHours j); is = λ h a b. zeros dayHours (h - 1) }
+  traded-start = record { size = refl; small = λ j. omega (arith, zeros hourPlaces j); is = λ h a b. zeros hourPlaces (h - 1) }
 
   -- what one block trades
   pub traded-fits : (i q rest : ℕ) → getD quantities i 0 ≤ mostQuantity → rest ≡ cond all (getD quantities i 0) 0 →
@@ -38,8 +39,8 @@ module _ (sides hours quantities : List ℕ) (all : Bool) where
       rw e (side-le (sideFor (getD sides i 0)) (getD quantities i 0) rest mostQuantity few (rw er (chosen-le all (getD quantities i 0) mostQuantity few)))
 
   pub traded-next : (i : ℕ) (column more : List ℕ) (q rest : ℕ) → TradedTo i column → getD quantities i 0 ≤ mostQuantity →
-      rest ≡ cond all (getD quantities i 0) 0 → q ≡ bySide (sideFor (getD sides i 0)) (getD quantities i 0) rest → length more ≡ dayHours →
-      ((h : ℕ) → 1 ≤ h → h ≤ dayHours → getD more (h - 1) 0 ≡ getD column (h - 1) 0 + when (holdsHour (getD hours i 0) h) q) → TradedTo (i + 1) more
+      rest ≡ cond all (getD quantities i 0) 0 → q ≡ bySide (sideFor (getD sides i 0)) (getD quantities i 0) rest → length more ≡ hourPlaces →
+      ((h : ℕ) → 1 ≤ h → h ≤ hourPlaces → getD more (h - 1) 0 ≡ getD column (h - 1) 0 + when (holdsHour (getD hours i 0) h) q) → TradedTo (i + 1) more
   unfolding sumBelow
   traded-next i column more q rest t few er e size moved = record {
     size = size;
@@ -63,7 +64,7 @@ bought-least sides hours quantities h (suc n) =
     one sell false q = omega arith
 
 pub bought-within : (count : ℕ) (sides hours quantities bought traded : List ℕ) → TradedBy count sides hours quantities false bought →
-    TradedBy count sides hours quantities true traded → (h : ℕ) → h < dayHours → getD bought h 0 ≤ getD traded h 0
+    TradedBy count sides hours quantities true traded → (h : ℕ) → h < hourPlaces → getD bought h 0 ≤ getD traded h 0
 bought-within count sides hours quantities bought traded b t h k =
     let e : suc h - 1 ≡ h = omega arith in
     let x : getD bought (suc h - 1) 0 ≡ getD bought h 0 = rw e in
@@ -230,7 +231,7 @@ module _ (c : List ℕ) (i side hours quantity limit sum : ℕ) (k : i < mostBlo
 -- ALL BLOCKS WRITTEN
 module _ (sides hours prices quantities root : List ℕ) where
   abbrev limitOf : ℕ → ℕ
-  limitOf i = getD prices i 0 * hoursSet dayHours (getD hours i 0)
+  limitOf i = getD prices i 0 * hoursSet hourPlaces (getD hours i 0)
 
   abbrev sumOf : ℕ → ℕ
   sumOf i = sumOfHours root (getD hours i 0)

@@ -9,7 +9,9 @@ use native.Mathlib.Decide.{decLe}
 use native.Mathlib.Nat.{lt-of-not-le}
 use lib.ListN.{length, take, drop, getD, length-map, drop-of-length-le}
 use lib.Seq.{getD-take, getD-drop, slice}
-use Rattle.places.specs.Layout.{dayHours, lastPlace, mostBlocks, mostQuantity, mostSteps, rowSize, tableSize}
+use Rattle.book.specs.Bounds.{mostBlocks}
+use Rattle.orders.specs.Layout.{stepPlaces}
+use Rattle.places.specs.Layout.{hourPlaces, lastPlace, mostQuantity, rowSize, tableSize}
 use Rattle.records.specs.Records.{number, hoursSet, holdsHour}
 use Rattle.book.specs.Refusals.{Accepted}
 use Rattle.book.proofs.Members.{Each}
@@ -174,7 +176,7 @@ module _ (b ends stepRecords sides prices quantities : List ℕ) (count : ℕ) (
   abbrev stepsHere : ℕ → List Step
   stepsHere h = stepsFrom h (hourPart ends (h - 1) sides) (hourPart ends (h - 1) prices) (hourPart ends (h - 1) quantities)
 
-  steps-are : (h : ℕ) → 1 ≤ h → h ≤ dayHours → stepsIn h (dayFrom b .steps) ≡ stepsHere h
+  steps-are : (h : ℕ) → 1 ≤ h → h ≤ hourPlaces → stepsIn h (dayFrom b .steps) ≡ stepsHere h
   steps-are h first last =
       let one : h - 1 + 1 ≡ h = omega arith in
       let rise = ends-rise b ends stepRecords sides prices quantities sc (h - 1) h (omega arith) last in
@@ -198,7 +200,7 @@ module _ (b ends stepRecords sides prices quantities : List ℕ) (count : ℕ) (
     unfolding priceSum
     sum-is = block-sum (dayFrom b .hours) root (getD hours j 0)
 
-    limit-is : blockHere j .price * day.hourCount (dayFrom b .hours) (blockHere j) ≡ getD blockPrices j 0 * hoursSet dayHours (getD hours j 0)
+    limit-is : blockHere j .price * day.hourCount (dayFrom b .hours) (blockHere j) ≡ getD blockPrices j 0 * hoursSet hourPlaces (getD hours j 0)
     limit-is =
         rw (hour-count (dayFrom b .hours) (number b (getD records j 0)) (getD blockSides j 0) (getD hours j 0) (getD blockPrices j 0)
         (getD blockQuantities j 0))
@@ -208,15 +210,15 @@ module _ (b ends stepRecords sides prices quantities : List ℕ) (count : ℕ) (
 
     against-is : against (dayFrom b .hours) priceOf (blockHere j)
         ≡ getD blockQuantities j 0
-        * bySide (sideFor (getD blockSides j 0)) (sumOfHours root (getD hours j 0) - getD blockPrices j 0 * hoursSet dayHours (getD hours j 0))
-        (getD blockPrices j 0 * hoursSet dayHours (getD hours j 0) - sumOfHours root (getD hours j 0))
+        * bySide (sideFor (getD blockSides j 0)) (sumOfHours root (getD hours j 0) - getD blockPrices j 0 * hoursSet hourPlaces (getD hours j 0))
+        (getD blockPrices j 0 * hoursSet hourPlaces (getD hours j 0) - sumOfHours root (getD hours j 0))
     unfolding against
     against-is = rw (sum-is, limit-is)
 
     gain-is : gain (dayFrom b .hours) priceOf (blockHere j)
         ≡ getD blockQuantities j 0
-        * bySide (sideFor (getD blockSides j 0)) (getD blockPrices j 0 * hoursSet dayHours (getD hours j 0) - sumOfHours root (getD hours j 0))
-        (sumOfHours root (getD hours j 0) - getD blockPrices j 0 * hoursSet dayHours (getD hours j 0))
+        * bySide (sideFor (getD blockSides j 0)) (getD blockPrices j 0 * hoursSet hourPlaces (getD hours j 0) - sumOfHours root (getD hours j 0))
+        (sumOfHours root (getD hours j 0) - getD blockPrices j 0 * hoursSet hourPlaces (getD hours j 0))
     unfolding gain
     gain-is = rw (sum-is, limit-is)
 
@@ -280,8 +282,8 @@ module _ (b ends stepRecords sides prices quantities : List ℕ) (count : ℕ) (
     abbrev restOf : ℕ → ℕ
     restOf h = slack (rootOf h) (hourAt (dayFrom b) h (ofHour first h)) - cell gap h (ofHour first h)
 
-    module _ (h : ℕ) (from : 1 ≤ h) (to : h ≤ dayHours) where
-      inside : h - 1 < dayHours
+    module _ (h : ℕ) (from : 1 ≤ h) (to : h ≤ hourPlaces) where
+      inside : h - 1 < hourPlaces
       inside = omega arith
 
       off-is : getD off (h - 1) 0 ≡ overBlocks (buys h) (dayFrom b .blocks)
@@ -406,7 +408,7 @@ module _ (b ends stepRecords sides prices quantities : List ℕ) (count : ℕ) (
     }
 
 -- WHAT IS PREPARED
-pub set-up : (t : Tables) → length (t .unitPrices) ≡ tableSize → length (t .gaps) ≡ tableSize → length (t .first) ≡ dayHours → length (t .last) ≡ dayHours →
+pub set-up : (t : Tables) → length (t .unitPrices) ≡ tableSize → length (t .gaps) ≡ tableSize → length (t .first) ≡ hourPlaces → length (t .last) ≡ hourPlaces →
     Small lastPlace (t .last) → Small maxPrice (t .unitPrices) → BlocksSized (t .blocks) → t .count ≤ mostBlocks → Sized t
 set-up t prices gaps first last fits small blocks few =
     record {
@@ -440,7 +442,7 @@ ready sides prices quantities ends count records blockSides hours blockPrices bl
 
 -- WHAT SAFETY ASKS holds of an accepted book's columns, where the steps' are arrays of 2,048
 pub steps-held : (b ends stepRecords sides prices quantities : List ℕ) → StepColumns b ends stepRecords sides prices quantities →
-    length sides ≡ mostSteps → length prices ≡ mostSteps → length quantities ≡ mostSteps → StepsHeld sides prices quantities ends
+    length sides ≡ stepPlaces → length prices ≡ stepPlaces → length quantities ≡ stepPlaces → StepsHeld sides prices quantities ends
 steps-held b ends stepRecords sides prices quantities c s p q = record {
   asManyPrices = s ∙ sym p;
   asManyQuantities = s ∙ sym q;

@@ -9,7 +9,7 @@ use native.Mathlib.Nat.{lt-of-not-le}
 use lib.ListN.{length, take, drop, getD, set, replicate, length-set, length-take, length-drop}
 use lib.Seq.{length-take-le, take-take, take-nil, drop-nil, drop-at, take-at, getD-set-same, getD-set-other, getD-drop}
 use borrow.Rule.Slice.PartMut.{putMid, midOf, take-put, same-len-mid}
-use Rattle.places.specs.Layout.{dayHours, lastPlace, rowSize, tableSize}
+use Rattle.places.specs.Layout.{hourPlaces, lastPlace, rowSize, tableSize}
 use Rattle.rules.specs.Orders.{Step, buy, sell, maxPrice}
 use Rattle.orders.specs.Columns.{stepsFrom}
 use Rattle.tables.specs.Tables.{PriceTable, AllOf, ClearRange, NotRising, GapsFor, GapTable}
@@ -30,7 +30,7 @@ part-front : (m k n : ℕ) (l r : List ℕ) → m + k ≤ n → take n l ≡ tak
 part-front m k n l r a e =
     take-drop m k l ∙ ap (drop m) (sym (take-take (m + k) n l a) ∙ ap (take (m + k)) e ∙ take-take (m + k) n r a) ∙ sym (take-drop m k r)
 
-pub part-held : (sides prices quantities ends : List ℕ) → StepsHeld sides prices quantities ends → (h : ℕ) → h < dayHours →
+pub part-held : (sides prices quantities ends : List ℕ) → StepsHeld sides prices quantities ends → (h : ℕ) → h < hourPlaces →
     PartHeld sides prices quantities (getD ends h 0) (getD ends (h + 1) 0)
 part-held sides prices quantities ends s h k = record {
   asManyPrices = s .asManyPrices;
@@ -57,7 +57,7 @@ small-behind : (m n : ℕ) (l : List ℕ) → Small m l → Small m (drop n l)
 small-behind m n l s i = rw (getD-drop n l i 0) (s (n + i))
 
 -- ROWS
-module _ (table row : List ℕ) (h k most : ℕ) (size : length table ≡ tableSize) (here : h < dayHours) (fits : most ≤ lastPlace)
+module _ (table row : List ℕ) (h k most : ℕ) (size : length table ≡ tableSize) (here : h < hourPlaces) (fits : most ≤ lastPlace)
     (full : length row ≡ rowPlaces most) (wide : k ≡ rowPlaces most) where
   pub row-put : tableRow (putMid (h * rowSize) k table row) h most ≡ row
   row-put =
@@ -82,11 +82,11 @@ module _ (table row : List ℕ) (h k most : ℕ) (size : length table ≡ tableS
       small-append m (take (h * rowSize) table) (row ++ drop k (drop (h * rowSize) table)) (small-front m (h * rowSize) table small)
       (small-append m row (drop k (drop (h * rowSize) table)) rowSmall (small-behind m k (drop (h * rowSize) table) (small-behind m (h * rowSize) table small)))
 
-pub row-length : (table : List ℕ) (h most : ℕ) → length table ≡ tableSize → h < dayHours → most ≤ lastPlace →
+pub row-length : (table : List ℕ) (h most : ℕ) → length table ≡ tableSize → h < hourPlaces → most ≤ lastPlace →
     length (tableRow table h most) ≡ rowPlaces most
 row-length table h most size k fits = simp (length-take, length-drop) (omega arith)
 
-pub part-length : (table : List ℕ) (h most : ℕ) → length table ≡ tableSize → h < dayHours → most ≤ lastPlace →
+pub part-length : (table : List ℕ) (h most : ℕ) → length table ≡ tableSize → h < hourPlaces → most ≤ lastPlace →
     length (take (h * rowSize + most + 2 - h * rowSize) (drop (h * rowSize) table)) ≡ rowPlaces most
 part-length table h most size k fits = simp (length-take, length-drop) (omega arith)
 
@@ -100,7 +100,7 @@ part-row table h most = rw (row-wide h most)
 -- THE PRICE TABLES
 module _ (sides prices quantities ends off most : List ℕ) where
   pub record RowsTo (unitPrices : List ℕ) (h : ℕ) : Type 0 where
-    pub inside : h ≤ dayHours
+    pub inside : h ≤ hourPlaces
     pub size : length unitPrices ≡ tableSize
     pub small : Small maxPrice unitPrices
     pub done : (j : ℕ) → j < h → RowIs sides prices quantities ends off most unitPrices j
@@ -115,7 +115,7 @@ module _ (sides prices quantities ends off most : List ℕ) where
     | no k ↦ table-in-range (stepsFrom 0 (hourPart ends h sides) (hourPart ends h prices) (hourPart ends h quantities)) (getD off h 0) row (t 0) i (lt-of-not-le k)
   ]
 
-  pub rows-next : Small lastPlace most → (unitPrices row : List ℕ) (h k : ℕ) → RowsTo unitPrices h → h < dayHours → length row ≡ rowPlaces (getD most h 0) → k ≡ rowPlaces (getD most h 0) →
+  pub rows-next : Small lastPlace most → (unitPrices row : List ℕ) (h k : ℕ) → RowsTo unitPrices h → h < hourPlaces → length row ≡ rowPlaces (getD most h 0) → k ≡ rowPlaces (getD most h 0) →
       PriceTable (hourPart ends h sides) (hourPart ends h prices) (hourPart ends h quantities) (getD off h 0) row →
       RowsTo (putMid (h * rowSize) k unitPrices row) (h + 1)
   rows-next few unitPrices row h k r a full wide t = record {
@@ -127,7 +127,7 @@ module _ (sides prices quantities ends off most : List ℕ) where
         (rw (row-put unitPrices row h k (getD most h 0) (r .size) a (few h) full wide) t) (rw add-one at b);
   }
 
-  pub rows-all : (unitPrices : List ℕ) (h : ℕ) → RowsTo unitPrices h → dayHours ≤ h →
+  pub rows-all : (unitPrices : List ℕ) (h : ℕ) → RowsTo unitPrices h → hourPlaces ≤ h →
       RowsAre sides prices quantities ends off most unitPrices × Small maxPrice unitPrices
   rows-all unitPrices h r k = (λ j a. r .done j (omega arith), r .small)
 
@@ -165,26 +165,26 @@ module _ (sides prices quantities : List ℕ) (off most price : ℕ) (row : List
 -- THE RANGES AND THE GAP TABLES
 module _ (sides prices quantities ends off most root unitPrices : List ℕ) where
   pub record RangesTo (gap first last turn : List ℕ) (h : ℕ) : Type 0 where
-    pub inside : h ≤ dayHours
+    pub inside : h ≤ hourPlaces
     pub size : length gap ≡ tableSize
-    pub firstSize : length first ≡ dayHours
-    pub lastSize : length last ≡ dayHours
-    pub turnSize : length turn ≡ dayHours
+    pub firstSize : length first ≡ hourPlaces
+    pub lastSize : length last ≡ hourPlaces
+    pub turnSize : length turn ≡ hourPlaces
     pub small : (j : ℕ) → getD last j 0 ≤ lastPlace
     pub done : (j : ℕ) → j < h → RangedAt sides prices quantities ends off most root unitPrices gap first last turn j
 
-  pub ranges-start : (gap : List ℕ) → length gap ≡ tableSize → RangesTo gap (replicate dayHours 0) (replicate dayHours 0) (replicate dayHours 0) 0
+  pub ranges-start : (gap : List ℕ) → length gap ≡ tableSize → RangesTo gap (replicate hourPlaces 0) (replicate hourPlaces 0) (replicate hourPlaces 0) 0
   ranges-start gap e = record {
     inside = omega arith;
     size = e;
     firstSize = refl;
     lastSize = refl;
     turnSize = refl;
-    small = λ j. omega (arith, zeros dayHours j);
+    small = λ j. omega (arith, zeros hourPlaces j);
     done = λ j a. absurd (omega arith);
   }
 
-  pub ranges-next : Small lastPlace most → (gap first last turn row : List ℕ) (h k f l m : ℕ) → RangesTo gap first last turn h → h < dayHours → length row ≡ rowPlaces (getD most h 0) → k ≡ rowPlaces (getD most h 0) → l ≤ lastPlace →
+  pub ranges-next : Small lastPlace most → (gap first last turn row : List ℕ) (h k f l m : ℕ) → RangesTo gap first last turn h → h < hourPlaces → length row ≡ rowPlaces (getD most h 0) → k ≡ rowPlaces (getD most h 0) → l ≤ lastPlace →
       Ranged (hourPart ends h sides) (hourPart ends h prices) (hourPart ends h quantities) (getD off h 0) (getD most h 0) (getD root h 0) f l m (tableRow unitPrices h (getD most h 0)) row →
       RangesTo (putMid (h * rowSize) k gap row) (set first h f) (set last h l) (set turn h m) (h + 1)
   ranges-next few gap first last turn row h k f l m r a full wide small t =
@@ -214,7 +214,7 @@ module _ (sides prices quantities ends off most root unitPrices : List ℕ) wher
             ) t) (rw add-one at b);
       }
 
-  pub ranges-all : (gap first last turn : List ℕ) (h : ℕ) → RangesTo gap first last turn h → dayHours ≤ h →
-      ((length first ≡ dayHours) × (length last ≡ dayHours) × (length turn ≡ dayHours) × Small lastPlace last)
+  pub ranges-all : (gap first last turn : List ℕ) (h : ℕ) → RangesTo gap first last turn h → hourPlaces ≤ h →
+      ((length first ≡ hourPlaces) × (length last ≡ hourPlaces) × (length turn ≡ hourPlaces) × Small lastPlace last)
       × RangesAre sides prices quantities ends off most root unitPrices gap first last turn
   ranges-all gap first last turn h r k = ((r .firstSize, r .lastSize, r .turnSize, r .small), λ j a. r .done j (omega arith))

@@ -11,23 +11,8 @@ use lib.Dec.{leb, ltb, eqb}
 use lib.ListN.{length, take, drop, getD, set, replicate, length-set, length-take, length-drop}
 use lib.Seq.{getD-set-same, getD-set-other, getD-take, getD-drop, ext-getD}
 use borrow.Author.Tests.{leb-true, leb-false, ltb-true, eqb-true}
-use Rattle.places.specs.Layout.{
-  againstColumn,
-  aheadColumn,
-  behindColumn,
-  blockListSize,
-  blockRows,
-  dayHours,
-  gainColumn,
-  hourListSize,
-  hoursColumn,
-  lastColumn,
-  limitColumn,
-  mostBlocks,
-  mostQuantity,
-  quantityColumn,
-  turnColumn,
-}
+use Rattle.book.specs.Bounds.{mostBlocks}
+use Rattle.places.specs.Layout.{againstColumn, aheadColumn, behindColumn, blockListSize, rowsColumn, hourPlaces, gainColumn, hourListSize, hoursColumn, lastColumn, limitColumn, mostQuantity, quantityColumn, turnColumn}
 use Rattle.records.specs.Records.{holdsHour}
 use Rattle.orders.specs.Columns.{sideFor}
 use Rattle.rules.specs.Orders.{Side, buy, sell}
@@ -62,7 +47,7 @@ module _ (first last turn : List ℕ) where
   joined-start =
       record { size = refl; firsts = λ k a. absurd (omega arith); lasts = λ k a. absurd (omega arith); turns = λ k a. absurd (omega arith) }
 
-  pub joined-next : (h : ℕ) (r : List ℕ) → JoinedTo h r → h < dayHours →
+  pub joined-next : (h : ℕ) (r : List ℕ) → JoinedTo h r → h < hourPlaces →
       JoinedTo (h + 1) (set (set (set r h (getD first h 0)) (lastColumn + h) (getD last h 0)) (turnColumn + h) (getD turn h 0))
   joined-next h r j inside = record {
     size = rw length-set size₂;
@@ -89,7 +74,7 @@ module _ (first last turn : List ℕ) where
       size₂ : length r₂ ≡ hourListSize
       size₂ = length-set r₁ (lastColumn + h) (getD last h 0) ∙ size₁
 
-      other : (at : ℕ) → (at ≡ h → ⊥) → (at ≡ dayHours + h → ⊥) → (at ≡ turnColumn + h → ⊥) → getD r₃ at 0 ≡ getD r at 0
+      other : (at : ℕ) → (at ≡ h → ⊥) → (at ≡ hourPlaces + h → ⊥) → (at ≡ turnColumn + h → ⊥) → getD r₃ at 0 ≡ getD r at 0
       other at e₀ e₁ e₂ =
           getD-set-other r₂ (turnColumn + h) at (getD turn h 0) 0 e₂ ∙ getD-set-other r₁ (lastColumn + h) at (getD last h 0) 0 e₁
           ∙ getD-set-other r h at (getD first h 0) 0 e₀
@@ -108,19 +93,19 @@ module _ (first last turn : List ℕ) where
       turn-here = getD-set-same r₂ (turnColumn + h) (getD turn h 0) 0 (omega (arith, size₂))
 
   -- a column of the list is that column
-  column-is : (r column : List ℕ) (from : ℕ) → length r ≡ hourListSize → from ≤ turnColumn → length column ≡ dayHours →
-      ((k : ℕ) → k < dayHours → getD r (from + k) 0 ≡ getD column k 0) → take dayHours (drop from r) ≡ column
+  column-is : (r column : List ℕ) (from : ℕ) → length r ≡ hourListSize → from ≤ turnColumn → length column ≡ hourPlaces →
+      ((k : ℕ) → k < hourPlaces → getD r (from + k) 0 ≡ getD column k 0) → take hourPlaces (drop from r) ≡ column
   column-is r column from size inside full is =
-      let e : length (take dayHours (drop from r)) ≡ dayHours = simp (length-take, length-drop) (omega arith) in
-      ext-getD 0 (take dayHours (drop from r)) column (e ∙ sym full) (λ k a.
-      let b : k < dayHours = omega arith in
-      getD-take dayHours (drop from r) k 0 b ∙ getD-drop from r k 0 ∙ is k b)
+      let e : length (take hourPlaces (drop from r)) ≡ hourPlaces = simp (length-take, length-drop) (omega arith) in
+      ext-getD 0 (take hourPlaces (drop from r)) column (e ∙ sym full) (λ k a.
+      let b : k < hourPlaces = omega arith in
+      getD-take hourPlaces (drop from r) k 0 b ∙ getD-drop from r k 0 ∙ is k b)
 
-  pub joined-all : (h : ℕ) (r : List ℕ) → JoinedTo h r → dayHours ≤ h → length first ≡ dayHours → length last ≡ dayHours → length turn ≡ dayHours →
+  pub joined-all : (h : ℕ) (r : List ℕ) → JoinedTo h r → hourPlaces ≤ h → length first ≡ hourPlaces → length last ≡ hourPlaces → length turn ≡ hourPlaces →
       (clearsFirst r ≡ first) × (clearsLast r ≡ last) × (gapsTurn r ≡ turn)
   joined-all h r j k f l t = (
     column-is r first 0 (j .size) (omega arith) f (λ i a. let z : 0 + i ≡ i = omega arith in rw z (j .firsts i (omega arith))),
-    column-is r last dayHours (j .size) (omega arith) l (λ i a. j .lasts i (omega arith)),
+    column-is r last hourPlaces (j .size) (omega arith) l (λ i a. j .lasts i (omega arith)),
     column-is r turn turnColumn (j .size) (omega arith) t (λ i a. j .turns i (omega arith)),
   )
 
@@ -151,26 +136,26 @@ widened-all columns k r w all = record { size = w .size; same = λ i a. w .same 
 module _ (blocks : List ℕ) where
   -- what stands at place k of the rows
   abbrev tradeAt : ℕ → ℕ
-  tradeAt k = when (holdsHour (hoursAt blocks (k / dayHours)) (suc (k % dayHours))) (quantityAt blocks (k / dayHours))
+  tradeAt k = when (holdsHour (hoursAt blocks (k / hourPlaces)) (suc (k % hourPlaces))) (quantityAt blocks (k / hourPlaces))
 
   pub record RowsDone (count k : ℕ) (r : List ℕ) : Type 0 where
-    pub inside : k ≤ dayHours * count
+    pub inside : k ≤ hourPlaces * count
     pub size : length r ≡ blockListSize
-    pub same : (i : ℕ) → i < blockRows → getD r i 0 ≡ getD blocks i 0
-    pub done : (i : ℕ) → i < k → getD r (blockRows + i) 0 ≡ tradeAt i
-    pub fits : (i : ℕ) → blockRows ≤ i → getD r i 0 ≤ mostQuantity
+    pub same : (i : ℕ) → i < rowsColumn → getD r i 0 ≡ getD blocks i 0
+    pub done : (i : ℕ) → i < k → getD r (rowsColumn + i) 0 ≡ tradeAt i
+    pub fits : (i : ℕ) → rowsColumn ≤ i → getD r i 0 ≤ mostQuantity
 
   -- it is at most 50, and comes of a bit
-  trade-is : (k : ℕ) → hoursAt blocks (k / dayHours) / 2 ^ (k % dayHours) % 2 * quantityAt blocks (k / dayHours) ≡ tradeAt k
+  trade-is : (k : ℕ) → hoursAt blocks (k / hourPlaces) / 2 ^ (k % hourPlaces) % 2 * quantityAt blocks (k / hourPlaces) ≡ tradeAt k
   trade-is k =
-      rw (hour-bit (hoursAt blocks (k / dayHours)) (k % dayHours)) (bit-times (hoursAt blocks (k / dayHours) / 2 ^ (k % dayHours)) (quantityAt blocks
-      (k / dayHours)))
+      rw (hour-bit (hoursAt blocks (k / hourPlaces)) (k % hourPlaces)) (bit-times (hoursAt blocks (k / hourPlaces) / 2 ^ (k % hourPlaces)) (quantityAt blocks
+      (k / hourPlaces)))
 
-  pub trade-small : (count k : ℕ) → RowsEmpty blocks → count ≤ mostBlocks → k < dayHours * count →
-      hoursAt blocks (k / dayHours) / 2 ^ (k % dayHours) % 2 * quantityAt blocks (k / dayHours) ≤ mostQuantity
+  pub trade-small : (count k : ℕ) → RowsEmpty blocks → count ≤ mostBlocks → k < hourPlaces * count →
+      hoursAt blocks (k / hourPlaces) / 2 ^ (k % hourPlaces) % 2 * quantityAt blocks (k / hourPlaces) ≤ mostQuantity
   trade-small count k empty few below =
-      let small = empty .small (k / dayHours) (omega arith) in
-      omega (arith, bit-times-le (hoursAt blocks (k / dayHours) / 2 ^ (k % dayHours)) (quantityAt blocks (k / dayHours)))
+      let small = empty .small (k / hourPlaces) (omega arith) in
+      omega (arith, bit-times-le (hoursAt blocks (k / hourPlaces) / 2 ^ (k % hourPlaces)) (quantityAt blocks (k / hourPlaces)))
 
   pub rows-begun : (count : ℕ) → length blocks ≡ blockListSize → RowsEmpty blocks → RowsDone count 0 blocks
   rows-begun count size empty = record {
@@ -181,38 +166,38 @@ module _ (blocks : List ℕ) where
     fits = λ i a. omega (arith, empty .none i a);
   }
 
-  pub rows-more : (count k : ℕ) (r : List ℕ) → RowsDone count k r → RowsEmpty blocks → count ≤ mostBlocks → k < dayHours * count →
-      RowsDone count (k + 1) (set r (blockRows + k) (hoursAt blocks (k / dayHours) / 2 ^ (k % dayHours) % 2 * quantityAt blocks (k / dayHours)))
+  pub rows-more : (count k : ℕ) (r : List ℕ) → RowsDone count k r → RowsEmpty blocks → count ≤ mostBlocks → k < hourPlaces * count →
+      RowsDone count (k + 1) (set r (rowsColumn + k) (hoursAt blocks (k / hourPlaces) / 2 ^ (k % hourPlaces) % 2 * quantityAt blocks (k / hourPlaces)))
   rows-more count k r d empty few below = record {
     inside = omega arith;
     size = rw length-set (d .size);
-    same = λ i a. getD-set-other r (blockRows + k) i new 0 (λ e. omega arith) ∙ d .same i a;
-    done = λ i a. below-next (λ i. getD (set r (blockRows + k) new) (blockRows + i) 0 ≡ tradeAt i) k i
-        (λ b. getD-set-other r (blockRows + k) (blockRows + i) new 0 (λ e. omega arith) ∙ d .done i b) (here ∙ trade-is k) (rw add-one at a);
-    fits = λ i a. elim (decLe i (blockRows + k)) [
-      | yes x ↦ elim (decLe (blockRows + k) i) [
-        | yes y ↦ let e : i ≡ blockRows + k = omega arith in rw (e, here) (trade-small count k empty few below)
-        | no y ↦ let z : i < blockRows + k = lt-of-not-le y in rw (getD-set-other r (blockRows + k) i new 0 (λ e. omega arith)) (d .fits i a)
+    same = λ i a. getD-set-other r (rowsColumn + k) i new 0 (λ e. omega arith) ∙ d .same i a;
+    done = λ i a. below-next (λ i. getD (set r (rowsColumn + k) new) (rowsColumn + i) 0 ≡ tradeAt i) k i
+        (λ b. getD-set-other r (rowsColumn + k) (rowsColumn + i) new 0 (λ e. omega arith) ∙ d .done i b) (here ∙ trade-is k) (rw add-one at a);
+    fits = λ i a. elim (decLe i (rowsColumn + k)) [
+      | yes x ↦ elim (decLe (rowsColumn + k) i) [
+        | yes y ↦ let e : i ≡ rowsColumn + k = omega arith in rw (e, here) (trade-small count k empty few below)
+        | no y ↦ let z : i < rowsColumn + k = lt-of-not-le y in rw (getD-set-other r (rowsColumn + k) i new 0 (λ e. omega arith)) (d .fits i a)
       ]
-      | no x ↦ let z : blockRows + k < i = lt-of-not-le x in rw (getD-set-other r (blockRows + k) i new 0 (λ e. omega arith)) (d .fits i a)
+      | no x ↦ let z : rowsColumn + k < i = lt-of-not-le x in rw (getD-set-other r (rowsColumn + k) i new 0 (λ e. omega arith)) (d .fits i a)
     ];
   }
     where
       new : ℕ
-      new = hoursAt blocks (k / dayHours) / 2 ^ (k % dayHours) % 2 * quantityAt blocks (k / dayHours)
+      new = hoursAt blocks (k / hourPlaces) / 2 ^ (k % hourPlaces) % 2 * quantityAt blocks (k / hourPlaces)
 
-      here : getD (set r (blockRows + k) new) (blockRows + k) 0 ≡ new
-      here = getD-set-same r (blockRows + k) new 0 (omega (arith, d .size))
+      here : getD (set r (rowsColumn + k) new) (rowsColumn + k) 0 ≡ new
+      here = getD-set-same r (rowsColumn + k) new 0 (omega (arith, d .size))
 
-  pub rows-whole : (count k : ℕ) (r : List ℕ) → RowsDone count k r → dayHours * count ≤ k → RowsWritten count blocks r
+  pub rows-whole : (count k : ℕ) (r : List ℕ) → RowsDone count k r → hourPlaces * count ≤ k → RowsWritten count blocks r
   rows-whole count k r d all = record {
     size = d .size;
     same = d .same;
     row = λ j h a from to.
-        let place : blockRows + dayHours * j + (h - 1) ≡ blockRows + (dayHours * j + (h - 1)) = omega arith in
-        let block : (dayHours * j + (h - 1)) / dayHours ≡ j = omega arith in
-        let hour : suc ((dayHours * j + (h - 1)) % dayHours) ≡ h = omega arith in
-        let t = d .done (dayHours * j + (h - 1)) (omega arith) in
+        let place : rowsColumn + hourPlaces * j + (h - 1) ≡ rowsColumn + (hourPlaces * j + (h - 1)) = omega arith in
+        let block : (hourPlaces * j + (h - 1)) / hourPlaces ≡ j = omega arith in
+        let hour : suc ((hourPlaces * j + (h - 1)) % hourPlaces) ≡ h = omega arith in
+        let t = d .done (hourPlaces * j + (h - 1)) (omega arith) in
         rw place (rw (block, hour) at t);
     fits = d .fits;
   }
@@ -264,7 +249,7 @@ module _ (blocks : List ℕ) where
     pub inside : i ≤ count
     pub size : length r ≡ blockListSize
     pub columns : (k : ℕ) → k < aheadColumn → getD r k 0 ≡ getD blocks k 0
-    pub rows : (k : ℕ) → blockRows ≤ k → getD r k 0 ≡ getD blocks k 0
+    pub rows : (k : ℕ) → rowsColumn ≤ k → getD r k 0 ≡ getD blocks k 0
     pub ahead : (j : ℕ) → j < i → TwinOf blocks j true (aheadAt r j)
     pub behind : (j : ℕ) → j < i → TwinOf blocks j false (behindAt r j)
     pub none : (j : ℕ) → i ≤ j → j < mostBlocks → (aheadAt r j ≡ 0) × (behindAt r j ≡ 0)
@@ -348,7 +333,7 @@ no-worse-false side limit other = at (sideFor side)
 -- THE WHOLE LIST: the columns, rows and twins of the first count blocks, all said of it alone
 pub record Completed (sides hours prices quantities root : List ℕ) (count : ℕ) (blocks : List ℕ) : Type 0 where
   pub columns : (j : ℕ) → j < count → Written sides hours prices quantities root blocks j
-  pub row : (j h : ℕ) → j < count → 1 ≤ h → h ≤ dayHours → rowQuantity blocks j h ≡ when (holdsHour (hoursAt blocks j) h) (quantityAt blocks j)
+  pub row : (j h : ℕ) → j < count → 1 ≤ h → h ≤ hourPlaces → rowQuantity blocks j h ≡ when (holdsHour (hoursAt blocks j) h) (quantityAt blocks j)
   pub ahead : (j : ℕ) → j < count → TwinOf blocks j true (aheadAt blocks j)
   pub behind : (j : ℕ) → j < count → TwinOf blocks j false (behindAt blocks j)
 
@@ -398,7 +383,7 @@ module _ (count : ℕ) (columns wide traded blocks : List ℕ) (few : count ≤ 
   completed sides hours prices quantities root w = record {
     columns = λ j k. written-carried columns blocks same-columns sides hours prices quantities root j (omega arith) (w j k);
     row = λ j h k from to.
-        let there = twins .rows (blockRows + dayHours * j + (h - 1)) (omega arith) ∙ rows .row j h k from to in
+        let there = twins .rows (rowsColumn + hourPlaces * j + (h - 1)) (omega arith) ∙ rows .row j h k from to in
         let x : hoursAt blocks j ≡ hoursAt wide j = twins .columns (hoursColumn + j) (omega arith) ∙ rows .same (hoursColumn + j) (omega arith) in
         let q : quantityAt blocks j ≡ quantityAt wide j = twins .columns (quantityColumn + j) (omega arith) ∙ rows .same (quantityColumn + j) (omega arith) in
         rw (x, q) there;
@@ -411,8 +396,8 @@ module _ (count : ℕ) (columns wide traded blocks : List ℕ) (few : count ≤ 
     columns = twins .size;
     rowsFit = λ i h. omega (
       arith,
-      twins .rows (blockRows + dayHours * i + (h - 1)) (omega arith),
-      rows .fits (blockRows + dayHours * i + (h - 1))
+      twins .rows (rowsColumn + hourPlaces * i + (h - 1)) (omega arith),
+      rows .fits (rowsColumn + hourPlaces * i + (h - 1))
           (omega arith),
     );
     twinsFit = λ i k. elim (decLe count i) [

@@ -13,22 +13,9 @@ use Rattle.rules.specs.Hour.{bySide, when}
 use Rattle.rules.specs.Execution.{testSide}
 use Rattle.tables.specs.Tables.{PriceTable, AllOf, ClearRange, GapTable}
 use Rattle.rules.specs.Orders.{maxPrice}
-use Rattle.places.specs.Layout.{
-  dayHours,
-  mostBlocks,
-  mostQuantity,
-  mostSteps,
-  lastPlace,
-  rowSize,
-  hoursColumn,
-  quantityColumn,
-  limitColumn,
-  againstColumn,
-  gainColumn,
-  aheadColumn,
-  blockRows,
-  blockListSize,
-}
+use Rattle.book.specs.Bounds.{mostBlocks}
+use Rattle.orders.specs.Layout.{stepPlaces}
+use Rattle.places.specs.Layout.{hourPlaces, mostQuantity, lastPlace, rowSize, hoursColumn, quantityColumn, limitColumn, againstColumn, gainColumn, aheadColumn, rowsColumn, blockListSize}
 use Rattle.places.specs.Hours.{Small, FirstSmall, sumOfHours}
 use Rattle.places.specs.Blocks.{sideAt, hoursAt, quantityAt, limitAt, againstAt, gainAt, aheadAt, behindAt, rowQuantity}
 use Rattle.search.specs.Tables.{Tables}
@@ -39,15 +26,15 @@ use Rattle.search.specs.Meaning.{Known, Turning}
 pub record StepsHeld (sides prices quantities ends : List ℕ) : Type 0 where
   pub asManyPrices : length sides ≡ length prices
   pub asManyQuantities : length sides ≡ length quantities
-  pub notTooMany : length sides ≤ mostSteps
-  pub rising : (h : ℕ) → h < dayHours → getD ends h 0 ≤ getD ends (h + 1) 0
-  pub inside : (h : ℕ) → h ≤ dayHours → getD ends h 0 ≤ length sides
+  pub notTooMany : length sides ≤ stepPlaces
+  pub rising : (h : ℕ) → h < hourPlaces → getD ends h 0 ≤ getD ends (h + 1) 0
+  pub inside : (h : ℕ) → h ≤ hourPlaces → getD ends h 0 ≤ length sides
 
 -- The same of the part from a to e, that of an hour.
 pub record PartHeld (sides prices quantities : List ℕ) (a e : ℕ) : Type 0 where
   pub asManyPrices : length sides ≡ length prices
   pub asManyQuantities : length sides ≡ length quantities
-  pub notTooMany : length sides ≤ mostSteps
+  pub notTooMany : length sides ≤ stepPlaces
   pub ordered : a ≤ e
   pub inside : e ≤ length sides
 
@@ -82,7 +69,7 @@ RowIs sides prices quantities ends off most unitPrices h =
     PriceTable (hourPart ends h sides) (hourPart ends h prices) (hourPart ends h quantities) (getD off h 0) (tableRow unitPrices h (getD most h 0))
 
 abbrev pub RowsAre : (sides prices quantities ends off most unitPrices : List ℕ) → Type 0
-RowsAre sides prices quantities ends off most unitPrices = (h : ℕ) → h < dayHours → RowIs sides prices quantities ends off most unitPrices h
+RowsAre sides prices quantities ends off most unitPrices = (h : ℕ) → h < hourPlaces → RowIs sides prices quantities ends off most unitPrices h
 
 -- The places at which an hour clears, of those up to most, and its gaps there at a price, the least at turn.
 pub record Ranged (sides prices quantities : List ℕ) (off most price first last turn : ℕ) (unitPrices gap : List ℕ) : Type 0 where
@@ -103,7 +90,7 @@ RangedAt sides prices quantities ends off most root unitPrices gap first last tu
 
 abbrev pub RangesAre : (sides prices quantities ends off most root unitPrices gap first last turn : List ℕ) → Type 0
 RangesAre sides prices quantities ends off most root unitPrices gap first last turn =
-    (h : ℕ) → h < dayHours → RangedAt sides prices quantities ends off most root unitPrices gap first last turn h
+    (h : ℕ) → h < hourPlaces → RangedAt sides prices quantities ends off most root unitPrices gap first last turn h
 
 -- THE BLOCKS
 -- The sum of a number of each of the first n places.
@@ -119,7 +106,7 @@ blocksTrade count sides hours quantities all h =
 -- A column has that sum for each hour; it is a place.
 pub record TradedBy (count : ℕ) (sides hours quantities : List ℕ) (all : Bool) (column : List ℕ) : Type 0 where
   pub small : Small lastPlace column
-  pub is : (h : ℕ) → 1 ≤ h → h ≤ dayHours → getD column (h - 1) 0 ≡ blocksTrade count sides hours quantities all h
+  pub is : (h : ℕ) → 1 ≤ h → h ≤ hourPlaces → getD column (h - 1) 0 ≡ blocksTrade count sides hours quantities all h
 
 -- The columns with block i written.
 unfoldable pub written : (columns : List ℕ) (i side hours quantity limit sum : ℕ) → List ℕ
@@ -133,13 +120,13 @@ pub record Written (sides hours prices quantities root columns : List ℕ) (i : 
   pub sideIs : sideAt columns i ≡ getD sides i 0
   pub hoursIs : hoursAt columns i ≡ getD hours i 0
   pub quantityIs : quantityAt columns i ≡ getD quantities i 0
-  pub limitIs : limitAt columns i ≡ getD prices i 0 * hoursSet dayHours (getD hours i 0)
+  pub limitIs : limitAt columns i ≡ getD prices i 0 * hoursSet hourPlaces (getD hours i 0)
   pub againstIs : againstAt columns i ≡ getD quantities i 0
-      * bySide (sideFor (getD sides i 0)) (sumOfHours root (getD hours i 0) - getD prices i 0 * hoursSet dayHours (getD hours i 0))
-      (getD prices i 0 * hoursSet dayHours (getD hours i 0) - sumOfHours root (getD hours i 0))
+      * bySide (sideFor (getD sides i 0)) (sumOfHours root (getD hours i 0) - getD prices i 0 * hoursSet hourPlaces (getD hours i 0))
+      (getD prices i 0 * hoursSet hourPlaces (getD hours i 0) - sumOfHours root (getD hours i 0))
   pub gainIs : gainAt columns i ≡ getD quantities i 0
-      * bySide (sideFor (getD sides i 0)) (getD prices i 0 * hoursSet dayHours (getD hours i 0) - sumOfHours root (getD hours i 0))
-      (sumOfHours root (getD hours i 0) - getD prices i 0 * hoursSet dayHours (getD hours i 0))
+      * bySide (sideFor (getD sides i 0)) (getD prices i 0 * hoursSet hourPlaces (getD hours i 0) - sumOfHours root (getD hours i 0))
+      (sumOfHours root (getD hours i 0) - getD prices i 0 * hoursSet hourPlaces (getD hours i 0))
 
 -- THE WHOLE LIST OF THE BLOCKS
 -- The six columns, and nothing behind them yet.
@@ -151,14 +138,14 @@ pub record Widened (columns blocks : List ℕ) : Type 0 where
 -- No row stands yet, and every quantity is in its range.
 pub record RowsEmpty (blocks : List ℕ) : Type 0 where
   pub small : (i : ℕ) → i < mostBlocks → quantityAt blocks i ≤ mostQuantity
-  pub none : (k : ℕ) → blockRows ≤ k → getD blocks k 0 ≡ 0
+  pub none : (k : ℕ) → rowsColumn ≤ k → getD blocks k 0 ≡ 0
 
 -- The rows of the first count blocks stand.
 pub record RowsWritten (count : ℕ) (before blocks : List ℕ) : Type 0 where
   pub size : length blocks ≡ blockListSize
-  pub same : (k : ℕ) → k < blockRows → getD blocks k 0 ≡ getD before k 0
-  pub row : (j h : ℕ) → j < count → 1 ≤ h → h ≤ dayHours → rowQuantity blocks j h ≡ when (holdsHour (hoursAt before j) h) (quantityAt before j)
-  pub fits : (k : ℕ) → blockRows ≤ k → getD blocks k 0 ≤ mostQuantity
+  pub same : (k : ℕ) → k < rowsColumn → getD blocks k 0 ≡ getD before k 0
+  pub row : (j h : ℕ) → j < count → 1 ≤ h → h ≤ hourPlaces → rowQuantity blocks j h ≡ when (holdsHour (hoursAt before j) h) (quantityAt before j)
+  pub fits : (k : ℕ) → rowsColumn ≤ k → getD blocks k 0 ≤ mostQuantity
 
 -- Blocks a and b are twins: of the same side, hours and quantity.
 pub record TwinsAt (blocks : List ℕ) (a b : ℕ) : Type 0 where
@@ -177,13 +164,13 @@ TwinOf blocks i ahead found = (a : ℕ) → found ≡ suc a →
 
 -- No twin stands yet.
 abbrev pub TwinsEmpty : List ℕ → Type 0
-TwinsEmpty blocks = (k : ℕ) → aheadColumn ≤ k → k < blockRows → getD blocks k 0 ≡ 0
+TwinsEmpty blocks = (k : ℕ) → aheadColumn ≤ k → k < rowsColumn → getD blocks k 0 ≡ 0
 
 -- The twins of the first count blocks stand.
 pub record TwinsWritten (count : ℕ) (before blocks : List ℕ) : Type 0 where
   pub size : length blocks ≡ blockListSize
   pub columns : (k : ℕ) → k < aheadColumn → getD blocks k 0 ≡ getD before k 0
-  pub rows : (k : ℕ) → blockRows ≤ k → getD blocks k 0 ≡ getD before k 0
+  pub rows : (k : ℕ) → rowsColumn ≤ k → getD blocks k 0 ≡ getD before k 0
   pub ahead : (i : ℕ) → i < count → TwinOf before i true (aheadAt blocks i)
   pub behind : (i : ℕ) → i < count → TwinOf before i false (behindAt blocks i)
   pub none : (i : ℕ) → count ≤ i → i < mostBlocks → (aheadAt blocks i ≡ 0) × (behindAt blocks i ≡ 0)

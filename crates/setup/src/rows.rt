@@ -3,7 +3,7 @@ ghost use mathlib.Core.Path.{_≡_};
 ghost use Prim.Native.Nat.{ℕ, _≤_, _<_};
 ghost use lib.ListN.{length, getD};
 ghost use Rattle.rules.specs.Orders.{maxPrice};
-ghost use Rattle.places.specs.Layout.{dayHours, lastPlace, rowSize, tableSize};
+ghost use Rattle.places.specs.Layout.{hourPlaces, lastPlace, rowSize, tableSize};
 ghost use Rattle.places.specs.Hours.{Small, clearsFirst, clearsLast, gapsTurn};
 ghost use Rattle.setup.specs.Setup.{rowPlaces, StepsHeld, PartHeld, TableOf, RowsAre, RangedOf, RangesAre};
 use places::layout::HOUR_LIST;
@@ -124,9 +124,9 @@ pub fn fill_ranges(
     gap: &mut [u32],
 ) -> Ranges
     requires held { ⌜ StepsHeld (now sides) (now prices) (now quantities) ends × Small lastPlace most × Small maxPrice root × (length (now gap) ≡ tableSize) ⌝ }
-    requires within { ⌜ ((h : ℕ) → h < dayHours → getD off h 0 ≤ getD most h 0) ⌝ }
+    requires within { ⌜ ((h : ℕ) → h < hourPlaces → getD off h 0 ≤ getD most h 0) ⌝ }
     requires tables { ⌜ (length (now «unit_prices») ≡ tableSize) × RowsAre (now sides) (now prices) (now quantities) ends off most (now «unit_prices») ⌝ }
-    ensures small { λ r. ⌜ (length (r .first) ≡ dayHours) × (length (r .last) ≡ dayHours) × (length (r .turn) ≡ dayHours) × Small lastPlace (r .last) ⌝ }
+    ensures small { λ r. ⌜ (length (r .first) ≡ hourPlaces) × (length (r .last) ≡ hourPlaces) × (length (r .turn) ≡ hourPlaces) × Small lastPlace (r .last) ⌝ }
     ensures ranges { λ r. ⌜ RangesAre (now (sides .entry)) (now (prices .entry)) (now (quantities .entry)) ends off most root
         (now («unit_prices» .entry)) (now (gap .exit)) (r .first) (r .last) (r .turn) ⌝ }
 {

@@ -8,7 +8,7 @@ use lib.ListN.{getD}
 use Rattle.records.specs.Layout.{lastHour}
 use Rattle.book.specs.Refusals.{refusal}
 use Rattle.rules.specs.Orders.{Block}
-use Rattle.rules.specs.Outcome.{Published, published}
+use Rattle.rules.specs.Outcome.{PublishedOutcome, published}
 use Rattle.orders.specs.Bridge.{ordersOf, dayFrom}
 use Rattle.text.specs.Text.{text, field, semicolon, lineFeed}
 
@@ -40,7 +40,7 @@ blockLines (s ∷ blocks) [] = []
 blockLines (s ∷ blocks) (taken ∷ chosen) = blockLine (s .number) taken ++ blockLines blocks chosen
 
 -- The sheet of an outcome: the hours, the blocks, the welfare.
-unfoldable pub outcomeSheet : List Block → Published → List ℕ
+unfoldable pub outcomeSheet : List Block → PublishedOutcome → List ℕ
 outcomeSheet blocks outcome =
     text "hour;cents;tenths\n"
     ++ (hourLines lastHour (ofHour (outcome .prices)) (ofHour (outcome .traded))

@@ -224,20 +224,20 @@ never-rises table falls (suc n) i k =
 
 module _ (table : List ℕ) (price first last m : ℕ) (out : List ℕ) (falls : NotRising table) (inside : last < length table)
     (g : GapTable table price first last m out) where
-  between : (i j : ℕ) → i ≤ j → j ≤ last → getD table j 0 ≤ getD table i 0
-  between i j a b =
+  falls-between : (i j : ℕ) → i ≤ j → j ≤ last → getD table j 0 ≤ getD table i 0
+  falls-between i j a b =
       let e : i + (j - i) ≡ j = omega arith in
       rw e at (never-rises table falls (j - i) i (omega arith))
 
   rises-once : (i : ℕ) → m ≤ i → i < last → getD out i 0 ≤ getD out (i + 1) 0
   rises-once i a b =
-      omega (arith, g .gaps i (omega (arith, g .from)) b, g .gaps m (g .from) (omega arith), g .zeroAt, between (m + 1) (i + 1) (omega arith) (omega arith))
+      omega (arith, g .gaps i (omega (arith, g .from)) b, g .gaps m (g .from) (omega arith), g .zeroAt, falls-between (m + 1) (i + 1) (omega arith) (omega arith))
 
   falls-once : (i : ℕ) → first ≤ i → i < m → getD out (i + 1) 0 ≤ getD out i 0
   falls-once i a b =
       let e : m - 1 + 1 ≡ m = omega arith in
       let top = rw e at (g .gaps (m - 1) (omega arith) (omega (arith, g .to))) in
-      omega (arith, g .gaps i a (omega (arith, g .to)), top, g .zeroAt, between (i + 1) m (omega arith) (g .to))
+      omega (arith, g .gaps i a (omega (arith, g .to)), top, g .zeroAt, falls-between (i + 1) m (omega arith) (g .to))
 
   up : (n i : ℕ) → m ≤ i → i + n ≤ last → getD out i 0 ≤ getD out (i + n) 0
   up zero i a b = rw add-zero (omega arith)

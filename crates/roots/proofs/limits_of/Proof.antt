@@ -3,7 +3,8 @@ use Prim.Native.Nat.{_-_, _<_}
 use mathlib.Core.Path.{_≡_, refl}
 use native.Mathlib.Omega.{arith}
 use lib.ListN.{length, getD, length-set}
-use Rattle.places.specs.Layout.{mostBlocks, mostLimit}
+use Rattle.book.specs.Bounds.{mostBlocks}
+use Rattle.places.specs.Layout.{mostLimit}
 use Rattle.places.specs.Hours.{Small}
 use Rattle.places.proofs.NumberLaws.{zeros}
 use Rattle.roots.proofs.SizeLaws.{limit-fits}

@@ -1,7 +1,7 @@
 -- `places::added::moved` meets its contract: the first h places are moved. Assumes nothing.
 use Prim.Native.Nat.{_-_}
 use native.Mathlib.Omega.{arith}
-use Rattle.places.specs.Layout.{dayHours}
+use Rattle.places.specs.Layout.{hourPlaces}
 use Rattle.places.proofs.HourColumnLaws.{bit-times-le, MovedTo, moved-start, moved-next, moved-all}
 use borrow.Author.Needs.{needs}
 use Rattle.places.proofs.added.moved.Statement.{statement}
@@ -11,7 +11,7 @@ abbrev Inv-loop : tie.InvT-loop
 Inv-loop hours quantity r₀ h₀ rest₀ r h rest = MovedTo r₀ hours quantity h rest r
 
 abbrev μ-loop : tie.MeasureT-loop
-μ-loop hours quantity r₀ h₀ rest₀ r h rest = dayHours - h
+μ-loop hours quantity r₀ h₀ rest₀ r h rest = hourPlaces - h
 
 loop-holds : tie.Need-loop-holds Inv-loop μ-loop
 loop-holds c = moved-start _ _ _ (search needs)

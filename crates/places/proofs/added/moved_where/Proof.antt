@@ -4,7 +4,7 @@ use mathlib.Core.Path.{_≡_}
 use lib.ListN.{length, getD}
 use native.Mathlib.Omega.{arith}
 use native.Mathlib.Numerals.{sub-one}
-use Rattle.places.specs.Layout.{blockRows, dayHours, mostAdded}
+use Rattle.places.specs.Layout.{rowsColumn, hourPlaces, mostAdded}
 use Rattle.places.proofs.NumberLaws.{times-le}
 use Rattle.places.proofs.AddedLaws.{RowTo, row-start, row-next, row-all}
 use borrow.Author.Needs.{needs}
@@ -15,7 +15,7 @@ abbrev Inv-loop : tie.InvT-loop
 Inv-loop test blocks i times row r₀ h₀ r h = RowTo r₀ blocks i times h r
 
 abbrev μ-loop : tie.MeasureT-loop
-μ-loop test blocks i times row r₀ h₀ r h = dayHours - h
+μ-loop test blocks i times row r₀ h₀ r h = hourPlaces - h
 
 number-of-requires : tie.Need-number-of-requires Inv-loop μ-loop
 number-of-requires c κs = search needs
@@ -27,13 +27,13 @@ add-row : tie.Need-add-row Inv-loop μ-loop
 add-row c = search needs
 
 -- an array of 24
-size : (s : tie.Start Inv-loop μ-loop) → length (s .args .places) ≡ dayHours
+size : (s : tie.Start Inv-loop μ-loop) → length (s .args .places) ≡ hourPlaces
 size s = search needs
 
 -- what is added is at most the row
 added : (c : tie.After-shared-slice-known2 Inv-loop μ-loop) →
     c .before .before .before .number-of .result * getD (c .before .before .before .before .before .args .blocks .now)
-    (blockRows + dayHours * c .before .before .before .before .before .args .i + c .before .before .loop .h) 0 ≤ mostAdded
+    (rowsColumn + hourPlaces * c .before .before .before .before .before .args .i + c .before .before .loop .h) 0 ≤ mostAdded
 added c =
     let s = c .before .before .before .before .before in
     let row = rw sub-one at (s .pre .0 .rowsFit (s .args .i) (suc (c .before .before .loop .h))) in
@@ -41,7 +41,7 @@ added c =
       arith,
       row,
       times-le (s .args .test) (c .before .before .before .number-of .result)
-          (getD (s .args .blocks .now) (blockRows + dayHours * s .args .i + c .before .before .loop .h) 0) (c .before .before .before .number-of .ensures),
+          (getD (s .args .blocks .now) (rowsColumn + hourPlaces * s .args .i + c .before .before .loop .h) 0) (c .before .before .before .number-of .ensures),
     )
 
 loop-holds : tie.Need-loop-holds Inv-loop μ-loop

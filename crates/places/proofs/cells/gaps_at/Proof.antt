@@ -2,7 +2,7 @@
 use Prim.Native.Nat.{_+_, _-_, _*_}
 use lib.ListN.{getD}
 use native.Mathlib.Omega.{arith}
-use Rattle.places.specs.Layout.{dayHours, rowSize}
+use Rattle.places.specs.Layout.{hourPlaces, rowSize}
 use Rattle.places.proofs.CellLaws.{GapsTo, gaps-start, gaps-next, passed-fits, gaps-out, gaps-all}
 use borrow.Author.Needs.{needs}
 use Rattle.places.proofs.cells.gaps_at.Statement.{statement}
@@ -12,7 +12,7 @@ abbrev Inv-loop : tie.InvT-loop
 Inv-loop gap first last places sum₀ h₀ sum h = GapsTo gap first last places h sum
 
 abbrev μ-loop : tie.MeasureT-loop
-μ-loop gap first last places sum₀ h₀ sum h = dayHours - h
+μ-loop gap first last places sum₀ h₀ sum h = hourPlaces - h
 
 loop-holds : tie.Need-loop-holds Inv-loop μ-loop
 loop-holds c = gaps-start _ _ _ _

@@ -2,7 +2,7 @@
 use Prim.Native.Nat.{_+_, _-_, _*_, _^_, _<_}
 use lib.ListN.{getD}
 use native.Mathlib.Omega.{arith}
-use Rattle.places.specs.Layout.{dayHours, rowSize}
+use Rattle.places.specs.Layout.{hourPlaces, rowSize}
 use Rattle.places.specs.Hours.{larger}
 use Rattle.places.proofs.CellLaws.{LeastTo, least-start, least-next, least-all}
 use Rattle.places.proofs.NumberLaws.{smaller-below}
@@ -14,7 +14,7 @@ abbrev Inv-loop : tie.InvT-loop
 Inv-loop gap turn from to sum₀ h₀ sum h = LeastTo gap turn from to h sum
 
 abbrev μ-loop : tie.MeasureT-loop
-μ-loop gap turn from to sum₀ h₀ sum h = dayHours - h
+μ-loop gap turn from to sum₀ h₀ sum h = hourPlaces - h
 
 -- a number of the gap table
 gap-small : (c : tie.After-shared-slice-known4 Inv-loop μ-loop) →

@@ -2,7 +2,7 @@
 use Prim.Native.Nat.{_+_, _-_, _*_}
 use lib.ListN.{getD}
 use native.Mathlib.Omega.{arith}
-use Rattle.places.specs.Layout.{dayHours, rowSize}
+use Rattle.places.specs.Layout.{hourPlaces, rowSize}
 use Rattle.places.proofs.CellLaws.{PricesTo, prices-start, prices-next, prices-all}
 use borrow.Author.Needs.{needs}
 use Rattle.places.proofs.cells.prices_at.Statement.{statement}
@@ -12,7 +12,7 @@ abbrev Inv-loop : tie.InvT-loop
 Inv-loop low places prices₀ h₀ prices h = PricesTo low places h prices
 
 abbrev μ-loop : tie.MeasureT-loop
-μ-loop low places prices₀ h₀ prices h = dayHours - h
+μ-loop low places prices₀ h₀ prices h = hourPlaces - h
 
 loop-holds : tie.Need-loop-holds Inv-loop μ-loop
 loop-holds c = prices-start _ _

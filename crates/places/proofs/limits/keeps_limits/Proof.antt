@@ -3,7 +3,7 @@ use Prim.Native.Nat.{_≤_}
 use mathlib.Core.Path.{_≡_, refl, sym, _∙_}
 use native.Mathlib.Omega.{arith}
 use borrow.Author.Tests.{not-true, not-false}
-use Rattle.places.specs.Layout.{mostBlocks}
+use Rattle.book.specs.Bounds.{mostBlocks}
 use Rattle.places.specs.Blocks.{allKeep}
 use Rattle.places.proofs.LimitLaws.{keep-none, keep-fails, keep-passes, keep-skips}
 use borrow.Author.Needs.{needs}

@@ -2,7 +2,7 @@
 use Prim.Native.Nat.{_-_}
 use native.Mathlib.Omega.{arith}
 use lib.ListN.{getD}
-use Rattle.places.specs.Layout.{dayHours}
+use Rattle.places.specs.Layout.{hourPlaces}
 use Rattle.places.proofs.HourColumnLaws.{bit-times-le, SummedTo, sum-start, sum-next, sum-all}
 use borrow.Author.Needs.{needs}
 use Rattle.places.proofs.limits.price_sum.Statement.{statement}
@@ -12,7 +12,7 @@ abbrev Inv-loop : tie.InvT-loop
 Inv-loop prices hours sum₀ h₀ rest₀ sum h rest = SummedTo prices hours h rest sum
 
 abbrev μ-loop : tie.MeasureT-loop
-μ-loop prices hours sum₀ h₀ rest₀ sum h rest = dayHours - h
+μ-loop prices hours sum₀ h₀ rest₀ sum h rest = hourPlaces - h
 
 loop-holds : tie.Need-loop-holds Inv-loop μ-loop
 loop-holds c = sum-start _ _

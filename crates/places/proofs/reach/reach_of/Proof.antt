@@ -1,7 +1,7 @@
 -- `places::reach::reach_of` meets its contract: the reach of the hours before this one. Assumes nothing.
 use Prim.Native.Nat.{_-_}
 use native.Mathlib.Omega.{arith}
-use Rattle.places.specs.Layout.{dayHours}
+use Rattle.places.specs.Layout.{hourPlaces}
 use Rattle.places.proofs.ReachLaws.{ReachTo, reach-start, reach-next, reach-all}
 use borrow.Author.Needs.{needs}
 use Rattle.places.proofs.reach.reach_of.Statement.{statement}
@@ -11,7 +11,7 @@ abbrev Inv-loop : tie.InvT-loop
 Inv-loop first last least free balances₀ from₀ to₀ h₀ balances from to h = ReachTo first last least free h balances from to
 
 abbrev μ-loop : tie.MeasureT-loop
-μ-loop first last least free balances₀ from₀ to₀ h₀ balances from to h = dayHours - h
+μ-loop first last least free balances₀ from₀ to₀ h₀ balances from to h = hourPlaces - h
 
 loop-holds : tie.Need-loop-holds Inv-loop μ-loop
 loop-holds c = reach-start _ _ _ _

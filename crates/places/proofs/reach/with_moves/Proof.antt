@@ -5,7 +5,7 @@ use mathlib.Core.Path.{_≡_}
 use lib.ListN.{length, getD}
 use native.Mathlib.Omega.{arith}
 use native.Mathlib.Numerals.{sub-one}
-use Rattle.places.specs.Layout.{blockRows, dayHours, mostAdded}
+use Rattle.places.specs.Layout.{rowsColumn, hourPlaces, mostAdded}
 use Rattle.places.proofs.NumberLaws.{times-le}
 use Rattle.places.proofs.AddedLaws.{RowTo, row-start, row-next, row-all}
 use borrow.Author.Needs.{needs}
@@ -16,7 +16,7 @@ abbrev Inv-loop : tie.InvT-loop
 Inv-loop blocks i must may row more₀ freer₀ h₀ more freer h = RowTo more₀ blocks i must h more × RowTo freer₀ blocks i may h freer
 
 abbrev μ-loop : tie.MeasureT-loop
-μ-loop blocks i must may row more₀ freer₀ h₀ more freer h = dayHours - h
+μ-loop blocks i must may row more₀ freer₀ h₀ more freer h = hourPlaces - h
 
 number-of-requires : tie.Need-number-of-requires Inv-loop μ-loop
 number-of-requires c κs = search needs
@@ -31,20 +31,20 @@ add-row : tie.Need-add-row Inv-loop μ-loop
 add-row c = search needs
 
 -- arrays of 24
-least-size : (s : tie.Start Inv-loop μ-loop) → length (s .args .least) ≡ dayHours
+least-size : (s : tie.Start Inv-loop μ-loop) → length (s .args .least) ≡ hourPlaces
 least-size s = search needs
 
-free-size : (s : tie.Start Inv-loop μ-loop) → length (s .args .free) ≡ dayHours
+free-size : (s : tie.Start Inv-loop μ-loop) → length (s .args .free) ≡ hourPlaces
 free-size s = search needs
 
 -- what is added is at most the row
 added : (c : tie.After-shared-slice-known2 Inv-loop μ-loop) (t : Bool) (n : ℕ) → n ≡ cond t 1 0 →
     n * getD (c .before .before .before .before .before .before .args .blocks .now)
-    (blockRows + dayHours * c .before .before .before .before .before .before .args .i + c .before .before .loop .h) 0 ≤ mostAdded
+    (rowsColumn + hourPlaces * c .before .before .before .before .before .before .args .i + c .before .before .loop .h) 0 ≤ mostAdded
 added c t n e =
     let s = c .before .before .before .before .before .before in
     let row = rw sub-one at (s .pre .0 .rowsFit (s .args .i) (suc (c .before .before .loop .h))) in
-    omega (arith, row, times-le t n (getD (s .args .blocks .now) (blockRows + dayHours * s .args .i + c .before .before .loop .h) 0) e)
+    omega (arith, row, times-le t n (getD (s .args .blocks .now) (rowsColumn + hourPlaces * s .args .i + c .before .before .loop .h) 0) e)
 
 loop-holds : tie.Need-loop-holds Inv-loop μ-loop
 loop-holds c = (row-start _ _ _ _ (least-size (c .before .before .before)), row-start _ _ _ _ (free-size (c .before .before .before)))

@@ -1,7 +1,7 @@
 -- `places::trades::hours_traded` meets its contract: what is traded in the hours before h. Assumes nothing.
 use Prim.Native.Nat.{_+_, _-_}
 use native.Mathlib.Omega.{arith}
-use Rattle.places.specs.Layout.{dayHours}
+use Rattle.places.specs.Layout.{hourPlaces}
 use Rattle.places.specs.Steps.{stepsAt}
 use Rattle.places.proofs.StepLaws.{hour-part}
 use Rattle.places.proofs.TradeLaws.{TradedTo, traded-start, traded-next, traded-all, hour-of-columns}
@@ -16,7 +16,7 @@ abbrev Inv-loop : tie.InvT-loop
 Inv-loop sides prices quantities ends middles sales buys traded₀ h₀ traded h = TradedTo (stepsAt ends sides prices quantities) sales buys middles h traded
 
 abbrev μ-loop : tie.MeasureT-loop
-μ-loop sides prices quantities ends middles sales buys traded₀ h₀ traded h = dayHours - h
+μ-loop sides prices quantities ends middles sales buys traded₀ h₀ traded h = hourPlaces - h
 
 loop-holds : tie.Need-loop-holds Inv-loop μ-loop
 loop-holds c = traded-start _ _ _ _

@@ -2,7 +2,7 @@
 use Prim.Native.Nat.{_-_, _*_, _≤_}
 use native.Mathlib.Omega.{arith}
 use borrow.Author.Needs.{needs}
-use Rattle.places.specs.Layout.{dayHours, rowSize}
+use Rattle.places.specs.Layout.{hourPlaces, rowSize}
 use Rattle.rules.specs.Orders.{maxPrice}
 use Rattle.roots.proofs.losses.gaps_from.Statement.{statement}
 use Rattle.roots.proofs.losses.gaps_from.Tie as tie
@@ -12,10 +12,10 @@ use Rattle.roots.proofs.losses.gap_down.Reads as gap-down-reads
 use Rattle.roots.proofs.losses.gap_up.Reads as gap-up-reads
 
 abbrev Inv-loop : tie.InvT-loop
-Inv-loop unitPrices off prices sum₀ h₀ sum h = (h ≤ dayHours) × (sum ≤ h * (2 * (rowSize * maxPrice)))
+Inv-loop unitPrices off prices sum₀ h₀ sum h = (h ≤ hourPlaces) × (sum ≤ h * (2 * (rowSize * maxPrice)))
 
 abbrev μ-loop : tie.MeasureT-loop
-μ-loop unitPrices off prices sum₀ h₀ sum h = dayHours - h
+μ-loop unitPrices off prices sum₀ h₀ sum h = hourPlaces - h
 
 loop-holds : tie.Need-loop-holds Inv-loop μ-loop
 loop-holds c = (omega arith, omega arith)

@@ -4,7 +4,7 @@ use mathlib.Core.Path.{_≡_, refl}
 use native.Mathlib.Omega.{arith}
 use native.Mathlib.Nat.{div-le-of-le-mul}
 use lib.ListN.{length, length-set}
-use Rattle.places.specs.Layout.{dayHours, lastPlace}
+use Rattle.places.specs.Layout.{hourPlaces, lastPlace}
 use Rattle.places.specs.Hours.{Small}
 use Rattle.places.proofs.NumberLaws.{zeros}
 use Rattle.roots.proofs.SizeLaws.{set-small}
@@ -15,13 +15,13 @@ use Rattle.roots.proofs.moves.averaged.Reads as reads
 use Rattle.roots.proofs.moves.averaged.Lts as lts
 
 abbrev Inv-loop : tie.InvT-loop
-Inv-loop n sum r₀ h₀ r h = (length r ≡ dayHours) × Small lastPlace r
+Inv-loop n sum r₀ h₀ r h = (length r ≡ hourPlaces) × Small lastPlace r
 
 abbrev μ-loop : tie.MeasureT-loop
-μ-loop n sum r₀ h₀ r h = dayHours - h
+μ-loop n sum r₀ h₀ r h = hourPlaces - h
 
 loop-holds : tie.Need-loop-holds Inv-loop μ-loop
-loop-holds c = (refl, λ i. omega (arith, zeros dayHours i))
+loop-holds c = (refl, λ i. omega (arith, zeros hourPlaces i))
 
 mul-r : tie.Need-mul-r Inv-loop μ-loop
 mul-r c = search needs

@@ -3,7 +3,7 @@ use Prim.Native.Nat.{_-_, _<_}
 use mathlib.Core.Path.{_≡_, refl}
 use native.Mathlib.Omega.{arith}
 use lib.ListN.{length, length-set}
-use Rattle.places.specs.Layout.{dayHours}
+use Rattle.places.specs.Layout.{hourPlaces}
 use Rattle.rules.specs.Orders.{maxPrice}
 use Rattle.places.specs.Hours.{Small}
 use Rattle.places.proofs.NumberLaws.{zeros}
@@ -16,13 +16,13 @@ use Rattle.roots.proofs.moves.closer.Lts as lts
 use Rattle.roots.proofs.moves.nearer.Reads as nearer-reads
 
 abbrev Inv-loop : tie.InvT-loop
-Inv-loop a b r₀ h₀ r h = (length r ≡ dayHours) × Small maxPrice r
+Inv-loop a b r₀ h₀ r h = (length r ≡ hourPlaces) × Small maxPrice r
 
 abbrev μ-loop : tie.MeasureT-loop
-μ-loop a b r₀ h₀ r h = dayHours - h
+μ-loop a b r₀ h₀ r h = hourPlaces - h
 
 loop-holds : tie.Need-loop-holds Inv-loop μ-loop
-loop-holds c = (refl, λ i. omega (arith, zeros dayHours i))
+loop-holds c = (refl, λ i. omega (arith, zeros hourPlaces i))
 
 mul-nearer : tie.Need-mul-nearer Inv-loop μ-loop
 mul-nearer c = search needs

@@ -3,7 +3,7 @@ use mathlib.Core.Path.{_≡_, sym, _∙_}
 use lib.ListN.{length}
 use native.Mathlib.Omega.{arith}
 use borrow.Author.Tests.{not-true, not-false}
-use Rattle.places.specs.Layout.{dayHours}
+use Rattle.places.specs.Layout.{hourPlaces}
 use Rattle.places.specs.Hours.{clearsFirst, clearsLast}
 use Rattle.places.proofs.CellLaws.{places-small}
 use Rattle.search.proofs.DecidedLaws.{decided-unclear, decided-worse, decided-broken, decided-better}
@@ -26,7 +26,7 @@ abbrev priced : tie.After-keeps-limits → tie.After-prices-at
 priced c = c .before .before .before
 
 -- an array of 24
-size : (s : tie.Start) → length (s .args .node .places) ≡ dayHours
+size : (s : tie.Start) → length (s .args .node .places) ≡ hourPlaces
 size s = search needs
 
 sub-gaps-at : tie.Need-sub-gaps-at

@@ -3,7 +3,7 @@ use mathlib.Core.Path.{_≡_, sym, _∙_}
 use lib.ListN.{length, length-take, length-drop}
 use native.Mathlib.Omega.{arith}
 use borrow.Author.Tests.{not-true, not-false}
-use Rattle.places.specs.Layout.{dayHours}
+use Rattle.places.specs.Layout.{hourPlaces}
 use Rattle.places.specs.Hours.{gapsTurn}
 use Rattle.search.proofs.DropLaws.{dropped-by-loss, dropped-unbalanced, dropped-by-gaps, dropped-by-limit, judged-dropped, judged-as-it-was, judged-open}
 use Rattle.places.proofs.ReachLaws.{to-fits, to-small, from-small}
@@ -33,13 +33,13 @@ abbrev back : tie.After-prices-at2 → tie.Else3
 back c = balanced (bounded (c .before .before) .before)
 
 -- arrays of 24
-from-size : (f : tie.After-reach-at) → length (f .reach-at .result .from) ≡ dayHours
+from-size : (f : tie.After-reach-at) → length (f .reach-at .result .from) ≡ hourPlaces
 from-size f = search needs
 
-to-size : (f : tie.After-reach-at) → length (f .reach-at .result .to) ≡ dayHours
+to-size : (f : tie.After-reach-at) → length (f .reach-at .result .to) ≡ hourPlaces
 to-size f = search needs
 
-turn-size : (s : tie.Start) → length (gapsTurn (s .args .hours .now)) ≡ dayHours
+turn-size : (s : tie.Start) → length (gapsTurn (s .args .hours .now)) ≡ hourPlaces
 turn-size s = simp (length-take, length-drop) (omega (arith, s .pre .1))
 
 returns : tie.Need-returns

@@ -1,7 +1,7 @@
 -- `setup::with_rows` meets its contract: the numbers before k of the rows stand. Assumes nothing.
 use Prim.Native.Nat.{_-_, _*_}
 use native.Mathlib.Omega.{arith}
-use Rattle.places.specs.Layout.{dayHours}
+use Rattle.places.specs.Layout.{hourPlaces}
 use Rattle.setup.proofs.SetupTwinLaws.{RowsDone, trade-small, rows-begun, rows-more, rows-whole}
 use borrow.Author.Needs.{needs}
 use Rattle.setup.proofs.blocks.with_rows.Statement.{statement}
@@ -11,7 +11,7 @@ abbrev Inv-loop : tie.InvT-loop
 Inv-loop count blocks r₀ k₀ r k = RowsDone blocks count k r
 
 abbrev μ-loop : tie.MeasureT-loop
-μ-loop count blocks r₀ k₀ r k = dayHours * count - k
+μ-loop count blocks r₀ k₀ r k = hourPlaces * count - k
 
 loop-holds : tie.Need-loop-holds Inv-loop μ-loop
 loop-holds c = rows-begun _ _ (search needs) (c .pre .1)

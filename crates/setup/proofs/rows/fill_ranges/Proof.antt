@@ -2,7 +2,7 @@
 use Prim.Native.Nat.{_-_}
 use mathlib.Core.Path.{sym, _∙_}
 use native.Mathlib.Omega.{arith}
-use Rattle.places.specs.Layout.{dayHours}
+use Rattle.places.specs.Layout.{hourPlaces}
 use Rattle.setup.proofs.SetupTableLaws.{part-held, part-length, row-wide, part-row, RangesTo, ranges-start, ranges-next, ranges-all}
 use borrow.Author.Needs.{needs}
 use Rattle.setup.proofs.rows.fill_ranges.Statement.{statement}
@@ -13,7 +13,7 @@ Inv-loop sides prices quantities unitPrices gap₀ ends off most root first₀ l
     RangesTo sides prices quantities ends off most root unitPrices gap first last turn h
 
 abbrev μ-loop : tie.MeasureT-loop
-μ-loop sides prices quantities unitPrices gap₀ ends off most root first₀ last₀ turn₀ h₀ gap first last turn h = dayHours - h
+μ-loop sides prices quantities unitPrices gap₀ ends off most root first₀ last₀ turn₀ h₀ gap first last turn h = hourPlaces - h
 
 loop-holds : tie.Need-loop-holds Inv-loop μ-loop
 loop-holds c = ranges-start _ _ _ _ _ _ _ _ _ (c .before .before .before .before .before .pre .0 .3)

@@ -2,7 +2,7 @@
 use Prim.Native.Nat.{_-_}
 use mathlib.Core.Path.{sym, _∙_}
 use native.Mathlib.Omega.{arith}
-use Rattle.places.specs.Layout.{dayHours}
+use Rattle.places.specs.Layout.{hourPlaces}
 use Rattle.setup.proofs.SetupTableLaws.{part-held, part-length, row-wide, RowsTo, rows-start, rows-next, rows-all}
 use borrow.Author.Needs.{needs}
 use Rattle.setup.proofs.rows.fill_tables.Statement.{statement}
@@ -12,7 +12,7 @@ abbrev Inv-loop : tie.InvT-loop
 Inv-loop sides prices quantities unitPrices₀ ends off most h₀ unitPrices h = RowsTo sides prices quantities ends off most unitPrices h
 
 abbrev μ-loop : tie.MeasureT-loop
-μ-loop sides prices quantities unitPrices₀ ends off most h₀ unitPrices h = dayHours - h
+μ-loop sides prices quantities unitPrices₀ ends off most h₀ unitPrices h = hourPlaces - h
 
 loop-holds : tie.Need-loop-holds Inv-loop μ-loop
 loop-holds c = let t = c .before .before .before .before .pre .1 in rows-start _ _ _ _ _ _ _ (t .0) (t .1)

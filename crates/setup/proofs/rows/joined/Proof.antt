@@ -1,6 +1,6 @@
 -- `setup::joined` meets its contract: the hours before h stand in the three columns. Assumes nothing.
 use Prim.Native.Nat.{_-_}
-use Rattle.places.specs.Layout.{dayHours}
+use Rattle.places.specs.Layout.{hourPlaces}
 use Rattle.setup.proofs.SetupTwinLaws.{JoinedTo, joined-start, joined-next, joined-all}
 use borrow.Author.Needs.{needs}
 use Rattle.setup.proofs.rows.joined.Statement.{statement}
@@ -10,7 +10,7 @@ abbrev Inv-loop : tie.InvT-loop
 Inv-loop first last turn r₀ h₀ r h = JoinedTo first last turn h r
 
 abbrev μ-loop : tie.MeasureT-loop
-μ-loop first last turn r₀ h₀ r h = dayHours - h
+μ-loop first last turn r₀ h₀ r h = hourPlaces - h
 
 loop-holds : tie.Need-loop-holds Inv-loop μ-loop
 loop-holds c = joined-start _ _ _

@@ -26,6 +26,9 @@ pub struct Ranges {
     pub turn: [u32; HOURS],
 }
 
+// The places of a row that are filled are as many as the last that the hour's blocks can reach, and these: it and the one above it.
+const LAST_AND_ABOVE: usize = 2;
+
 // The price table of an hour, whose steps stand from a up to e.
 fn fill_row(
     sides: &[u8],
@@ -40,20 +43,21 @@ fn fill_row(
     fill_prices(&sides[a..e], &prices[a..e], &quantities[a..e], off, row);
 }
 
-// The price tables of the hours, row after row.
+// The price tables of the hours, row after row: of each the places that the blocks can reach, up to most, and the one above it. The others stay as they were.
 pub fn fill_tables(
     sides: &[u8],
     prices: &[u32],
     quantities: &[u32],
     ends: [u16; HOURS + 1],
     off: [u32; HOURS],
+    most: [u32; HOURS],
     unit_prices: &mut [u32],
 )
 {
     let mut h: usize = 0;
     while h < HOURS {
         let from = h * ROW;
-        let to = from + ROW;
+        let to = from + (most[h] as usize) + LAST_AND_ABOVE;
         fill_row(
             sides,
             prices,
@@ -111,7 +115,7 @@ pub fn fill_ranges(
     let mut h: usize = 0;
     while h < HOURS {
         let from = h * ROW;
-        let to = from + ROW;
+        let to = from + (most[h] as usize) + LAST_AND_ABOVE;
         let range = fill_hour(
             sides,
             prices,
