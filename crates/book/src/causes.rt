@@ -44,7 +44,11 @@ fn has_wrong_head(book: &[u8]) -> bool
     ensures { λ r. ⌜ r ≡ wrongHead (now (book .entry)) ⌝ }
 {
     (day_hours(book) != NORMAL_HOURS)
-        | !is_within(FIRST_EDITION as u32, edition_of(book) as u32, LAST_EDITION as u32)
+        | !is_within(
+            FIRST_EDITION as u32,
+            edition_of(book) as u32,
+            LAST_EDITION as u32,
+        )
         | is_nonzero(book, HEAD_REST_OFFSET, HEAD_REST_SIZE)
 }
 
