@@ -15,7 +15,7 @@ use Rattle.tables.specs.Tables.{PriceTable, AllOf, ClearRange, GapTable}
 use Rattle.rules.specs.Orders.{maxPrice}
 use Rattle.book.specs.Bounds.{mostBlocks}
 use Rattle.orders.specs.Layout.{stepPlaces}
-use Rattle.places.specs.Layout.{hourPlaces, mostQuantity, lastPlace, rowSize, hoursColumn, quantityColumn, limitColumn, againstColumn, gainColumn, aheadColumn, rowsColumn, blockListSize}
+use Rattle.places.specs.Layout.{hourPlaces, mostQuantity, lastPlace, hoursColumn, quantityColumn, limitColumn, againstColumn, gainColumn, aheadColumn, rowsColumn, blockListSize}
 use Rattle.places.specs.Hours.{Small, FirstSmall, sumOfHours}
 use Rattle.places.specs.Blocks.{sideAt, hoursAt, quantityAt, limitAt, againstAt, gainAt, aheadAt, behindAt, rowQuantity}
 use Rattle.search.specs.Tables.{Tables}
@@ -55,8 +55,12 @@ hourPart ends h column = fromTo (getD ends h 0) (getD ends (h + 1) 0) column
 abbrev pub rowPlaces : ℕ → ℕ
 rowPlaces most = most + 2
 
-abbrev pub tableRow : List ℕ → (h most : ℕ) → List ℕ
-tableRow table h most = take (rowPlaces most) (drop (h * rowSize) table)
+abbrev pub tableRow : (width : ℕ) → List ℕ → (h most : ℕ) → List ℕ
+tableRow width table h most = take (rowPlaces most) (drop (h * width) table)
+
+-- No hour's blocks reach past a row of so many places.
+abbrev pub RowsFit : ℕ → List ℕ → Type 0
+RowsFit width most = (h : ℕ) → h < hourPlaces → rowPlaces (getD most h 0) ≤ width
 
 -- THE TABLES
 -- A row is the price table of the steps from a up to e.
@@ -64,12 +68,12 @@ abbrev pub TableOf : (sides prices quantities : List ℕ) (a e off : ℕ) (row :
 TableOf sides prices quantities a e off row = PriceTable (fromTo a e sides) (fromTo a e prices) (fromTo a e quantities) off row
 
 -- The row of hour h + 1 is its price table.
-abbrev pub RowIs : (sides prices quantities ends off most unitPrices : List ℕ) → ℕ → Type 0
-RowIs sides prices quantities ends off most unitPrices h =
-    PriceTable (hourPart ends h sides) (hourPart ends h prices) (hourPart ends h quantities) (getD off h 0) (tableRow unitPrices h (getD most h 0))
+abbrev pub RowIs : (width : ℕ) (sides prices quantities ends off most unitPrices : List ℕ) → ℕ → Type 0
+RowIs width sides prices quantities ends off most unitPrices h =
+    PriceTable (hourPart ends h sides) (hourPart ends h prices) (hourPart ends h quantities) (getD off h 0) (tableRow width unitPrices h (getD most h 0))
 
-abbrev pub RowsAre : (sides prices quantities ends off most unitPrices : List ℕ) → Type 0
-RowsAre sides prices quantities ends off most unitPrices = (h : ℕ) → h < hourPlaces → RowIs sides prices quantities ends off most unitPrices h
+abbrev pub RowsAre : (width : ℕ) (sides prices quantities ends off most unitPrices : List ℕ) → Type 0
+RowsAre width sides prices quantities ends off most unitPrices = (h : ℕ) → h < hourPlaces → RowIs width sides prices quantities ends off most unitPrices h
 
 -- The places at which an hour clears, of those up to most, and its gaps there at a price, the least at turn.
 pub record Ranged (sides prices quantities : List ℕ) (off most price first last turn : ℕ) (unitPrices gap : List ℕ) : Type 0 where
@@ -83,14 +87,14 @@ abbrev pub RangedOf : (sides prices quantities : List ℕ) (a e off most price f
 RangedOf sides prices quantities a e off most price first last turn unitPrices gap =
     Ranged (fromTo a e sides) (fromTo a e prices) (fromTo a e quantities) off most price first last turn unitPrices gap
 
-abbrev pub RangedAt : (sides prices quantities ends off most root unitPrices gap first last turn : List ℕ) → ℕ → Type 0
-RangedAt sides prices quantities ends off most root unitPrices gap first last turn h =
+abbrev pub RangedAt : (width : ℕ) (sides prices quantities ends off most root unitPrices gap first last turn : List ℕ) → ℕ → Type 0
+RangedAt width sides prices quantities ends off most root unitPrices gap first last turn h =
     Ranged (hourPart ends h sides) (hourPart ends h prices) (hourPart ends h quantities) (getD off h 0) (getD most h 0) (getD root h 0) (getD first h 0)
-    (getD last h 0) (getD turn h 0) (tableRow unitPrices h (getD most h 0)) (tableRow gap h (getD most h 0))
+    (getD last h 0) (getD turn h 0) (tableRow width unitPrices h (getD most h 0)) (tableRow width gap h (getD most h 0))
 
-abbrev pub RangesAre : (sides prices quantities ends off most root unitPrices gap first last turn : List ℕ) → Type 0
-RangesAre sides prices quantities ends off most root unitPrices gap first last turn =
-    (h : ℕ) → h < hourPlaces → RangedAt sides prices quantities ends off most root unitPrices gap first last turn h
+abbrev pub RangesAre : (width : ℕ) (sides prices quantities ends off most root unitPrices gap first last turn : List ℕ) → Type 0
+RangesAre width sides prices quantities ends off most root unitPrices gap first last turn =
+    (h : ℕ) → h < hourPlaces → RangedAt width sides prices quantities ends off most root unitPrices gap first last turn h
 
 -- THE BLOCKS
 -- The sum of a number of each of the first n places.

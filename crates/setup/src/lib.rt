@@ -1,12 +1,14 @@
 // The setup of the search: from a book's decoded columns to the tables of the hours and the columns of the blocks. Assumes nothing.
 ghost use mathlib.Core.Path.{_≡_};
 ghost use lib.ListN.{length};
-ghost use Rattle.places.specs.Layout.{tableSize};
-ghost use Rattle.places.specs.Hours.{Small};
+ghost use Prim.Native.Nat.{ℕ, _≤_};
+ghost use mathlib.Core.Bool.{true};
+ghost use Rattle.places.specs.Layout.{hourPlaces};
+ghost use Rattle.places.specs.Hours.{Small, rowWidth, HasRows};
 ghost use Rattle.rules.specs.Orders.{maxPrice};
 ghost use Rattle.search.specs.Tables.{tablesOf};
 ghost use Rattle.search.specs.Meaning.{Sized};
-ghost use Rattle.setup.specs.Setup.{StepsHeld, BlocksHeld, ReadyFor};
+ghost use Rattle.setup.specs.Setup.{rowPlaces, blocksTrade, StepsHeld, BlocksHeld, ReadyFor};
 use crate::blocks::block_columns;
 use crate::blocks::traded_by_hour;
 use crate::blocks::widened;
@@ -43,7 +45,9 @@ pub fn prepare(
 ) -> Prepared
     requires steps { ⌜ StepsHeld (now sides) (now prices) (now quantities) ends ⌝ }
     requires blocks { ⌜ BlocksHeld (blocks .count) (blocks .prices) (blocks .quantities) ⌝ }
-    requires tables { ⌜ (length (now «unit_prices») ≡ tableSize) × (length (now gap) ≡ tableSize) × Small maxPrice (now «unit_prices») ⌝ }
+    requires tables { ⌜ HasRows (now «unit_prices») × (length (now gap) ≡ length (now «unit_prices»)) × Small maxPrice (now «unit_prices») ⌝ }
+    requires room { ⌜ ((h : ℕ) → 1 ≤ h → h ≤ hourPlaces →
+        rowPlaces (blocksTrade (blocks .count) (blocks .sides) (blocks .hours) (blocks .quantities) true h) ≤ rowWidth (now «unit_prices»)) ⌝ }
     ensures sized { λ r. ⌜ Sized (tablesOf (now («unit_prices» .exit)) (now (gap .exit)) (r .hours) (r .columns) (blocks .count)) ⌝ }
     ensures ready { λ r. ⌜ ReadyFor (now (sides .entry)) (now (prices .entry)) (now (quantities .entry)) ends
         (blocks .records) (blocks .sides) (blocks .hours) (blocks .prices) (blocks .quantities)
