@@ -9,6 +9,7 @@ use Rattle.records.specs.Records.{holdsHour, hoursSet}
 use Rattle.book.specs.Refusals.{Accepted}
 use Rattle.orders.specs.Bridge.{dayFrom}
 use Rattle.orders.specs.Columns.{StepColumns, BlockColumns, sideFor}
+use Rattle.orders.specs.declared.Blocks.{Blocks}
 use Rattle.rules.specs.Hour.{bySide, when}
 use Rattle.rules.specs.Execution.{testSide}
 use Rattle.tables.specs.Tables.{PriceTable, AllOf, ClearRange, GapTable}
@@ -106,6 +107,11 @@ sumBelow (suc n) f = sumBelow n f + f n
 abbrev pub blocksTrade : (count : ℕ) (sides hours quantities : List ℕ) (all : Bool) (h : ℕ) → ℕ
 blocksTrade count sides hours quantities all h =
     sumBelow count (λ i. when (holdsHour (getD hours i 0) h) (bySide (sideFor (getD sides i 0)) (getD quantities i 0) (cond all (getD quantities i 0) 0)))
+
+-- No hour's blocks reach past a row of so many places.
+abbrev pub BlocksFit : (width : ℕ) → Blocks → Type 0
+BlocksFit width blocks =
+    (h : ℕ) → 1 ≤ h → h ≤ hourPlaces → rowPlaces (blocksTrade (blocks .count) (blocks .sides) (blocks .hours) (blocks .quantities) true h) ≤ width
 
 -- A column has that sum for each hour; it is a place.
 pub record TradedBy (count : ℕ) (sides hours quantities : List ℕ) (all : Bool) (column : List ℕ) : Type 0 where

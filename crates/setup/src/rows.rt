@@ -30,7 +30,7 @@ pub struct Ranges {
 }
 
 // The places of a row that are filled are as many as the last that the hour's blocks can reach, and these: it and the one above it.
-const LAST_AND_ABOVE: usize = 2;
+pub const LAST_AND_ABOVE: usize = 2;
 
 // The price table of an hour, whose steps stand from a up to e.
 fn fill_row(
