@@ -33,11 +33,11 @@ extern "C" {
 /* Answers. The lowest refusal whose cause holds is given; R is the record count, the first two bytes of a book. */
 #define AUCTION_DONE 0                /* accepted, cleared, or published */
 #define AUCTION_REFUSED_LENGTH 1      /* length not 16 x R, below 16 bytes, or R outside 1 to 2048 */
-#define AUCTION_REFUSED_HEAD 2        /* head: hours not 24, edition not 1, or bytes 8 to 15 not all 0 */
+#define AUCTION_REFUSED_HEAD 2        /* head: hours not 24, edition not 1 or 2, or bytes 8 to 15 not all 0 */
 #define AUCTION_REFUSED_CHAIN 3       /* on a chain: an index of R or more, a kind not the chain's, or a number that does not rise */
 #define AUCTION_REFUSED_FIELD 4       /* on a chain: any other field outside its range */
 #define AUCTION_REFUSED_STRAY 5       /* a record on no chain */
-#define AUCTION_REFUSED_BLOCKS 6      /* more than 32 blocks, or more than 5 of one portfolio */
+#define AUCTION_REFUSED_BLOCKS 6      /* more than 32 blocks, or of one portfolio more than 5 in edition 1, 10 in edition 2 */
 #define AUCTION_REFUSED_RESULT 7      /* a result buffer not of 196 + 4 x R bytes */
 #define AUCTION_REFUSED_CALL 8        /* an hour outside 1 to 24, or a set that names a block position not there */
 #define AUCTION_DOES_NOT_CLEAR 9      /* no price clears the hour under the set; no refusal */
