@@ -25,7 +25,7 @@ extern "C" {
 #define AUCTION_RESULT_HEAD 196       /* a result, before what its records add */
 #define AUCTION_RESULT_RECORD 4       /* what each record of the book adds, the head included */
 #define AUCTION_MOST_SHEET 781        /* a sheet */
-#define AUCTION_STACK 1048576         /* the stack that a call needs at most */
+#define AUCTION_STACK 2097152         /* the stack that a call needs at most */
 
 /* The size of the result of a book with so many records, the head included. */
 #define AUCTION_RESULT_SIZE(records) (AUCTION_RESULT_HEAD + AUCTION_RESULT_RECORD * (size_t)(records))
