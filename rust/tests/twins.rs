@@ -54,22 +54,12 @@ fn size_for(book: &[u8]) -> usize {
         .map_or(196, |r| paper::result_length(usize::from(u16::from_be_bytes([r[0], r[1]]))))
 }
 
-/// The by-value twin is the proved source, and is written anew when that knows edition 2.
-/// Until then the in-place twin stands alone there, but not with the feature `proved`.
-fn by_value_knows(book: &[u8]) -> bool {
-    let is_edition_2 = book.get(7) == Some(&2);
-    let knows_edition_2 = || by_value(&Orders::new().of_edition(2).book(), 200).0 == 0;
-    cfg!(feature = "proved") || !is_edition_2 || knows_edition_2()
-}
-
 /// Both twins against each other; the answer and the result.
 fn agreed(name: &str, book: &[u8], size: usize, space: &mut Workspace) -> (u32, Vec<u8>) {
     let one = in_place(book, size, space);
-    if by_value_knows(book) {
-        let other = by_value(book, size);
-        assert_eq!(one.2, other.2, "{name}: nodes in place and by value");
-        assert!(one == other, "{name}: other results in place and by value");
-    }
+    let other = by_value(book, size);
+    assert_eq!(one.2, other.2, "{name}: nodes in place and by value");
+    assert!(one == other, "{name}: other results in place and by value");
     (one.0, one.1)
 }
 

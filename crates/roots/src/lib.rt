@@ -1,8 +1,6 @@
 // The root prices, those that the search goes by. Any prices are right, so only safety is proved here; how many branches the search drops depends on them.
 // Assumes nothing.
-ghost use Prim.Native.Nat.{ℕ, _≤_};
-ghost use mathlib.Core.Path.{_≡_};
-ghost use lib.ListN.{length};
+ghost use Prim.Native.Nat.{_≤_};
 ghost use Rattle.rules.specs.Orders.{maxPrice};
 ghost use Rattle.book.specs.Bounds.{mostBlocks};
 ghost use Rattle.places.specs.Layout.{mostQuantity, mostLimit};

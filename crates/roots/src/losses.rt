@@ -1,7 +1,6 @@
 // What the empty set loses at given prices: what the blocks would gain there, and what the hours lose at its places.
-ghost use Prim.Native.Nat.{ℕ, _+_, _-_, _*_, _≤_, _<_};
-ghost use mathlib.Core.Path.{_≡_};
-ghost use lib.ListN.{length, getD};
+ghost use Prim.Native.Nat.{_+_, _-_, _*_, _≤_, _<_};
+ghost use lib.ListN.{length};
 ghost use Rattle.rules.specs.Orders.{maxPrice};
 ghost use Rattle.book.specs.Bounds.{mostBlocks};
 ghost use Rattle.places.specs.Layout.{hourPlaces, mostQuantity, mostLimit, lastPlace};

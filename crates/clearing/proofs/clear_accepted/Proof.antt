@@ -1,7 +1,5 @@
 -- `clearing::clear_accepted` meets its contract: the columns are the book's, and the tables that are chosen have room for its blocks. Assumes nothing.
 use native.Mathlib.Nat.{le-trans}
-use Rattle.orders.specs.declared.Steps.{Steps}
-use Rattle.orders.specs.declared.Blocks.{Blocks}
 use Rattle.setup.proofs.SetupLaws.{blocks-held}
 use Rattle.clearing.specs.Clear.{Held}
 use borrow.Author.Needs.{needs}
