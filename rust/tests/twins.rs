@@ -2,7 +2,7 @@
 //! against each other: the same bytes, and the same nodes.
 
 use auction_listing::books::{
-    edge_books, edition_edges, reader_book_of, small_book_of, worked_days, Orders, FAMILIES,
+    edge_books, edition_edges, reader_book_of, small_book_of, worked_days, FAMILIES,
 };
 use auction_listing::paper::{self, Published};
 use auction_listing::twin::by_value::{clearing, result::Clearing};
