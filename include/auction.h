@@ -25,7 +25,7 @@ extern "C" {
 #define AUCTION_RESULT_HEAD 196       /* a result, before what its records add */
 #define AUCTION_RESULT_RECORD 4       /* what each record of the book adds, the head included */
 #define AUCTION_MOST_SHEET 781        /* a sheet */
-#define AUCTION_STACK 1048576         /* the stack that a call needs at most */
+#define AUCTION_STACK 2097152         /* the stack that a call needs at most */
 
 /* The size of the result of a book with so many records, the head included. */
 #define AUCTION_RESULT_SIZE(records) (AUCTION_RESULT_HEAD + AUCTION_RESULT_RECORD * (size_t)(records))
@@ -33,11 +33,11 @@ extern "C" {
 /* Answers. The lowest refusal whose cause holds is given; R is the record count, the first two bytes of a book. */
 #define AUCTION_DONE 0                /* accepted, cleared, or published */
 #define AUCTION_REFUSED_LENGTH 1      /* length not 16 x R, below 16 bytes, or R outside 1 to 2048 */
-#define AUCTION_REFUSED_HEAD 2        /* head: hours not 24, edition not 1, or bytes 8 to 15 not all 0 */
+#define AUCTION_REFUSED_HEAD 2        /* head: hours not 24, edition not 1 or 2, or bytes 8 to 15 not all 0 */
 #define AUCTION_REFUSED_CHAIN 3       /* on a chain: an index of R or more, a kind not the chain's, or a number that does not rise */
 #define AUCTION_REFUSED_FIELD 4       /* on a chain: any other field outside its range */
 #define AUCTION_REFUSED_STRAY 5       /* a record on no chain */
-#define AUCTION_REFUSED_BLOCKS 6      /* more than 32 blocks, or more than 5 of one portfolio */
+#define AUCTION_REFUSED_BLOCKS 6      /* more than 32 blocks, or of one portfolio more than 5 in edition 1, 10 in edition 2 */
 #define AUCTION_REFUSED_RESULT 7      /* a result buffer not of 196 + 4 x R bytes */
 #define AUCTION_REFUSED_CALL 8        /* an hour outside 1 to 24, or a set that names a block position not there */
 #define AUCTION_DOES_NOT_CLEAR 9      /* no price clears the hour under the set; no refusal */

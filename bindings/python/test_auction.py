@@ -62,6 +62,12 @@ class Calls(unittest.TestCase):
         for call in outcome.step, outcome.block:
             self.assertRaises(KeyError, call, 5)
 
+    def test_the_outcome_of_a_day_of_edition_2(self):
+        outcome = auction.clear(sample("edition-2.book"))
+        self.assertEqual(outcome.welfare, 5_896_700)
+        self.assertEqual(outcome.taken, (1, 2, 3, 4, 5, 7, 8, 9, 10))
+        self.assertEqual([outcome.block(number) for number in (1, 5, 6)], [250, 51, 0])
+
     def test_the_sheets_of_the_samples(self):
         for path in SAMPLES.glob("*.sheet"):
             book = path.with_suffix(".book").read_bytes()
@@ -89,8 +95,9 @@ class Calls(unittest.TestCase):
         self.assertIsNone(auction.price(opposite, 2, 1))
 
     def test_each_refusal(self):
-        for number in range(1, 7):
-            book = sample(f"refused-{number}.book")
+        names = {f"refused-{number}": number for number in range(1, 7)}
+        for name, number in {**names, "refused-4-edition-2": 4, "refused-6-edition-2": 6}.items():
+            book = sample(f"{name}.book")
             for call, *words in (auction.read,), (auction.clear,), (auction.price, 0, 1):
                 self.assertEqual(refusal(call, book, *words), number)
         for hour in 0, 25, 1 << 31:

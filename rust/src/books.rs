@@ -7,7 +7,7 @@
 //! - `damage`: refused books, by cause or by accident;
 //! - `families`: large books for the benchmark;
 //! - `expected`: what is expected of the books in `bench-books`;
-//! - `worked`: the days of document 01 that are checked by hand;
+//! - `worked`: the days of documents 01 and 02 that are checked by hand;
 //! - `count`: how many books a test looks at.
 
 mod builder;
@@ -21,11 +21,18 @@ mod worked;
 
 pub use builder::{hour_bits, BlockOrder, Orders, StepOrder};
 pub use count::{count, raised};
-pub use damage::{book_with_causes, edge_books, every_byte_changed, reader_book};
+pub use damage::{
+    book_with_causes, book_with_causes_of, edge_books, edition_edges, every_byte_changed,
+    reader_book, reader_book_of, SOME_EDITIONS,
+};
 pub use dice::Dice;
 pub use expected::Expected;
 pub use families::{full_day, Family, FAMILIES};
-pub use random::{pricing_case, small_book, small_orders, tiny_book};
+pub use random::{
+    pricing_case, pricing_case_of, small_book, small_book_of, small_orders, small_orders_of,
+    tiny_book, tiny_book_of,
+};
 pub use worked::{
-    head_alone, opposite_blocks, thirty_two_blocks, worked_days, THIRTY_TWO_BLOCKS_TAKEN,
+    edition_2_day, head_alone, opposite_blocks, thirty_two_blocks, worked_days, EDITION_2_BLOCKS,
+    THIRTY_TWO_BLOCKS_TAKEN,
 };

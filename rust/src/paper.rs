@@ -1,6 +1,7 @@
-//! Document 01, implemented by its own words.
+//! Documents 01 and 02, implemented by their own words.
 //!
-//! - `read`: any bytes to a book or its first refusal, 1 to 6;
+//! - `read`: any bytes to a book or its first refusal, 1 to 6, by the limits of its
+//!   edition;
 //! - `hour`: the price of one hour under a set of blocks, or refusal 8;
 //! - `day`: lawful sets, welfare, the published result, or refusal 7;
 //! - `contenders`: demand 3 taken literally, for tiny books;
@@ -21,5 +22,5 @@ pub use hour::{
     beyond_totals, candidates, clears, executed, price_hour, price_hour_by_scan, scan, HourAnswer,
     HIGHEST_PRICE, LOWEST_PRICE,
 };
-pub use read::{read, Block, Book, Side, Step, HOURS};
+pub use read::{limits, read, Block, Book, Limits, Side, Step, HOURS};
 pub use sheet::{sheet, sheet_of};

@@ -9,10 +9,13 @@
 //! block buy hours 1-8,21-24 price 4100 quantity 10 portfolio 3
 //! ```
 //!
-//! - A line begins with `step` or `block` and `buy` or `sell`. The fields
+//! - A line `edition 2` in front of all orders makes a book of edition 2. Without one the
+//!   book is of edition 1.
+//! - A line of an order begins with `step` or `block` and `buy` or `sell`. The fields
 //!   follow, each a word and its value, in any order.
 //! - Prices are whole cents per MWh, 1 to 300000. Quantities are whole tenths of
-//!   a MW: 1 to 99999 for a step, 1 to 50 for a block.
+//!   a MW: 1 to 99999 for a step, for a block 1 to 50 in edition 1 and 1 to 250 in
+//!   edition 2.
 //! - `number` may be left out: an order then gets one more than the order of
 //!   its kind on the line before it; the first gets 1. Steps and blocks are
 //!   numbered separately.
@@ -23,7 +26,7 @@
 //! gives a refused book.
 
 use crate::books::{hour_bits, BlockOrder, Orders, StepOrder};
-use crate::paper::{read, Block, Book, Side, Step};
+use crate::paper::{limits, read, Block, Book, Limits, Side, Step};
 use std::fmt;
 
 /// What is wrong with a text, and on which line.
@@ -40,18 +43,18 @@ impl fmt::Display for TextError {
     }
 }
 
-/// The cause of a refusal in document 01's words.
+/// The cause of a refusal in the words of documents 01 and 02.
 pub fn refusal_meaning(refusal: u8) -> &'static str {
     match refusal {
         1 => "the length is not 16 x R, below 16 bytes, or R is outside 1 to 2048",
-        2 => "head: hours not 24, edition not 1, or bytes 8 to 15 not all 0",
+        2 => "head: hours not 24, edition not 1 or 2, or bytes 8 to 15 not all 0",
         3 => "on a chain: an index of R or more, a kind not the chain's, or a number that does not rise",
         4 => "on a chain: a field outside its range",
         5 => "a record is on no chain",
-        6 => "more than 32 blocks, or more than 5 of one portfolio",
+        6 => "more than 32 blocks, or of one portfolio more than 5 in edition 1, 10 in edition 2",
         7 => "the result buffer is not 196 + 4 x R bytes",
         8 => "the hour is outside 1 to 24, or the set names a block position not there",
-        _ => "not a refusal of document 01",
+        _ => "not a refusal of documents 01 and 02",
     }
 }
 
@@ -63,47 +66,107 @@ struct Line<T> {
     order: T,
 }
 
+/// The edition of a text that names none, and the latest that it can name.
+const FIRST_EDITION: u32 = 1;
+const LAST_EDITION: u32 = 2;
+
 /// Turns a text into the bytes of a book.
 pub fn to_book(text: &str) -> Result<Vec<u8>, TextError> {
-    let mut steps: Vec<Line<StepOrder>> = Vec::new();
-    let mut blocks: Vec<Line<BlockOrder>> = Vec::new();
+    let mut lines = Lines::default();
     for (index, full_line) in text.lines().enumerate() {
         let line = index + 1;
-        let fault = |message| TextError { line, message };
-        let words = words_of(full_line);
-        let Some(&kind) = words.first() else { continue };
-        let record = steps.len() + blocks.len() + 1;
+        if let Some((kind, words)) = words_of(full_line).split_first() {
+            lines.add(line, kind, words).map_err(|message| TextError { line, message })?;
+        }
+    }
+    lines.book()
+}
+
+/// What the lines of a text say.
+#[derive(Default)]
+struct Lines {
+    edition: Option<u32>,
+    steps: Vec<Line<StepOrder>>,
+    blocks: Vec<Line<BlockOrder>>,
+}
+
+impl Lines {
+    /// Adds the line that begins with the word `kind`.
+    fn add(&mut self, line: usize, kind: &str, words: &[&str]) -> Result<(), String> {
+        if kind == "edition" {
+            return self.name_edition(words);
+        }
+        let record = self.orders() + 1;
         match kind {
             "step" => {
-                let default = 1 + steps.last().map_or(0, |before| before.order.number);
-                let order = step_of(&words[1..], default).map_err(fault)?;
-                steps.push(Line { line, record, order });
+                let default = 1 + self.steps.last().map_or(0, |before| before.order.number);
+                let order = step_of(words, default)?;
+                self.steps.push(Line { line, record, order });
             }
             "block" => {
-                let default = 1 + blocks.last().map_or(0, |before| before.order.number);
-                let order = block_of(&words[1..], default).map_err(fault)?;
-                blocks.push(Line { line, record, order });
+                let default = 1 + self.blocks.last().map_or(0, |before| before.order.number);
+                let order = block_of(words, default, self.limits())?;
+                self.blocks.push(Line { line, record, order });
             }
             other => {
-                return Err(fault(format!(
-                    "`{other}` where an order begins; expected `step` or `block`"
-                )))
+                return Err(format!(
+                    "`{other}` where an order begins; expected `step` or `block`, or `edition` in front of them"
+                ))
             }
         }
         if record > 2_047 {
-            return Err(fault("order 2048 of the book; expected at most 2047".into()));
+            return Err("order 2048 of the book; expected at most 2047".into());
         }
+        Ok(())
     }
-    check_blocks(&blocks)?;
-    sort_by_number(&mut steps, "step", |order| order.number)?;
-    sort_by_number(&mut blocks, "block", |order| order.number)?;
-    let step_records = steps.iter().map(|entry| entry.record);
-    let records: Vec<usize> = step_records.chain(blocks.iter().map(|entry| entry.record)).collect();
-    let orders = Orders {
-        steps: steps.iter().map(|entry| entry.order).collect(),
-        blocks: blocks.iter().map(|entry| entry.order).collect(),
-    };
-    Ok(orders.book_at(&records))
+
+    /// The orders so far.
+    fn orders(&self) -> usize {
+        self.steps.len() + self.blocks.len()
+    }
+
+    /// The line `edition` and its value, on which the ranges of the blocks depend.
+    fn name_edition(&mut self, words: &[&str]) -> Result<(), String> {
+        let value = match words {
+            [value] => value,
+            [] => return Err("`edition` has no value; expected one after it".into()),
+            [_, other, ..] => {
+                return Err(format!("`{other}` after the edition; expected the end of the line"))
+            }
+        };
+        if self.edition.is_some() {
+            return Err("`edition` stands twice; expected it once".into());
+        }
+        if self.orders() > 0 {
+            return Err("`edition` after an order; expected it in front of all orders".into());
+        }
+        self.edition = Some(whole_number("edition", value, LAST_EDITION)?);
+        Ok(())
+    }
+
+    fn edition(&self) -> u32 {
+        self.edition.unwrap_or(FIRST_EDITION)
+    }
+
+    fn limits(&self) -> Limits {
+        limits(self.edition()).expect("only known editions are named")
+    }
+
+    /// The book of all lines.
+    fn book(mut self) -> Result<Vec<u8>, TextError> {
+        check_blocks(&self.blocks, self.limits())?;
+        sort_by_number(&mut self.steps, "step", |order| order.number)?;
+        sort_by_number(&mut self.blocks, "block", |order| order.number)?;
+        let step_records = self.steps.iter().map(|entry| entry.record);
+        let block_records = self.blocks.iter().map(|entry| entry.record);
+        let records: Vec<usize> = step_records.chain(block_records).collect();
+        let orders = Orders {
+            edition: self.edition(),
+            steps: self.steps.iter().map(|entry| entry.order).collect(),
+            blocks: self.blocks.iter().map(|entry| entry.order).collect(),
+        };
+        Ok(orders.book_at(&records))
+    }
 }
 
 /// The words of a line without its comment.
@@ -113,7 +176,8 @@ fn words_of(line: &str) -> Vec<&str> {
 }
 
 /// The limits of refusal 6, with the line that breaks them.
-fn check_blocks(blocks: &[Line<BlockOrder>]) -> Result<(), TextError> {
+fn check_blocks(blocks: &[Line<BlockOrder>], limits: Limits) -> Result<(), TextError> {
+    let most = limits.blocks_of_a_portfolio;
     for (position, entry) in blocks.iter().enumerate() {
         let fault = |message| Err(TextError { line: entry.line, message });
         if position >= 32 {
@@ -121,9 +185,10 @@ fn check_blocks(blocks: &[Line<BlockOrder>]) -> Result<(), TextError> {
         }
         let portfolio = entry.order.portfolio;
         let so_far = blocks[..=position].iter();
-        if so_far.filter(|other| other.order.portfolio == portfolio).count() > 5 {
+        if so_far.filter(|other| other.order.portfolio == portfolio).count() > most {
             return fault(format!(
-                "block 6 of portfolio {portfolio}; expected at most 5 of one portfolio"
+                "block {} of portfolio {portfolio}; expected at most {most} of one portfolio",
+                most + 1
             ));
         }
     }
@@ -166,7 +231,7 @@ fn step_of(words: &[&str], default_number: u32) -> Result<StepOrder, String> {
     })
 }
 
-fn block_of(words: &[&str], default_number: u32) -> Result<BlockOrder, String> {
+fn block_of(words: &[&str], default_number: u32, limits: Limits) -> Result<BlockOrder, String> {
     let (side, rest) = side_of(words)?;
     let fields = Fields::new(rest, &BLOCK_FIELDS)?;
     Ok(BlockOrder {
@@ -174,7 +239,7 @@ fn block_of(words: &[&str], default_number: u32) -> Result<BlockOrder, String> {
         side,
         hours: hours_of(fields.required("hours")?)?,
         price: fields.whole("price", 300_000)?,
-        quantity: fields.whole("quantity", 50)?,
+        quantity: fields.whole("quantity", limits.block_quantity)?,
         portfolio: fields.whole("portfolio", 255)?,
     })
 }
@@ -283,6 +348,9 @@ fn wrong_hours(list: &str) -> String {
 pub fn to_text(book: &[u8]) -> Result<String, u8> {
     let book = read(book)?;
     let mut text = format!("# {} steps, {} blocks\n", book.steps.len(), book.blocks.len());
+    if book.edition != FIRST_EDITION {
+        text += &format!("edition {}\n", book.edition);
+    }
     for record in 1..book.record_count {
         text += &line_of(&book, record);
         text += "\n";

@@ -9,7 +9,7 @@
 mod sample_files;
 
 use auction_listing::books::{
-    count, reader_book, small_book, small_orders, thirty_two_blocks, Dice, Orders, StepOrder,
+    count, reader_book_of, small_book_of, small_orders, thirty_two_blocks, Dice, Orders, StepOrder,
 };
 use auction_listing::paper::{self, Side};
 use auction_listing::twin::by_value::{clearing, result::Clearing};
@@ -145,19 +145,24 @@ fn the_command_prints_the_samples() {
     }
 }
 
-/// Half of them accepted books, half of them damaged in most cases.
+/// Half of them accepted books, half of them damaged in most cases, of both editions.
 #[test]
 fn random_books_are_printed() {
     let wanted = count("BOOKS", 3_000);
     let mut met = [0u64; 7];
     let mut seed = FIRST_SEED;
     while met.iter().sum::<u64>() < wanted {
-        for (name, book) in [("small_book", small_book(seed)), ("reader_book", reader_book(seed))] {
+        let edition = 1 + (seed % 2) as u32;
+        for (name, book) in [
+            ("small_book_of", small_book_of(edition, seed)),
+            ("reader_book_of", reader_book_of(edition, seed)),
+        ] {
             let reading = paper::read(&book);
-            if reading.as_ref().is_ok_and(|accepted| accepted.blocks.len() > 9) {
+            if reading.as_ref().is_ok_and(|accepted| accepted.blocks.len() > 10) {
                 continue; // the listing of all sets takes too long
             }
-            assert_same(printed(&book), &paper::sheet(&book), &format!("{name}({seed})"));
+            let name = format!("{name}({edition}, {seed})");
+            assert_same(printed(&book), &paper::sheet(&book), &name);
             met[usize::from(reading.err().unwrap_or(0))] += 1;
         }
         seed += 1;
@@ -188,7 +193,7 @@ fn full_book() -> Vec<u8> {
 /// A random book of the most records, few of them blocks.
 fn full_random_book(seed: u64) -> Vec<u8> {
     let mut dice = Dice::new(seed);
-    let mut orders = Orders { blocks: small_orders(&mut dice).blocks, steps: Vec::new() };
+    let mut orders = Orders { steps: Vec::new(), ..small_orders(&mut dice) };
     orders.blocks.truncate(4);
     while orders.count() + 1 < FULL_RECORDS {
         orders.steps.push(StepOrder {

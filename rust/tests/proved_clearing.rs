@@ -4,12 +4,14 @@
 //! The environment variable BOOKS raises the counts (at least 20000 each).
 
 mod answers;
+mod compared;
 
 use answers::hour_answer;
 use auction_listing::books::{
     count, edge_books, pricing_case, reader_book, small_book, tiny_book, worked_days,
 };
 use auction_listing::paper::{self, HourAnswer};
+use compared::{compare_clearing, size_for};
 
 const LEAST_BOOKS: u64 = 20_000;
 
@@ -28,30 +30,6 @@ fn the_proved_pricing_agrees() {
     }
     println!("cleared, not clearing, refused: {met:?}");
     assert!(met.iter().all(|&times| times > 0), "an answer was never met");
-}
-
-/// The proved clearing of a book into a buffer of a size, against the listing.
-fn compare_clearing(book: &[u8], size: usize, name: &dyn Fn() -> String) -> u8 {
-    let before: Vec<u8> = (0..size).map(|i| (i * 7 + 3) as u8).collect();
-    let mut result = before.clone();
-    let answer = auction::clear_into(book, &mut result).err().map_or(0, |it| it.number());
-    match paper::clear(book, size) {
-        Ok(expected) => {
-            assert_eq!(answer, 0, "{}: refused", name());
-            assert!(result == expected, "{}: another result", name());
-            0
-        }
-        Err(refusal) => {
-            assert_eq!(answer, u32::from(refusal), "{}: another refusal", name());
-            assert!(result == before, "{}: the result was written to", name());
-            refusal
-        }
-    }
-}
-
-fn size_for(book: &[u8]) -> usize {
-    book.get(..2)
-        .map_or(196, |r| paper::result_length(usize::from(u16::from_be_bytes([r[0], r[1]]))))
 }
 
 #[test]

@@ -1,11 +1,11 @@
-//! The implementation against itself, in slower words, on random books: prices
-//! by scan, "does not clear" by its rule, demand 2 by its properties, and demand
-//! 3 by the list of all contenders.
+//! The implementation against itself, in slower words, on random books of both
+//! editions: prices by scan, "does not clear" by its rule, demand 2 by its properties,
+//! and demand 3 by the list of all contenders.
 //!
 //! Environment variables raise the counts: SCANS for the slow scan of all prices,
 //! BOOKS for all others.
 
-use auction_listing::books::{count, pricing_case, raised, small_book, tiny_book};
+use auction_listing::books::{count, pricing_case_of, raised, small_book_of, tiny_book_of};
 use auction_listing::paper::{
     beyond_totals, candidates, clear, clears, contenders, executed, for_each_contender,
     keeps_limit, net_block_sales, outcome, price_hour, price_hour_by_scan, read, result_length,
@@ -22,12 +22,22 @@ fn cleared(book: &[u8]) -> (Book, Published) {
 /// clear" given exactly where N is beyond the totals.
 #[test]
 fn candidates_agree_with_the_scan() {
+    compare_with_the_scan(1);
+}
+
+#[test]
+fn candidates_agree_with_the_scan_in_edition_2() {
+    compare_with_the_scan(2);
+}
+
+fn compare_with_the_scan(edition: u32) {
     let mut met = [0; 3];
     let mut beyond = [0; 2];
     for seed in 0..count("SCANS", 1_200) {
-        let (book, set, hour) = pricing_case(seed);
+        let (book, set, hour) = pricing_case_of(edition, seed);
+        let name = format!("pricing_case_of({edition}, {seed})");
         let answer = price_hour(&book, set, hour);
-        assert_eq!(answer, price_hour_by_scan(&book, set, hour), "pricing_case({seed})");
+        assert_eq!(answer, price_hour_by_scan(&book, set, hour), "{name}");
         met[match answer {
             HourAnswer::Cleared { .. } => 0,
             HourAnswer::NotClearing => 1,
@@ -42,10 +52,10 @@ fn candidates_agree_with_the_scan() {
         if answer == HourAnswer::NotClearing {
             let book = read(&book).unwrap();
             let (steps, n) = (book.steps_of(hour), net_block_sales(&book.blocks, set, hour));
-            assert!(beyond_totals(&steps, n), "pricing_case({seed})");
+            assert!(beyond_totals(&steps, n), "{name}");
             beyond[usize::from(n < 0)] += 1;
-            assert_eq!(scan(&steps, n), None, "pricing_case({seed})");
-            assert_eq!(candidates(&steps, n), None, "pricing_case({seed})");
+            assert_eq!(scan(&steps, n), None, "{name}");
+            assert_eq!(candidates(&steps, n), None, "{name}");
         }
     }
     println!("cleared, not clearing, refused: {met:?}");
@@ -54,12 +64,18 @@ fn candidates_agree_with_the_scan() {
     assert!(beyond.iter().all(|&answers| answers >= 50), "{beyond:?}");
 }
 
+/// A number of seeds for each of the editions.
+fn of_both_editions(seeds: u64) -> impl Iterator<Item = (u32, u64)> {
+    [1, 2].into_iter().flat_map(move |edition| (0..seeds).map(move |seed| (edition, seed)))
+}
+
 /// Every price from L to H clears and executes the same quantities, so the
 /// middle price does too.
 #[test]
 fn all_prices_between_the_ends_execute_the_same() {
-    for seed in 0..count("BOOKS", 2_000) {
-        let (book, set, hour) = pricing_case(seed);
+    for (edition, seed) in of_both_editions(count("BOOKS", 2_000)) {
+        let (book, set, hour) = pricing_case_of(edition, seed);
+        let name = format!("pricing_case_of({edition}, {seed})");
         let HourAnswer::Cleared { low, high, price } = price_hour(&book, set, hour) else {
             continue;
         };
@@ -67,11 +83,11 @@ fn all_prices_between_the_ends_execute_the_same() {
         let (steps, n) = (book.steps_of(hour), net_block_sales(&book.blocks, set, hour));
         let quantities = executed(&steps, n, price);
         for other in [low, low + (high - low) / 3, price, high] {
-            assert!(clears(&steps, n, other), "pricing_case({seed})");
-            assert_eq!(executed(&steps, n, other), quantities, "pricing_case({seed})");
+            assert!(clears(&steps, n, other), "{name}");
+            assert_eq!(executed(&steps, n, other), quantities, "{name}");
         }
-        assert!(low == 1 || !clears(&steps, n, low - 1), "pricing_case({seed})");
-        assert!(high == 300_000 || !clears(&steps, n, high + 1), "pricing_case({seed})");
+        assert!(low == 1 || !clears(&steps, n, low - 1), "{name}");
+        assert!(high == 300_000 || !clears(&steps, n, high + 1), "{name}");
     }
 }
 
@@ -79,23 +95,24 @@ fn all_prices_between_the_ends_execute_the_same() {
 /// in rising number, every hour in balance, no block outside its limit.
 #[test]
 fn results_obey_the_outcome_properties() {
-    for seed in 0..count("BOOKS", 1_000) {
-        let (book, published) = cleared(&small_book(seed));
+    for (edition, seed) in of_both_editions(count("BOOKS", 1_000)) {
+        let (book, published) = cleared(&small_book_of(edition, seed));
+        let name = format!("small_book_of({edition}, {seed})");
         let set = published.set(&book);
         let prices: [u32; 24] = published.prices.clone().try_into().unwrap();
         for (position, block) in book.blocks.iter().enumerate() {
             let taken = (set >> position) & 1 == 1;
             let row = published.row(block.record);
-            assert_eq!(row, if taken { block.quantity } else { 0 });
-            assert!(!taken || keeps_limit(block, &prices), "small_book({seed})");
+            assert_eq!(row, if taken { block.quantity } else { 0 }, "{name}");
+            assert!(!taken || keeps_limit(block, &prices), "{name}");
         }
         for hour in 1..=24 {
-            check_hour(&book, &published, set, hour, seed);
+            check_hour(&book, &published, set, hour, &name);
         }
     }
 }
 
-fn check_hour(book: &Book, published: &Published, set: u32, hour: u32, seed: u64) {
+fn check_hour(book: &Book, published: &Published, set: u32, hour: u32, name: &str) {
     let price = published.prices[hour as usize - 1];
     let mut bought = 0;
     let mut sold = 0;
@@ -106,13 +123,13 @@ fn check_hour(book: &Book, published: &Published, set: u32, hour: u32, seed: u64
             Side::Buy => (step.price > price, step.price < price),
             Side::Sell => (step.price < price, step.price > price),
         };
-        assert!(row <= step.quantity, "small_book({seed})");
-        assert!(!better || row == step.quantity, "small_book({seed})");
-        assert!(!worse || row == 0, "small_book({seed})");
+        assert!(row <= step.quantity, "{name}");
+        assert!(!better || row == step.quantity, "{name}");
+        assert!(!worse || row == 0, "{name}");
         if step.price == price {
             // After a step that got less than it holds, the later ones get none.
             let short = &mut short[usize::from(step.side == Side::Sell)];
-            assert!(!*short || row == 0, "small_book({seed})");
+            assert!(!*short || row == 0, "{name}");
             *short = *short || row < step.quantity;
         }
         match step.side {
@@ -128,22 +145,33 @@ fn check_hour(book: &Book, published: &Published, set: u32, hour: u32, seed: u64
             }
         }
     }
-    assert_eq!(bought, sold, "small_book({seed}), hour {hour}");
-    assert_eq!(bought, published.traded[hour as usize - 1], "small_book({seed}), hour {hour}");
+    assert_eq!(bought, sold, "{name}, hour {hour}");
+    assert_eq!(bought, published.traded[hour as usize - 1], "{name}, hour {hour}");
 }
 
 /// Demand 3 against the list of every contender.
 #[test]
 fn clearing_agrees_with_all_contenders() {
+    compare_with_contenders(1, count("BOOKS", 400));
+}
+
+/// Their lists are longer: blocks of more than 50 need steps to be traded with.
+#[test]
+fn clearing_agrees_with_all_contenders_in_edition_2() {
+    compare_with_contenders(2, count("BOOKS", 200));
+}
+
+fn compare_with_contenders(edition: u32, seeds: u64) {
     let mut ties = 0;
     let mut taken = 0;
-    for seed in 0..count("BOOKS", 400) {
-        let bytes = tiny_book(seed);
+    for seed in 0..seeds {
+        let bytes = tiny_book_of(edition, seed);
+        let name = format!("tiny_book_of({edition}, {seed})");
         let (book, published) = cleared(&bytes);
         let best = contenders(&bytes).unwrap();
         let set = published.set(&book);
-        assert_eq!(i128::from(published.welfare), best.welfare, "tiny_book({seed})");
-        assert_eq!(set, best.set, "tiny_book({seed})");
+        assert_eq!(i128::from(published.welfare), best.welfare, "{name}");
+        assert_eq!(set, best.set, "{name}");
         // The published one is itself a contender, with this welfare, and wins
         // every tie.
         let rows = book.steps.iter().map(|step| i64::from(published.row(step.record)));
@@ -151,17 +179,17 @@ fn clearing_agrees_with_all_contenders() {
         let mut found = false;
         let mut tied = false;
         for_each_contender(&book, &mut |other| {
-            assert!(other.welfare <= best.welfare, "tiny_book({seed})");
+            assert!(other.welfare <= best.welfare, "{name}");
             if other.set == set && other.quantities == rows {
-                assert_eq!(other.welfare, best.welfare, "tiny_book({seed})");
+                assert_eq!(other.welfare, best.welfare, "{name}");
                 found = true;
             }
             if other.set != set && other.welfare == best.welfare {
-                assert!(tie_goes_to(set, other.set), "tiny_book({seed})");
+                assert!(tie_goes_to(set, other.set), "{name}");
                 tied = true;
             }
         });
-        assert!(found, "tiny_book({seed}): the published outcome is no contender");
+        assert!(found, "{name}: the published outcome is no contender");
         ties += u64::from(tied);
         taken += u64::from(set != 0);
     }
@@ -175,22 +203,42 @@ fn clearing_agrees_with_all_contenders() {
 fn small_books_are_varied() {
     let mut met = Variety::default();
     for seed in 0..count("BOOKS", 1_500) {
-        met.look_at(&small_book(seed));
+        met.look_at(&small_book_of(1, seed));
     }
     println!("{met:?}");
-    assert!(met.some_taken >= 200);
-    assert!(met.all_left_out >= 200);
-    assert!(met.tie_between_sets >= 100);
-    assert!(met.paid_but_left_out >= 100);
-    assert!(met.both_sides_taken >= 50);
+    met.is_enough();
     assert!(met.no_blocks >= 50);
     assert!(met.nine_blocks >= 50);
+    assert_eq!((met.six_of_a_portfolio, met.more_than_50_taken), (0, 0));
+}
+
+/// Those of edition 2 as well, with what edition 1 does not allow.
+#[test]
+fn small_books_of_edition_2_are_varied() {
+    let mut met = Variety::default();
+    for seed in 0..count("BOOKS", 1_500) {
+        met.look_at(&small_book_of(2, seed));
+    }
+    println!("{met:?}");
+    met.is_enough();
+    assert!(met.six_of_a_portfolio >= 500);
+    assert!(met.ten_of_a_portfolio >= 100);
+    assert!(met.six_of_a_portfolio_taken >= 50);
+    assert!(met.more_than_50_taken >= 200);
+    assert!(met.more_than_50_left_out >= 200);
+    assert!(met.full_quantity_taken >= 50);
 }
 
 #[derive(Debug, Default)]
 struct Variety {
     no_blocks: u32,
     nine_blocks: u32,
+    six_of_a_portfolio: u32,
+    ten_of_a_portfolio: u32,
+    six_of_a_portfolio_taken: u32,
+    more_than_50_taken: u32,
+    more_than_50_left_out: u32,
+    full_quantity_taken: u32,
     some_taken: u32,
     all_left_out: u32,
     both_sides_taken: u32,
@@ -199,6 +247,14 @@ struct Variety {
 }
 
 impl Variety {
+    fn is_enough(&self) {
+        assert!(self.some_taken >= 200);
+        assert!(self.all_left_out >= 200);
+        assert!(self.tie_between_sets >= 100);
+        assert!(self.paid_but_left_out >= 100);
+        assert!(self.both_sides_taken >= 50);
+    }
+
     fn look_at(&mut self, bytes: &[u8]) {
         let (book, published) = cleared(bytes);
         let set = published.set(&book);
@@ -217,6 +273,21 @@ impl Variety {
             u32::from((0..1 << book.blocks.len()).any(|other| other != set && ties(other)));
         self.paid_but_left_out +=
             u32::from(blocks().any(|(p, block)| !is_taken(p) && keeps_limit(block, &prices)));
+        let of_one = |wanted: &dyn Fn(usize) -> bool| {
+            let count = |portfolio| {
+                blocks().filter(|&(p, b)| b.portfolio == portfolio && wanted(p)).count()
+            };
+            (1..=255).map(count).max().unwrap_or(0)
+        };
+        self.six_of_a_portfolio += u32::from(of_one(&|_| true) >= 6);
+        self.ten_of_a_portfolio += u32::from(of_one(&|_| true) == 10);
+        self.six_of_a_portfolio_taken += u32::from(of_one(&is_taken) >= 6);
+        let large = |taken: bool, least: u32| {
+            u32::from(blocks().any(|(p, block)| is_taken(p) == taken && block.quantity >= least))
+        };
+        self.more_than_50_taken += large(true, 51);
+        self.more_than_50_left_out += large(false, 51);
+        self.full_quantity_taken += large(true, 250);
     }
 }
 

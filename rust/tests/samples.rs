@@ -4,7 +4,8 @@
 mod sample_files;
 
 use auction_listing::books::{
-    head_alone, opposite_blocks, thirty_two_blocks, worked_days, Orders, THIRTY_TWO_BLOCKS_TAKEN,
+    edition_2_day, head_alone, opposite_blocks, thirty_two_blocks, worked_days, Orders,
+    THIRTY_TWO_BLOCKS_TAKEN,
 };
 use auction_listing::paper::{outcome, read, result_bytes, sheet, sheet_of};
 use auction_listing::text::{to_book, to_text};
@@ -17,8 +18,21 @@ fn accepted_samples() -> Vec<(&'static str, Orders)> {
     samples.push(("head-alone", head_alone()));
     samples.push(("opposite-blocks", opposite_blocks()));
     samples.push(("thirty-two-blocks", thirty_two_blocks()));
+    samples.push(("edition-2", edition_2_day()));
     samples
 }
+
+/// Each with its refusal.
+const REFUSED_SAMPLES: [(&str, u8); 8] = [
+    ("refused-1", 1),
+    ("refused-2", 2),
+    ("refused-3", 3),
+    ("refused-4", 4),
+    ("refused-5", 5),
+    ("refused-6", 6),
+    ("refused-4-edition-2", 4),
+    ("refused-6-edition-2", 6),
+];
 
 #[test]
 fn texts_give_the_books() {
@@ -50,15 +64,27 @@ fn books_give_the_sheets() {
 
 #[test]
 fn refused_samples() {
-    for refusal in 1..=6u8 {
-        let name = format!("refused-{refusal}");
-        let book = sample(&name, "book");
-        assert_eq!(read(&book).err(), Some(refusal));
-        assert_eq!(sheet(&book), sample(&name, "sheet"));
+    for (name, refusal) in REFUSED_SAMPLES {
+        let book = sample(name, "book");
+        assert_eq!(read(&book).err(), Some(refusal), "{name}");
+        assert_eq!(sheet(&book), sample(name, "sheet"), "{name}");
         let told = book_text("to-text", &book);
         assert_eq!((told.status.code(), told.stdout.len()), (Some(1), 0));
         let message = String::from_utf8(told.stderr).unwrap();
         assert!(message.contains(&format!("refused with {refusal}: ")), "{message}");
+    }
+}
+
+/// Those of edition 2 are one beyond its limits: a quantity, and a block of a portfolio.
+#[test]
+fn refused_samples_of_edition_2() {
+    let cases = [("refused-4-edition-2", 5, 15, 251, 250), ("refused-6-edition-2", 11, 7, 3, 4)];
+    for (name, record, at, beyond, within) in cases {
+        let mut book = sample(name, "book");
+        let byte = 16 * record + at;
+        assert_eq!((book[7], book[byte]), (2, beyond), "{name}");
+        book[byte] = within;
+        assert!(read(&book).is_ok(), "{name}");
     }
 }
 
@@ -67,7 +93,7 @@ fn refused_samples() {
 fn all_samples_are_known() {
     let mut known: Vec<String> =
         accepted_samples().iter().map(|(name, _)| name.to_string()).collect();
-    known.extend((1..=6).map(|refusal| format!("refused-{refusal}")));
+    known.extend(REFUSED_SAMPLES.map(|(name, _)| name.to_string()));
     for name in names() {
         assert!(known.contains(&name), "{name} is in no test");
     }

@@ -1,6 +1,8 @@
 //! The plain-text form: there and back, and its errors.
 
-use auction_listing::books::{book_with_causes, small_book, worked_days, Dice, Orders};
+use auction_listing::books::{
+    book_with_causes, edition_2_day, small_book_of, worked_days, Dice, Orders,
+};
 use auction_listing::paper::read;
 use auction_listing::paper::Side::{Buy, Sell};
 use auction_listing::text::{refusal_meaning, to_book, to_text};
@@ -45,12 +47,75 @@ fn numbers_and_records() {
 
 #[test]
 fn every_accepted_book_comes_back_to_the_byte() {
-    for seed in 0..2_000 {
-        let book = small_book(seed);
+    for (edition, seed) in (0..2_000).flat_map(|seed| [(1, seed), (2, seed)]) {
+        let book = small_book_of(edition, seed);
         let text = to_text(&book).unwrap();
-        assert_eq!(to_book(&text).unwrap(), book, "small_book({seed})\n{text}");
+        assert_eq!(to_book(&text).unwrap(), book, "small_book_of({edition}, {seed})\n{text}");
         assert_eq!(to_text(&to_book(&text).unwrap()).unwrap(), text);
+        // A text of edition 1 is what it was before there was another.
+        assert_eq!(text.contains("edition"), edition == 2, "{text}");
     }
+}
+
+#[test]
+fn the_edition_is_named_in_front_of_the_orders() {
+    let block = "block sell hours 1,2 price 2900 quantity 250 portfolio 3";
+    let orders = Orders::new().of_edition(2).block(Sell, &[1, 2], 2_900, 250, 3);
+    for text in [
+        format!("edition 2\n{block}\n"),
+        format!("\n# a day of the second edition\n  edition 2  # from the notice\n\n{block}"),
+    ] {
+        assert_eq!(to_book(&text).unwrap(), orders.book(), "{text}");
+    }
+    assert_eq!(to_book("edition 2").unwrap(), Orders::new().of_edition(2).book());
+    assert_eq!(to_book("edition 1").unwrap(), Orders::new().book());
+    assert_eq!(to_book("").unwrap(), Orders::new().book());
+    let text = to_text(&edition_2_day().book()).unwrap();
+    let lines: Vec<&str> = text.lines().take(3).collect();
+    assert_eq!(lines[..2], ["# 4 steps, 10 blocks", "edition 2"]);
+    assert_eq!(lines[2], "step buy hour 1 price 5000 quantity 1346 portfolio 1 number 1");
+    // Without the line the same blocks are beyond edition 1's limits.
+    let error = to_book(&text.replace("edition 2", "")).unwrap_err().to_string();
+    assert_eq!(error, "line 7: `quantity 250`; expected a whole number from 1 to 50");
+}
+
+/// What is wrong with a line `edition`, and the limits of each edition with their lines.
+#[test]
+fn errors_of_editions() {
+    let block = "block buy hours 1,2 price 10 quantity 1 portfolio 9";
+    for (text, message) in [
+        ("edition", "line 1: `edition` has no value; expected one after it"),
+        ("edition 0", "line 1: `edition 0`; expected a whole number from 1 to 2"),
+        ("edition 3", "line 1: `edition 3`; expected a whole number from 1 to 2"),
+        ("edition two", "line 1: `edition two`; expected a whole number from 1 to 2"),
+        ("edition 2 3", "line 1: `3` after the edition; expected the end of the line"),
+        ("edition 2\nedition 2", "line 2: `edition` stands twice; expected it once"),
+        (
+            &format!("{block}\nedition 2"),
+            "line 2: `edition` after an order; expected it in front of all orders",
+        ),
+        (
+            &format!("edition 2\n{}", block.replace("quantity 1", "quantity 251")),
+            "line 2: `quantity 251`; expected a whole number from 1 to 250",
+        ),
+        (
+            &format!("edition 1\n{}", block.replace("quantity 1", "quantity 51")),
+            "line 2: `quantity 51`; expected a whole number from 1 to 50",
+        ),
+        (
+            &format!("edition 2\n{}", format!("{block}\n").repeat(11)),
+            "line 12: block 11 of portfolio 9; expected at most 10 of one portfolio",
+        ),
+        (
+            &format!("edition 1\n{}", format!("{block}\n").repeat(6)),
+            "line 7: block 6 of portfolio 9; expected at most 5 of one portfolio",
+        ),
+    ] {
+        assert_eq!(to_book(text).unwrap_err().to_string(), message, "{text}");
+    }
+    assert!(to_book(&format!("edition 2\n{}", format!("{block}\n").repeat(10))).is_ok());
+    let full = block.replace("quantity 1", "quantity 250");
+    assert!(to_book(&format!("edition 2\n{full}")).is_ok());
 }
 
 #[test]

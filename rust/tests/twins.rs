@@ -1,7 +1,9 @@
 //! The two twins of the proved clearing against the listing of all sets, and
 //! against each other: the same bytes, and the same nodes.
 
-use auction_listing::books::{edge_books, reader_book, small_book, worked_days, FAMILIES};
+use auction_listing::books::{
+    edge_books, edition_edges, reader_book_of, small_book_of, worked_days, FAMILIES,
+};
 use auction_listing::paper::{self, Published};
 use auction_listing::twin::by_value::{clearing, result::Clearing};
 use auction_listing::twin::count::{self, Nodes};
@@ -54,9 +56,10 @@ fn size_for(book: &[u8]) -> usize {
 
 /// Both twins against each other; the answer and the result.
 fn agreed(name: &str, book: &[u8], size: usize, space: &mut Workspace) -> (u32, Vec<u8>) {
-    let (one, other) = (by_value(book, size), in_place(book, size, space));
-    assert_eq!(one.2, other.2, "{name}: nodes by value and in place");
-    assert!(one == other, "{name}: other results by value and in place");
+    let one = in_place(book, size, space);
+    let other = by_value(book, size);
+    assert_eq!(one.2, other.2, "{name}: nodes in place and by value");
+    assert!(one == other, "{name}: other results in place and by value");
     (one.0, one.1)
 }
 
@@ -80,9 +83,10 @@ fn the_twins_clear_small_books_as_the_listing() {
             let book = orders.book();
             compare(name, &book, size_for(&book), &mut space);
         }
-        for seed in 0..1000 {
-            let book = small_book(seed);
-            compare(&format!("small_book({seed})"), &book, size_for(&book), &mut space);
+        for (edition, seed) in (0..1000).flat_map(|seed| [(1, seed), (2, seed)]) {
+            let book = small_book_of(edition, seed);
+            let name = format!("small_book_of({edition}, {seed})");
+            compare(&name, &book, size_for(&book), &mut space);
         }
     });
 }
@@ -91,9 +95,10 @@ fn the_twins_clear_small_books_as_the_listing() {
 fn the_twins_refuse_as_the_listing() {
     with_stack(|| {
         let mut space = Workspace::default();
-        let damaged = (0..400).map(reader_book);
-        for (i, book) in edge_books().into_iter().chain(damaged).enumerate() {
-            if paper::read(&book).is_ok_and(|accepted| accepted.blocks.len() > 9) {
+        let damaged = (0..400).flat_map(|seed| [1, 2].map(|edition| reader_book_of(edition, seed)));
+        let edges = edge_books().into_iter().chain(edition_edges());
+        for (i, book) in edges.chain(damaged).enumerate() {
+            if paper::read(&book).is_ok_and(|accepted| accepted.blocks.len() > 10) {
                 continue; // the listing of all sets takes too long
             }
             for size in [size_for(&book), size_for(&book) + 1, 0] {

@@ -10,7 +10,7 @@ use lib.Dec.{eqb, leb, ltb}
 use lib.ListN.{length}
 use Rattle.records.specs.Bytes.{nonzero}
 use Rattle.records.specs.Layout.{recordSize, headRestOffset, headRestSize, stepKind, blockKind, lastSide, lastHour}
-use Rattle.book.specs.Bounds.{mostRecords, normalHours, firstEdition, lastPortfolio, portfolioNumbers, mostStepQuantity, fewestHours, mostBlocks}
+use Rattle.book.specs.Bounds.{mostRecords, normalHours, firstEdition, lastEdition, lastPortfolio, portfolioNumbers, mostStepQuantity, fewestHours, mostBlocks}
 use Rattle.book.specs.Tests.{within, someBelow, countIn, member}
 use Rattle.rules.specs.Orders.{maxPrice, Limits, limits}
 use Rattle.records.specs.Records.{recordCount, dayHours, edition, kind, sideByte, hourByte}
@@ -76,16 +76,16 @@ pub day-hours : (b : List ℕ) → Accepted b → dayHours b ≡ normalHours
 unfolding wrongHead
 day-hours b a =
     let t = not (eqb (dayHours b) normalHours) in
-    let u = not (eqb (edition b) firstEdition) in
+    let u = not (within firstEdition (edition b) lastEdition) in
     eqb-true _ _ (not-false _ (or-left t u (or-left (t || u) (nonzero b headRestOffset headRestSize) (a .rightHead))))
 
--- The edition is 1
-pub edition-one : (b : List ℕ) → Accepted b → edition b ≡ firstEdition
+-- The edition is one that there is
+pub edition-known : (b : List ℕ) → Accepted b → within firstEdition (edition b) lastEdition ≡ true
 unfolding wrongHead
-edition-one b a =
+edition-known b a =
     let t = not (eqb (dayHours b) normalHours) in
-    let u = not (eqb (edition b) firstEdition) in
-    eqb-true _ _ (not-false _ (or-right t u (or-left (t || u) (nonzero b headRestOffset headRestSize) (a .rightHead))))
+    let u = not (within firstEdition (edition b) lastEdition) in
+    not-false _ (or-right t u (or-left (t || u) (nonzero b headRestOffset headRestSize) (a .rightHead)))
 
 -- The chains are whole: they end within R records, so that following them further finds nothing more
 pub chains-whole : (b : List ℕ) → Accepted b → (c : Chain) (m : ℕ) → chainFrom (recordCount b + m) b (firstOn b c) ≡ chainOf b c

@@ -10,9 +10,12 @@ mostRecords = 2048
 abbrev pub normalHours : ℕ
 normalHours = 24
 
--- The edition, in the head: 1
+-- The editions that there are, in the head: 1 and 2
 abbrev pub firstEdition : ℕ
 firstEdition = 1
+
+abbrev pub lastEdition : ℕ
+lastEdition = 2
 
 -- The last portfolio: 1 to 255
 abbrev pub lastPortfolio : ℕ

@@ -11,7 +11,7 @@ use Rattle.records.specs.Layout.{recordSize, headRestOffset, headRestSize, last
 use Rattle.book.specs.Tests.{within, someBelow, someIn, countIn}
 use Rattle.rules.specs.Orders.{maxPrice, Limits, limits}
 use Rattle.records.specs.Records.{recordCount, dayHours, edition, kind, sideByte, number, hourByte, portfolio, recordAt, hoursSet}
-use Rattle.book.specs.Bounds.{mostRecords, normalHours, firstEdition, lastPortfolio, portfolioNumbers, mostStepQuantity, fewestHours, mostBlocks}
+use Rattle.book.specs.Bounds.{mostRecords, normalHours, firstEdition, lastEdition, lastPortfolio, portfolioNumbers, mostStepQuantity, fewestHours, mostBlocks}
 use Rattle.book.specs.Chains.{chains, kindOn, numbered, chainOf, isOn, countOn}
 use Rattle.records.specs.declared.Step.{Step}
 use Rattle.records.specs.declared.Block.{Block}
@@ -24,9 +24,9 @@ use Rattle.book.specs.declared.Chain.the-variants as chain-of
 unfoldable pub wrongSize : List ℕ → Bool
 wrongSize b = not (eqb (length b) (recordSize * recordCount b)) || ltb (length b) recordSize || not (within 1 (recordCount b) mostRecords)
 
--- 2, the head: hours not 24, edition not 1, or bytes 8-15 not all 0
+-- 2, the head: hours not 24, an edition that there is not, or bytes 8-15 not all 0
 unfoldable pub wrongHead : List ℕ → Bool
-wrongHead b = not (eqb (dayHours b) normalHours) || not (eqb (edition b) firstEdition) || nonzero b headRestOffset headRestSize
+wrongHead b = not (eqb (dayHours b) normalHours) || not (within firstEdition (edition b) lastEdition) || nonzero b headRestOffset headRestSize
 
 -- 3, at record i of a chain, after the number `last`: an index of R or more, a kind not the chain's, or, if numbers must rise, one that does not
 unfoldable pub misplaced : List ℕ → Chain → ℕ → ℕ → Bool
@@ -98,7 +98,7 @@ ownedBy b p i = eqb (portfolio b i) p
 unfoldable pub tooManyOf : List ℕ → ℕ → Bool
 tooManyOf b p = ltb (limits (edition b) .blocksOfPortfolio) (countIn (chainOf b chain-of.Blocks) (ownedBy b p))
 
--- 6: more than 32 blocks, or more than 5 (the limit) of one portfolio
+-- 6: more than 32 blocks, or more than the limit of one portfolio
 unfoldable pub tooManyBlocks : List ℕ → Bool
 tooManyBlocks b = ltb mostBlocks (countOn b chain-of.Blocks) || someBelow portfolioNumbers (tooManyOf b)
 

@@ -7,8 +7,10 @@ pub const MOST_RECORDS: u16 = 2048;
 // The hours of a day, in the head: 24.
 pub const NORMAL_HOURS: u8 = 24;
 
-// The edition, in the head: 1.
+// The editions that there are, in the head: 1 and 2.
 pub const FIRST_EDITION: u8 = 1;
+
+pub const LAST_EDITION: u8 = 2;
 
 // The last portfolio: 1 to 255.
 pub const LAST_PORTFOLIO: u32 = 255;
@@ -25,11 +27,15 @@ pub const MOST_STEP_QUANTITY: u32 = 99999;
 // The fewest hours of a block: at least two are set.
 pub const FEWEST_HOURS: u32 = 2;
 
-// The largest quantity of a block in edition 1: 1 to 50.
-pub const BLOCK_QUANTITY: u32 = 50;
+// The largest quantity of a block: 1 to 50 in edition 1, 1 to 250 from edition 2 on.
+pub const FIRST_BLOCK_QUANTITY: u32 = 50;
 
-// The most blocks of one portfolio in edition 1.
-pub const BLOCKS_OF_PORTFOLIO: u16 = 5;
+pub const NOTICE_BLOCK_QUANTITY: u32 = 250;
+
+// The most blocks of one portfolio: 5 in edition 1, 10 from edition 2 on.
+pub const FIRST_BLOCKS_OF_PORTFOLIO: u16 = 5;
+
+pub const NOTICE_BLOCKS_OF_PORTFOLIO: u16 = 10;
 
 // The most blocks of a book.
 pub const MOST_BLOCKS: u16 = 32;

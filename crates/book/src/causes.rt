@@ -12,6 +12,7 @@ ghost use Rattle.book.specs.declared.Chain.the-variants.{Steps, Blocks};
 use crate::Chain;
 use crate::Surveyed;
 use crate::bounds::FIRST_EDITION;
+use crate::bounds::LAST_EDITION;
 use crate::bounds::MOST_BLOCKS;
 use crate::bounds::MOST_RECORDS;
 use crate::bounds::NORMAL_HOURS;
@@ -43,7 +44,11 @@ fn has_wrong_head(book: &[u8]) -> bool
     ensures { λ r. ⌜ r ≡ wrongHead (now (book .entry)) ⌝ }
 {
     (day_hours(book) != NORMAL_HOURS)
-        | (edition_of(book) != FIRST_EDITION)
+        | !is_within(
+            FIRST_EDITION as u32,
+            edition_of(book) as u32,
+            LAST_EDITION as u32,
+        )
         | is_nonzero(book, HEAD_REST_OFFSET, HEAD_REST_SIZE)
 }
 

@@ -3,12 +3,15 @@ ghost use mathlib.Core.Path.{_≡_};
 ghost use Rattle.book.specs.Tests.{within};
 ghost use Rattle.rules.specs.Orders.{limits};
 ghost use Rattle.book.specs.Refusals.{stepFits, blockFits, stepInRange, blockInRange, outOfRange};
-use crate::bounds::BLOCK_QUANTITY;
-use crate::bounds::BLOCKS_OF_PORTFOLIO;
 use crate::bounds::FEWEST_HOURS;
+use crate::bounds::FIRST_BLOCK_QUANTITY;
+use crate::bounds::FIRST_BLOCKS_OF_PORTFOLIO;
+use crate::bounds::FIRST_EDITION;
 use crate::bounds::LAST_PORTFOLIO;
 use crate::bounds::MAX_PRICE;
 use crate::bounds::MOST_STEP_QUANTITY;
+use crate::bounds::NOTICE_BLOCK_QUANTITY;
+use crate::bounds::NOTICE_BLOCKS_OF_PORTFOLIO;
 use records::Block;
 use records::LAST_HOUR;
 use records::LAST_SIDE;
@@ -27,18 +30,26 @@ pub fn is_within(low: u32, x: u32, high: u32) -> bool
     (low <= x) & (x <= high)
 }
 
-// The largest quantity of a block; every edition has that of edition 1 today.
+// The largest quantity of a block.
 fn most_block_quantity(edition: u8) -> u32
     ensures { λ r. ⌜ r ≡ limits edition .blockQuantity ⌝ }
 {
-    BLOCK_QUANTITY
+    if edition <= FIRST_EDITION {
+        FIRST_BLOCK_QUANTITY
+    } else {
+        NOTICE_BLOCK_QUANTITY
+    }
 }
 
-// The most blocks that one portfolio may have; every edition has that of edition 1 today.
+// The most blocks that one portfolio may have.
 pub fn most_blocks_of_portfolio(edition: u8) -> u16
     ensures { λ r. ⌜ r ≡ limits edition .blocksOfPortfolio ⌝ }
 {
-    BLOCKS_OF_PORTFOLIO
+    if edition <= FIRST_EDITION {
+        FIRST_BLOCKS_OF_PORTFOLIO
+    } else {
+        NOTICE_BLOCKS_OF_PORTFOLIO
+    }
 }
 
 // Whether a step's fields, its side apart, are in their ranges.

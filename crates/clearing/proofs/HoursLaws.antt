@@ -11,6 +11,7 @@ use Rattle.rules.specs.Orders.{Step}
 use Rattle.rules.specs.Day.{sumTo}
 use Rattle.rules.proofs.DualityLaws.{value, cost}
 use Rattle.pricing.specs.Curves.{TradesOf}
+use Rattle.places.specs.Layout.{lastPlace}
 use Rattle.places.specs.Steps.{stepsAt}
 use Rattle.places.proofs.StepLaws.{mid-slice, steps-next}
 use Rattle.clearing.specs.Publish.{HourDone, HourPut, TradersSized, HoursDone, salesAt, buysAt, inTurn, getsAt}
@@ -54,7 +55,7 @@ unfolding salesAt buysAt
 trades-are sides hours quantities set h sales purchases t = (t .sold, t .bought)
 
 pub trades-most : (sides hours quantities : List ℕ) (set h sales purchases : ℕ) → TradersSized sides hours quantities →
-    TradesOf sides hours quantities set h sales purchases → (sales ≤ 1600) × (purchases ≤ 1600)
+    TradesOf sides hours quantities set h sales purchases → (sales ≤ lastPlace) × (purchases ≤ lastPlace)
 trades-most sides hours quantities set h sales purchases z t =
     let e = trades-are sides hours quantities set h sales purchases t in
     let f = trades-fit sides hours quantities set h z in

@@ -26,6 +26,7 @@ use Rattle.orders.proofs.FrontLaws.{step-records-front, block-records-front, bl
 use Rattle.orders.proofs.HourLaws.{hour-from-columns}
 use Rattle.orders.proofs.PlaceLaws.{block-place}
 use Rattle.orders.proofs.BridgeLaws.{blocks-from-columns, block-count, day-blocks, prices-in-range, hours-in-range}
+use Rattle.places.specs.Layout.{mostQuantity}
 use Rattle.places.specs.Hours.{FirstSmall, ofHour}
 use Rattle.places.specs.Steps.{stepsAt}
 use Rattle.search.specs.Meaning.{DayOf, StepsAre}
@@ -233,13 +234,13 @@ pub record Fronts (count : ℕ) (records sides hours prices quantities : List �
   pub inQuantities : count ≤ length quantities
 
 module _ {count : ℕ} {records sides hours prices quantities : List ℕ} (f : Fronts count records sides hours prices quantities) where
-  pub fronts-sized : FirstSmall count 50 quantities → TradersSized (take count sides) (take count hours) (take count quantities)
+  pub fronts-sized : FirstSmall count mostQuantity quantities → TradersSized (take count sides) (take count hours) (take count quantities)
   fronts-sized small =
       record {
         few = omega (arith, f .few, length-take-le count sides (f .inSides));
         asManyHours = length-take-le count sides (f .inSides) ∙ sym (length-take-le count hours (f .inHours));
         asManyQuantities = length-take-le count sides (f .inSides) ∙ sym (length-take-le count quantities (f .inQuantities));
-        quantitiesFit = small-take 50 count quantities small;
+        quantitiesFit = small-take mostQuantity count quantities small;
       }
 
   pub fronts-records : length (take count sides) ≡ length (take count records)

@@ -17,6 +17,8 @@ use Rattle.rules.specs.Day as day
 use Rattle.orders.specs.Columns.{sideFor, blockOf, blocksFrom}
 use Rattle.orders.proofs.BridgeLaws.{hour-count}
 use Rattle.clearing.specs.Publish.{WorthOf, TradersSized, salesAt, buysAt}
+use Rattle.book.specs.Bounds.{mostBlocks}
+use Rattle.places.specs.Layout.{mostQuantity, lastPlace}
 use Rattle.rules.proofs.CurveLaws.{bySide-le}
 use Rattle.rules.proofs.TradeBounds.{take-one}
 use Rattle.rules.proofs.BoundsLaws.{product-le}
@@ -32,12 +34,12 @@ hours-few (suc n) x = omega (arith, hours-few n x, at (holdsHour x (suc n)))
     at true = omega arith
     at false = omega arith
 
-module _ (p q x : ℕ) (fp : p ≤ 300000) (fq : q ≤ 50) where
+module _ (p q x : ℕ) (fp : p ≤ 300000) (fq : q ≤ mostQuantity) where
   pub limit-fits : (c : ℕ) → c ≡ hoursSet 24 x → p * c ≤ 7200000
   limit-fits c e = product-le p c 300000 24 fp (omega (arith, hours-few 24 x))
 
-  pub worth-fits : (c : ℕ) → c ≡ hoursSet 24 x → q * (p * c) ≤ 360000000
-  worth-fits c e = product-le q (p * c) 50 7200000 fq (limit-fits c e)
+  pub worth-fits : (c : ℕ) → c ≡ hoursSet 24 x → q * (p * c) ≤ mostQuantity * 7200000
+  worth-fits c e = product-le q (p * c) mostQuantity 7200000 fq (limit-fits c e)
 
   pub worth-chosen : (t c : ℕ) → c ≡ hoursSet 24 x → t ≡ 1 → q * (p * c) ≡ when (eqb t 1) (q * (p * hoursSet 24 x))
   worth-chosen t c e o = rw (eq-eqb t 1 o, e)
@@ -71,8 +73,8 @@ module _ (sides hours prices quantities : List ℕ) where
         blocksValue day-hours (allFrom b records set) ≡ value-r + blocksValue day-hours (restFrom b records i rest)
     pub costIs : (b records : List ℕ) (day-hours : ℕ) → length records ≡ length sides →
         blocksCost day-hours (allFrom b records set) ≡ cost-r + blocksCost day-hours (restFrom b records i rest)
-    pub valueFits : value-r ≤ i * 360000000
-    pub costFits : cost-r ≤ i * 360000000
+    pub valueFits : value-r ≤ i * (mostQuantity * 7200000)
+    pub costFits : cost-r ≤ i * (mostQuantity * 7200000)
 
   pub worthed-none : (set : ℕ) → Worthed set 0 0 set 0
   worthed-none set =
@@ -130,7 +132,7 @@ module _ (sides hours prices quantities : List ℕ) where
           rest-more (λ b. bySide (b .side) 0 (b .quantity * (b .price * day.hourCount d b))) b records i rest same k
           ∙ rw (hour-count d (number b (getD records i 0)) (getD sides i 0) (getD hours i 0) (getD prices i 0) (getD quantities i 0), second-when)
 
-    pub worthed-next : (set v c rest i worth v′ c′ : ℕ) → Worthed set v c rest i → i < length sides → worth ≤ 360000000 →
+    pub worthed-next : (set v c rest i worth v′ c′ : ℕ) → Worthed set v c rest i → i < length sides → worth ≤ mostQuantity * 7200000 →
         worth ≡ when (eqb (rest % 2) 1) (getD quantities i 0 * (getD prices i 0 * hoursSet 24 (getD hours i 0))) →
         v′ ≡ v + bySide (sideFor (getD sides i 0)) worth 0 →
         c′ ≡ c + bySide (sideFor (getD sides i 0)) 0 worth → Worthed set v′ c′ (rest / 2) (i + 1)
@@ -163,10 +165,10 @@ module _ (sides hours prices quantities : List ℕ) where
           costFits = omega (arith, s .costFits, s .inside, sized .few);
         }
 
--- IN AN HOUR the blocks of a set trade 50 each at most
+-- IN AN HOUR the blocks of a set trade so much each at most
 pub trades-fit : (sides hours quantities : List ℕ) (set h : ℕ) → TradersSized sides hours quantities →
-    (salesAt sides hours quantities set h ≤ 1600) × (buysAt sides hours quantities set h ≤ 1600)
+    (salesAt sides hours quantities set h ≤ lastPlace) × (buysAt sides hours quantities set h ≤ lastPlace)
 unfolding salesAt buysAt
 trades-fit sides hours quantities set h sized =
-    let all = traders-within 50 32 h sides hours quantities (decisions (length sides) set) (sized .few) (λ i k. sized .quantitiesFit i) in
+    let all = traders-within mostQuantity mostBlocks h sides hours quantities (decisions (length sides) set) (sized .few) (λ i k. sized .quantitiesFit i) in
     (omega (arith, all), omega (arith, all))

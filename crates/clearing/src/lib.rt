@@ -1,58 +1,66 @@
 // The clearing: layer 3, above pricing.
 ghost use mathlib.Core.Path.{_≡_};
-ghost use Prim.Native.Nat.{_+_, _*_};
 ghost use lib.ListN.{length};
 ghost use Rattle.records.specs.Records.{recordCount};
 ghost use Rattle.book.specs.Refusals.{Accepted};
+ghost use Rattle.rules.specs.Orders.{maxPrice};
+ghost use Rattle.places.specs.Hours.{Small, rowWidth, HasRows};
+ghost use Rattle.setup.specs.Setup.{BlocksFit};
+ghost use Rattle.clearing.specs.Clear.{smallRow, largeRow, Held};
 ghost use Rattle.result.specs.Promise.{Promise};
 ghost use Rattle.result.specs.Layout.{resultSize};
 ghost use Rattle.result.specs.Result.{resultBytes};
 use crate::publish::publish;
 use book::Reading;
 use book::read;
+use orders::Blocks;
+use orders::Steps;
 use orders::blocks_of;
+use orders::layout::HOURS;
 use orders::steps_of;
-use places::layout::TABLE;
 use records::record_count;
 use result::Clearing;
 use result::RECORD_ROW;
 use result::RECORD_ROWS;
 use search::find;
 use setup::prepare;
+use setup::row_needed;
 
 mod publish; // the published set as the result
 
 // The refusal of a result buffer of another size.
 const WRONG_BUFFER: u8 = 7;
 
-// The outcome of an accepted book into a result of the right size.
-fn clear_accepted(book: &[u8], result: &mut [u8])
-    requires { ⌜ Accepted (now book) × (length (now result) ≡ resultSize (recordCount (now book))) ⌝ }
+// The rows of the two pairs of tables: the small ones have room for all that 32 blocks of 50 trade in an hour, as in edition 1, the large ones for 32 of 250.
+const SMALL_ROW: usize = 1602;
+
+const LARGE_ROW: usize = 8002;
+
+// The outcome of an accepted book into a result of the right size, out of its columns, in two tables with room for what its blocks reach.
+fn clear_within(
+    book: &[u8],
+    steps: Steps,
+    blocks: Blocks,
+    unit_prices: &mut [u32],
+    gap: &mut [u32],
+    result: &mut [u8],
+)
+    requires held { ⌜ Held (now book) steps blocks (now result) ⌝ }
+    requires tables { ⌜ HasRows (now «unit_prices») × (length (now gap) ≡ length (now «unit_prices»)) × Small maxPrice (now «unit_prices»)
+        × BlocksFit (rowWidth (now «unit_prices»)) blocks ⌝ }
     ensures { λ _. ⌜ now (result .exit) ≡ resultBytes (now (book .entry)) ⌝ }
 {
     let count = record_count(book) as usize;
-    let steps = steps_of(book);
     let sides = steps.sides;
     let prices = steps.prices;
     let quantities = steps.quantities;
     let ends = steps.ends;
-    let blocks = blocks_of(book);
-    let mut unit_prices = [0; TABLE];
-    let mut gap = [0; TABLE];
-    let prepared = prepare(
-        &sides,
-        &prices,
-        &quantities,
-        ends,
-        blocks,
-        &mut unit_prices,
-        &mut gap,
-    );
+    let prepared = prepare(&sides, &prices, &quantities, ends, blocks, unit_prices, gap);
     let hours = prepared.hours;
     let columns = prepared.columns;
     let best = find(
-        &unit_prices,
-        &gap,
+        unit_prices,
+        gap,
         &hours,
         &columns,
         &sides,
@@ -62,6 +70,40 @@ fn clear_accepted(book: &[u8], result: &mut [u8])
         blocks.count as u32,
     );
     publish(count, steps, blocks, best.set, best.day, result);
+}
+
+// The same in small tables, where the blocks reach no further.
+fn clear_small(book: &[u8], steps: Steps, blocks: Blocks, result: &mut [u8])
+    requires { ⌜ Held (now book) steps blocks (now result) × BlocksFit smallRow blocks ⌝ }
+    ensures { λ _. ⌜ now (result .exit) ≡ resultBytes (now (book .entry)) ⌝ }
+{
+    let mut unit_prices = [0; HOURS * SMALL_ROW];
+    let mut gap = [0; HOURS * SMALL_ROW];
+    clear_within(book, steps, blocks, &mut unit_prices, &mut gap, result);
+}
+
+// The same in large tables, which have room for any blocks of a book.
+fn clear_large(book: &[u8], steps: Steps, blocks: Blocks, result: &mut [u8])
+    requires { ⌜ Held (now book) steps blocks (now result) × BlocksFit largeRow blocks ⌝ }
+    ensures { λ _. ⌜ now (result .exit) ≡ resultBytes (now (book .entry)) ⌝ }
+{
+    let mut unit_prices = [0; HOURS * LARGE_ROW];
+    let mut gap = [0; HOURS * LARGE_ROW];
+    clear_within(book, steps, blocks, &mut unit_prices, &mut gap, result);
+}
+
+// The outcome of an accepted book into a result of the right size.
+fn clear_accepted(book: &[u8], result: &mut [u8])
+    requires { ⌜ Accepted (now book) × (length (now result) ≡ resultSize (recordCount (now book))) ⌝ }
+    ensures { λ _. ⌜ now (result .exit) ≡ resultBytes (now (book .entry)) ⌝ }
+{
+    let steps = steps_of(book);
+    let blocks = blocks_of(book);
+    if row_needed(blocks) <= SMALL_ROW {
+        clear_small(book, steps, blocks, result);
+    } else {
+        clear_large(book, steps, blocks, result);
+    }
 }
 
 // The auction's outcome for a book, written to the result; or the first refusal whose cause holds, and the result as it was.

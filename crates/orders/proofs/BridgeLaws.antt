@@ -5,8 +5,10 @@ use mathlib.Core.Bool.{Bool, true, false, cond}
 use mathlib.Core.Path.{_≡_, refl, ap, sym, _∙_}
 use mathlib.Core.List.{List, [], _∷_, map}
 use lib.ListN.{length, take, length-map}
-use Rattle.rules.specs.Orders.{limits}
-use Rattle.records.specs.Records.{number, sideByte, blockAt, holdsHour, hoursSet}
+use Rattle.rules.specs.Orders.{mostBlockQuantity}
+use Rattle.rules.proofs.BoundsLaws.{limits-small}
+use native.Mathlib.Nat.{le-trans}
+use Rattle.records.specs.Records.{edition, number, sideByte, blockAt, holdsHour, hoursSet}
 use Rattle.book.specs.Chains.{stepOrder, blockOrder}
 use Rattle.book.specs.Refusals.{Accepted}
 use Rattle.book.proofs.Members.{Each, each-map, each-image}
@@ -53,15 +55,16 @@ pub record StepInRange (s : Step) : Type 0 where
 -- A block of the rules within the ranges of document 01
 pub record BlockInRange (s : Block) : Type 0 where
   pub price : (1 ≤ s .price) × (s .price ≤ 300000)
-  pub quantity : (1 ≤ s .quantity) × (s .quantity ≤ 50)
+  pub quantity : (1 ≤ s .quantity) × (s .quantity ≤ mostBlockQuantity)
 
 step-in-range : (b : List ℕ) (k : ℕ) → StepRecord b k → StepInRange (stepFrom b k)
 unfolding stepFrom
 step-in-range b k r = record { hour = r .fields .hour; price = r .fields .price; quantity = r .fields .quantity }
 
 block-in-range : (b : List ℕ) (k : ℕ) → BlockRecord b k → BlockInRange (blockFrom b k)
-unfolding blockFrom limits
-block-in-range b k r = record { price = r .fields .price; quantity = r .fields .quantity }
+unfolding blockFrom
+block-in-range b k r =
+    record { price = r .fields .price; quantity = (r .fields .quantity .0, le-trans (r .fields .quantity .1) (limits-small (edition b))) }
 
 -- Every step and every block of the day
 pub steps-in-range : (b : List ℕ) → Accepted b → Each StepInRange (dayFrom b .steps)

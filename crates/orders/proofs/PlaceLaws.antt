@@ -5,8 +5,10 @@ use mathlib.Core.List.{List, [], _∷_, map}
 use native.Mathlib.Omega.{arith}
 use lib.ListN.{length, take, getD}
 use lib.Seq.{getD-take}
-use Rattle.records.specs.Records.{sideByte, stepAt, blockAt, hoursSet}
-use Rattle.rules.specs.Orders.{limits}
+use native.Mathlib.Nat.{le-trans}
+use Rattle.records.specs.Records.{edition, sideByte, stepAt, blockAt, hoursSet}
+use Rattle.rules.specs.Orders.{mostBlockQuantity}
+use Rattle.rules.proofs.BoundsLaws.{limits-small}
 use Rattle.book.specs.Refusals.{Accepted}
 use Rattle.book.proofs.Members.{each-place}
 use Rattle.book.proofs.Accepted.{StepRecord, BlockRecord}
@@ -73,11 +75,10 @@ pub record BlockPlace (b : List ℕ) (k side hours price quantity : ℕ) : Type 
   pub sideRange : side ≤ 1
   pub hoursCount : 2 ≤ hoursSet 24 hours
   pub priceRange : (1 ≤ price) × (price ≤ 300000)
-  pub quantityRange : (1 ≤ quantity) × (quantity ≤ 50)
+  pub quantityRange : (1 ≤ quantity) × (quantity ≤ mostBlockQuantity)
 
 block-placed : (b : List ℕ) (k side hours price quantity : ℕ) → BlockRecord b k → side ≡ blockSideAt b k → hours ≡ blockHoursAt b k
     → price ≡ blockPriceAt b k → quantity ≡ blockQuantityAt b k → BlockPlace b k side hours price quantity
-unfolding limits
 block-placed b k side hours price quantity r s x p q =
     let n = block-as-read b k r in
     record {
@@ -89,7 +90,7 @@ block-placed b k side hours price quantity r s x p q =
       sideRange = rw (s ∙ n .side) (r .side);
       hoursCount = rw (x ∙ n .hours) (r .fields .hours);
       priceRange = rw (p ∙ n .price) (r .fields .price);
-      quantityRange = rw (q ∙ n .quantity) (r .fields .quantity);
+      quantityRange = rw (q ∙ n .quantity) (r .fields .quantity .0, le-trans (r .fields .quantity .1) (limits-small (edition b)));
     }
 
 pub block-place : {n : ℕ} (b : List ℕ) (count : ℕ) (records sides hours prices quantities : List ℕ)

@@ -5,6 +5,7 @@ use mathlib.Core.List.{List}
 use mathlib.Core.Bool.{true, false, _||_}
 use native.Mathlib.Omega.{arith}
 use native.Mathlib.Numerals.{add-one, sub-one}
+use native.Mathlib.Nat.{mul-le-mul-right, suc-mul}
 use lib.Dec.{ltb}
 use lib.ListN.{length, getD, set, length-set, replicate}
 use lib.Seq.{getD-set-same, getD-set-other}
@@ -13,9 +14,26 @@ use Rattle.rules.specs.Orders.{maxPrice}
 use Rattle.rules.specs.Day.{sumTo}
 use Rattle.rules.proofs.Tests.{clash}
 use Rattle.book.proofs.Laws.{or-left, or-right}
-use Rattle.places.specs.Layout.{hourPlaces, lastPlace, mostGaps, rowSize}
-use Rattle.places.specs.Hours.{Small, cell, ofHour, PlacesClear, GapsOf, PricesOf, nearest, leastGaps}
+use Rattle.places.specs.Layout.{hourPlaces, lastPlace, mostGaps}
+use Rattle.places.specs.Hours.{Small, rowWidth, lastIn, HasRows, cell, ofHour, PlacesClear, GapsOf, PricesOf, nearest, leastGaps}
 use Rattle.places.proofs.NumberLaws.{below-next, zeros}
+
+-- ROWS: a place of a row is within the table
+pub row-inside : (table : List ℕ) (h i : ℕ) → h < hourPlaces → i < rowWidth table → h * rowWidth table + i < length table
+row-inside table h i k inside =
+    let w = rowWidth table in
+    let next : suc h * w ≤ hourPlaces * w = mul-le-mul-right w k in
+    omega (arith, next, suc-mul h w, div-mul-le (length table))
+  where
+    div-mul-le : (n : ℕ) → hourPlaces * (n / hourPlaces) ≤ n
+    div-mul-le n = omega arith
+
+-- with the place above it, and within the numbers of an index
+pub place-inside : (table : List ℕ) (h i : ℕ) → HasRows table → h < hourPlaces → i ≤ lastIn table →
+    (h * rowWidth table + i + 1 < length table) × (length table < hourPlaces * (lastPlace + 3))
+place-inside table h i rows k fits =
+    let e : h * rowWidth table + (i + 1) ≡ h * rowWidth table + i + 1 = omega arith in
+    (rw (← e) (row-inside table h (i + 1) k (omega (arith, rows .0))), omega (arith, rows .1))
 
 -- GAPS
 module _ (gap first last places : List ℕ) where
@@ -33,7 +51,7 @@ module _ (gap first last places : List ℕ) where
   gaps-start = record { inside = omega arith; ranges = λ k a. absurd (omega arith); is = refl; fits = omega arith }
 
   pub gaps-next : (h sum : ℕ) → GapsTo h sum → h < hourPlaces → (ltb (getD places h 0) (getD first h 0) || ltb (getD last h 0) (getD places h 0)) ≡ false →
-      getD gap (h * rowSize + getD places h 0) 0 < 2 ^ 32 → GapsTo (h + 1) (sum + getD gap (h * rowSize + getD places h 0) 0)
+      getD gap (h * rowWidth gap + getD places h 0) 0 < 2 ^ 32 → GapsTo (h + 1) (sum + getD gap (h * rowWidth gap + getD places h 0) 0)
   unfolding sumTo
   gaps-next h sum g k t small =
       let here : ClearsAt h = (
@@ -47,9 +65,9 @@ module _ (gap first last places : List ℕ) where
         fits = omega (arith, g .fits);
       }
 
-  pub passed-fits : (h : ℕ) → Small lastPlace last → (ltb (getD places h 0) (getD first h 0) || ltb (getD last h 0) (getD places h 0)) ≡ false →
-      getD places h 0 ≤ lastPlace
-  passed-fits h small t = omega (arith, ltb-false (getD last h 0) (getD places h 0) (or-right (ltb (getD places h 0) (getD first h 0)) _ t), small h)
+  pub passed-fits : (m h : ℕ) → Small m last → (ltb (getD places h 0) (getD first h 0) || ltb (getD last h 0) (getD places h 0)) ≡ false →
+      getD places h 0 ≤ m
+  passed-fits m h small t = omega (arith, ltb-false (getD last h 0) (getD places h 0) (or-right (ltb (getD places h 0) (getD first h 0)) _ t), small h)
 
   pub gaps-out : (h : ℕ) → h < hourPlaces → (ltb (getD places h 0) (getD first h 0) || ltb (getD last h 0) (getD places h 0)) ≡ true →
       GapsOf gap first last places false 0
@@ -74,7 +92,7 @@ module _ (gap first last places : List ℕ) where
 
 module _ (unitPrices places : List ℕ) where
   abbrev priceHere : ℕ → ℕ
-  priceHere k = (getD unitPrices (k * rowSize + getD places k 0) 0 + getD unitPrices (k * rowSize + getD places k 0 + 1) 0) / 2
+  priceHere k = (getD unitPrices (k * rowWidth unitPrices + getD places k 0) 0 + getD unitPrices (k * rowWidth unitPrices + getD places k 0 + 1) 0) / 2
 
   pub record PricesTo (h : ℕ) (prices : List ℕ) : Type 0 where
     pub inside : h ≤ hourPlaces
@@ -101,7 +119,7 @@ module _ (unitPrices places : List ℕ) where
       let e : h ≡ hourPlaces = omega (arith, g .inside) in
       record {
         are = λ j a b.
-            let at : (j - 1) * rowSize + (ofHour places j + 1) ≡ (j - 1) * rowSize + ofHour places j + 1 = omega arith in
+            let at : (j - 1) * rowWidth unitPrices + (ofHour places j + 1) ≡ (j - 1) * rowWidth unitPrices + ofHour places j + 1 = omega arith in
             rw at (g .done (j - 1) (omega arith));
         small = λ i. fits i (native.Mathlib.Decide.decLe hourPlaces i);
       }
@@ -112,15 +130,15 @@ module _ (unitPrices places : List ℕ) where
           omega (
             arith,
             g .done i (omega (arith, native.Mathlib.Nat.lt-of-not-le a)),
-            small (i * rowSize + getD places i 0),
-            small (i * rowSize + getD places i 0 + 1),
+            small (i * rowWidth unitPrices + getD places i 0),
+            small (i * rowWidth unitPrices + getD places i 0 + 1),
           )
 
 -- places in range are small
-pub places-small : (first last places : List ℕ) → PlacesClear first last places → Small lastPlace last → length places ≡ hourPlaces → Small lastPlace places
-places-small first last places r small e i = at (native.Mathlib.Decide.decLe hourPlaces i)
+pub places-small : (m : ℕ) (first last places : List ℕ) → PlacesClear first last places → Small m last → length places ≡ hourPlaces → Small m places
+places-small m first last places r small e i = at (native.Mathlib.Decide.decLe hourPlaces i)
   where
-    at : Dec (hourPlaces ≤ i) → getD places i 0 ≤ lastPlace
+    at : Dec (hourPlaces ≤ i) → getD places i 0 ≤ m
     at (yes k) = let z : length places ≤ i = omega arith in rw (lib.ListN.List·getD-eq-default places 0 z) (omega arith)
     at (no k) =
         let a = rw sub-one at (r (suc i) (omega arith) (omega (arith, native.Mathlib.Nat.lt-of-not-le k))) in
@@ -138,7 +156,7 @@ module _ (gap turn from to : List ℕ) where
   least-start = record { inside = omega arith; is = refl; fits = omega arith }
 
   pub least-next : (h sum near : ℕ) → LeastTo h sum → h < hourPlaces → near ≡ nearest (getD turn h 0) (getD from h 0) (getD to h 0) →
-      getD gap (h * rowSize + near) 0 < 2 ^ 32 → LeastTo (h + 1) (sum + getD gap (h * rowSize + near) 0)
+      getD gap (h * rowWidth gap + near) 0 < 2 ^ 32 → LeastTo (h + 1) (sum + getD gap (h * rowWidth gap + near) 0)
   unfolding sumTo
   least-next h sum near g k e small = record { inside = omega arith; is = rw (g .is, e, add-one, sub-one); fits = omega (arith, g .fits) }
 

@@ -15,7 +15,7 @@ use Rattle.rules.specs.Hour.{when}
 use Rattle.rules.proofs.Tests.{by-test, both, clash}
 use Rattle.rules.proofs.CurveLaws.{when-le}
 use Rattle.book.specs.Bounds.{mostBlocks}
-use Rattle.places.specs.Layout.{hourPlaces, lastPlace, mostAdded}
+use Rattle.places.specs.Layout.{hourPlaces, mostAdded}
 use Rattle.places.specs.Hours.{Small, ofHour, larger, smaller}
 use Rattle.places.specs.Blocks.{sideAt, againstAt, gainAt, rowQuantity, addedIn}
 use Rattle.places.specs.Reach.{isLeft, isTaken, mustMove, mayMove, mustFrom, mayFrom, AddedTo, RestOf, ReachOf}
@@ -70,18 +70,18 @@ column-small m l size f i = elim (decLe hourPlaces i) [
 ]
 
 module _ {first last least free : List ℕ} {balances : Bool} {from to : List ℕ} (reach : ReachOf first last least free balances from to)
-    (small : Small lastPlace last) where
-  pub to-fits : (h : ℕ) → h < hourPlaces → getD to h 0 ≤ lastPlace
+    {m : ℕ} (small : Small m last) where
+  pub to-fits : (h : ℕ) → h < hourPlaces → getD to h 0 ≤ m
   to-fits h k =
       let is = rw sub-one at (reach .toIs (suc h) (omega arith) (omega arith)) in
       omega (arith, small h, smaller-below (getD least h 0 + getD free h 0) (getD last h 0) .1)
 
-  pub to-small : length to ≡ hourPlaces → Small lastPlace to
-  to-small size = column-small lastPlace to size to-fits
+  pub to-small : length to ≡ hourPlaces → Small m to
+  to-small size = column-small m to size to-fits
 
-  pub from-small : balances ≡ true → length from ≡ hourPlaces → Small lastPlace from
+  pub from-small : balances ≡ true → length from ≡ hourPlaces → Small m from
   from-small e size =
-      column-small lastPlace from size (λ h k.
+      column-small m from size (λ h k.
       let le = rw sub-one at (reach .balanced e (suc h) (omega arith) (omega arith)) in
       omega (arith, to-fits h k))
 

@@ -9,7 +9,7 @@ use Rattle.rules.specs.Orders.{maxPrice}
 use Rattle.rules.specs.Hour.{when}
 use Rattle.rules.specs.Day.{sumTo}
 use Rattle.records.specs.Records.{holdsHour}
-use Rattle.places.specs.Layout.{hourPlaces, mostGaps, rowSize, turnColumn}
+use Rattle.places.specs.Layout.{hourPlaces, lastPlace, mostGaps, turnColumn}
 
 -- Every number of a list is at most m.
 abbrev pub Small : ℕ → List ℕ → Type 0
@@ -27,10 +27,21 @@ FirstSmall n m l = (i : ℕ) → i < n → getD l i 0 ≤ m
 unfoldable pub sumOfHours : List ℕ → ℕ → ℕ
 sumOfHours column hours = sumTo hourPlaces (λ h. when (holdsHour hours h) (getD column (h - 1) 0))
 
--- THE TABLES: a row of places for each hour, hour 1 first.
+-- THE TABLES: a row of places for each hour, hour 1 first, as wide as the table has room for.
+abbrev pub rowWidth : List ℕ → ℕ
+rowWidth table = length table / hourPlaces
+
+-- The last place of a row that has one above it.
+abbrev pub lastIn : List ℕ → ℕ
+lastIn table = rowWidth table - 2
+
+-- Its rows have such a place, and are no wider than the blocks of a book can reach.
+abbrev pub HasRows : List ℕ → Type 0
+HasRows table = (2 ≤ rowWidth table) × (rowWidth table ≤ lastPlace + 2)
+
 -- The number at a place of hour h.
 abbrev pub cell : List ℕ → ℕ → ℕ → ℕ
-cell table h i = getD table ((h - 1) * rowSize + i) 0
+cell table h i = getD table ((h - 1) * rowWidth table + i) 0
 
 -- The number of hour h in a column.
 abbrev pub ofHour : List ℕ → ℕ → ℕ

@@ -2,15 +2,15 @@
 use Prim.Native.Nat.{ℕ, _+_, _*_, _^_}
 use Rattle.records.specs.Layout.{lastHour}
 use Rattle.book.specs.Bounds.{mostBlocks}
-use Rattle.rules.specs.Orders.{maxPrice}
+use Rattle.rules.specs.Orders.{maxPrice, mostBlockQuantity}
 
 -- The hours of a day: the rows of a table, and what a column of the hours holds.
 abbrev pub hourPlaces : ℕ
 hourPlaces = lastHour
 
--- The most that a block trades in an hour.
+-- The most that a block trades in an hour, in any edition.
 abbrev pub mostQuantity : ℕ
-mostQuantity = 50
+mostQuantity = mostBlockQuantity
 
 -- The most that all blocks trade in an hour: the last place that a set can have.
 abbrev pub lastPlace : ℕ
@@ -38,13 +38,6 @@ mostGaps = hourPlaces * 2 ^ 32
 -- The threshold of the last pass, 2 to the power of 39: every lawful set loses less than the two together.
 abbrev pub lastLimit : ℕ
 lastLimit = 549755813888
-
--- THE TABLES: a row of places for each hour, the last place and one above it; 24 rows.
-abbrev pub rowSize : ℕ
-rowSize = lastPlace + 2
-
-abbrev pub tableSize : ℕ
-tableSize = hourPlaces * rowSize
 
 -- THE HOURS: the columns first, last and turn in one list.
 abbrev pub lastColumn : ℕ

@@ -5,10 +5,9 @@ ghost use mathlib.Core.Path.{_≡_};
 ghost use Prim.Native.Nat.{ℕ, _≤_, _<_};
 ghost use lib.ListN.{length, getD};
 ghost use Rattle.rules.specs.Orders.{maxPrice};
-ghost use Rattle.places.specs.Layout.{hourPlaces, lastPlace, mostGaps, tableSize};
-ghost use Rattle.places.specs.Hours.{Small, GapsOf, PricesOf, leastGaps};
+ghost use Rattle.places.specs.Layout.{hourPlaces, mostGaps};
+ghost use Rattle.places.specs.Hours.{Small, HasRows, lastIn, GapsOf, PricesOf, leastGaps};
 use crate::layout::HOURS;
-use crate::layout::ROW;
 use crate::numbers::larger;
 use crate::numbers::smaller;
 
@@ -19,9 +18,10 @@ pub struct Gaps {
 }
 
 pub fn gaps_at(gap: &[u32], first: &[u32], last: &[u32], places: [u32; HOURS]) -> Gaps
-    requires { ⌜ (length (now gap) ≡ tableSize) × (length (now first) ≡ hourPlaces) × (length (now last) ≡ hourPlaces) × Small lastPlace (now last) ⌝ }
+    requires { ⌜ HasRows (now gap) × (length (now first) ≡ hourPlaces) × (length (now last) ≡ hourPlaces) × Small (lastIn (now gap)) (now last) ⌝ }
     ensures { λ r. ⌜ GapsOf (now (gap .entry)) (now (first .entry)) (now (last .entry)) places (r .clears) (r .sum) ⌝ }
 {
+    let width = gap.len() / HOURS;
     let mut sum: u64 = 0;
     let mut h: usize = 0;
     while h < HOURS {
@@ -32,7 +32,7 @@ pub fn gaps_at(gap: &[u32], first: &[u32], last: &[u32], places: [u32; HOURS]) -
                 sum: 0,
             };
         }
-        let cell = gap[h * ROW + (place as usize)];
+        let cell = gap[h * width + (place as usize)];
         sum += cell as u64;
         h += 1;
     }
@@ -44,13 +44,14 @@ pub fn gaps_at(gap: &[u32], first: &[u32], last: &[u32], places: [u32; HOURS]) -
 
 // The price of each hour at its place.
 pub fn prices_at(unit_prices: &[u32], places: [u32; HOURS]) -> [u32; HOURS]
-    requires { ⌜ (length (now «unit_prices») ≡ tableSize) × Small maxPrice (now «unit_prices») × Small lastPlace places ⌝ }
+    requires { ⌜ HasRows (now «unit_prices») × Small maxPrice (now «unit_prices») × Small (lastIn (now «unit_prices»)) places ⌝ }
     ensures { λ r. ⌜ PricesOf (now («unit_prices» .entry)) places r ⌝ }
 {
+    let width = unit_prices.len() / HOURS;
     let mut prices = [0; HOURS];
     let mut h: usize = 0;
     while h < HOURS {
-        let at = h * ROW + (places[h] as usize);
+        let at = h * width + (places[h] as usize);
         prices[h] = (unit_prices[at] + unit_prices[at + 1]) / 2;
         h += 1;
     }
@@ -59,14 +60,15 @@ pub fn prices_at(unit_prices: &[u32], places: [u32; HOURS]) -> [u32; HOURS]
 
 // The sum of the hours' least gaps over the places from `from` to `to`.
 pub fn least_gaps(gap: &[u32], turn: &[u32], from: [u32; HOURS], to: [u32; HOURS]) -> u64
-    requires { ⌜ (length (now gap) ≡ tableSize) × (length (now turn) ≡ hourPlaces) × ((h : ℕ) → h < hourPlaces → getD to h 0 ≤ lastPlace) ⌝ }
+    requires { ⌜ HasRows (now gap) × (length (now turn) ≡ hourPlaces) × ((h : ℕ) → h < hourPlaces → getD to h 0 ≤ lastIn (now gap)) ⌝ }
     ensures { λ r. ⌜ (r ≡ leastGaps (now (gap .entry)) (now (turn .entry)) from to) × (r ≤ mostGaps) ⌝ }
 {
+    let width = gap.len() / HOURS;
     let mut sum: u64 = 0;
     let mut h: usize = 0;
     while h < HOURS {
         let place = smaller(larger(turn[h], from[h]), to[h]);
-        sum += gap[h * ROW + (place as usize)] as u64;
+        sum += gap[h * width + (place as usize)] as u64;
         h += 1;
     }
     sum

@@ -9,19 +9,6 @@ pub const HOURS: usize = DAY_HOURS;
 // The most blocks of a book: what a column of the blocks holds.
 pub const MOST_BLOCKS: usize = BLOCK_PLACES;
 
-// The most that a block trades in an hour.
-pub const MOST_QUANTITY: usize = 50;
-
-// The most that all blocks trade in an hour: the last place that a set can have.
-pub const LAST_PLACE: usize = MOST_BLOCKS * MOST_QUANTITY;
-
-// THE TABLES: for each hour a row, hour 1 first.
-// A row: the places up to the last, and the one above it.
-pub const ROW: usize = LAST_PLACE + 2;
-
-// A table: 24 rows.
-pub const TABLE: usize = HOURS * ROW;
-
 // THE HOURS: three columns in one list.
 // The first place at which an hour clears.
 pub const FIRST: usize = 0;

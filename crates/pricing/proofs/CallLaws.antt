@@ -15,7 +15,8 @@ use Rattle.book.specs.Chains.{blockOrder}
 use Rattle.book.specs.Refusals.{Accepted, refusal, firstCause, ownCauses}
 use Rattle.book.proofs.Accepted.{accepted-zero}
 use Rattle.book.proofs.Refused.{bounds, refusal-then}
-use Rattle.rules.specs.Orders.{Block}
+use Rattle.rules.specs.Orders.{Block, mostBlockQuantity}
+use Rattle.orders.specs.Layout.{blockPlaces}
 use Rattle.rules.specs.Hour.{Pricing, cleared, doesNotClear, pricing}
 use Rattle.rules.specs.Day.{stepsIn, taken, decisions, overBlocks, sells, buys}
 use Rattle.rules.specs.Contender.{PricesInRange}
@@ -28,7 +29,7 @@ use Rattle.orders.proofs.HourLaws.{hour-from-columns}
 use Rattle.orders.proofs.BridgeLaws.{prices-in-range, blocks-from-columns, block-count}
 use Rattle.orders.proofs.PlaceLaws.{block-place}
 use Rattle.pricing.proofs.TraderLaws.{traders-same, traders-within}
-use Rattle.pricing.specs.Curves.{bias, tradersFrom, TradesOf}
+use Rattle.pricing.specs.Curves.{bias, mostTraded, tradersFrom, TradesOf}
 use Rattle.pricing.specs.Answers.{answerFor, AnswerOf, blocksOf, NetOf, hourAnswered, wrongCall, priceCauses, hourAnswer, numberOf}
 use Rattle.pricing.specs.declared.HourAnswer.{HourAnswer}
 use Rattle.pricing.specs.declared.HourAnswer.the-variants.{Refused}
@@ -42,14 +43,14 @@ module _ (b : List ℕ) (a : Accepted b) (count : ℕ) (records sides hours pric
   size l e = length-take-le count l (omega (arith, columns .few))
 
   -- they are few enough to be added to and taken off the bias
-  pub trades-fit : (sales ≤ 1600) × (bought ≤ 1600)
+  pub trades-fit : (sales ≤ mostTraded) × (bought ≤ mostTraded)
   trades-fit =
-      let small : (i : ℕ) → i < length (take count sides) → getD (take count quantities) i 0 ≤ 50 = λ i k.
+      let small : (i : ℕ) → i < length (take count sides) → getD (take count quantities) i 0 ≤ mostBlockQuantity = λ i k.
       let j : i < count = omega (arith, size sides es) in
       rw (getD-take count quantities i 0 j) (block-place b count records sides hours prices quantities columns a i j .quantityRange .1) in
       let few : length (take count sides) ≤ 32 = omega (arith, size sides es, columns .few) in
       let all =
-      traders-within 50 32 h (take count sides) (take count hours) (take count quantities) (decisions (length (take count sides)) set) few small in
+      traders-within mostBlockQuantity blockPlaces h (take count sides) (take count hours) (take count quantities) (decisions (length (take count sides)) set) few small in
       (omega (arith, trades .sold, all), omega (arith, trades .bought, all))
 
   abbrev S : List Block

@@ -4,9 +4,9 @@ use mathlib.Core.List.{List, [], _∷_, map}
 use mathlib.Core.Path.{_≡_}
 use lib.ListN.{length, getD}
 use Rattle.book.specs.Bounds.{mostStepQuantity}
-use Rattle.orders.specs.Layout.{stepPlaces}
+use Rattle.orders.specs.Layout.{stepPlaces, blockPlaces}
 use Rattle.orders.specs.Columns.{sideFor, stepsFrom, blockOf}
-use Rattle.rules.specs.Orders.{Step, Block, maxPrice}
+use Rattle.rules.specs.Orders.{Step, Block, maxPrice, mostBlockQuantity}
 use Rattle.rules.specs.Hour.{Hour, buysAbove, buysFrom, sellsTo}
 use Rattle.rules.specs.Execution.{inFull, buyingAt, sellingAt, buyAmount, sellAmount, shares, plus, execution}
 use Rattle.rules.specs.Day.{taken, decisions, overBlocks, sells, buys as buysIn}
@@ -14,6 +14,10 @@ use Rattle.rules.specs.Day.{taken, decisions, overBlocks, sells, buys as buysIn
 -- N is held as one number that is never negative: this, plus block sales, less block purchases.
 abbrev pub bias : ℕ
 bias = 2097152
+
+-- The most that all blocks of a book sell, or buy, in an hour, in any edition; less than the bias.
+abbrev pub mostTraded : ℕ
+mostTraded = blockPlaces * mostBlockQuantity
 
 -- The hour of three columns (sides, prices, quantities) and N.
 abbrev pub hourWith : ℕ → List ℕ → List ℕ → List ℕ → ℕ → Hour

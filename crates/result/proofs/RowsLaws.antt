@@ -9,8 +9,7 @@ use lib.Dec.{eqb}
 use lib.ListN.{length, drop, getD, length-append, length-map}
 use borrow.Author.Tests.{eq-eqb, ne-eqb, eqb-true, eqb-false, lt-leb}
 use Rattle.book.specs.Tests.{within, someIn, member}
-use Rattle.rules.specs.Orders.{limits}
-use Rattle.records.specs.Records.{hourByte, stepAt, blockAt}
+use Rattle.records.specs.Records.{edition, hourByte, stepAt, blockAt}
 use Rattle.book.specs.Chains.{stepOrder, blockOrder}
 use Rattle.book.specs.Refusals.{Accepted}
 use Rattle.book.proofs.Laws.{or-left, or-right}
@@ -25,7 +24,7 @@ use Rattle.rules.specs.Contender as contender
 use Rattle.rules.proofs.Tests.{by-test, by-eq}
 use Rattle.rules.proofs.ExecutionLaws.{execution-within}
 use Rattle.rules.proofs.DayLaws.{executed-within}
-use Rattle.rules.proofs.BoundsLaws.{executed-small}
+use Rattle.rules.proofs.BoundsLaws.{executed-small, limits-small}
 use Rattle.orders.specs.Bridge.{stepFrom, ordersOf, dayFrom}
 use Rattle.orders.specs.Columns.{stepRecords, blockRecords, inHour, byHour}
 use Rattle.orders.proofs.RecordLaws.{steps-all, blocks-all, step-each, inHour-member, byHour-found, byHour-member}
@@ -229,11 +228,11 @@ module _ (b : List ℕ) (a : Accepted b) where
   executed-room (s ∷ l) (q ∷ qs) e = (omega (arith, e .0), executed-room l qs (e .1))
 
   blocks-room : (l : List ℕ) (chosen : List Bool) → Each (BlockRecord b) l → Each (λ v. v < 2 ^ 32) (blockRows b l chosen)
-  unfolding blockRows limits
+  unfolding blockRows
   blocks-room [] chosen e = tt
   blocks-room (k ∷ l) [] e = tt
   blocks-room (k ∷ l) (t ∷ chosen) e = (
-    by-test (λ u. cond u (blockAt b k .quantity) 0 < 2 ^ 32) t (λ q. omega (arith, e .0 .fields .quantity .1)) (λ q. omega arith),
+    by-test (λ u. cond u (blockAt b k .quantity) 0 < 2 ^ 32) t (λ q. omega (arith, e .0 .fields .quantity .1, limits-small (edition b))) (λ q. omega arith),
     blocks-room l chosen (e .1),
   )
 

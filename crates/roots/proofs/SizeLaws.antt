@@ -1,11 +1,11 @@
 -- How large the numbers get that are chosen, multiplied, moved on and stored. Assumes nothing.
-use Prim.Native.Nat.{ℕ, zero, suc, _+_, _-_, _*_, _≤_, _<_}
+use Prim.Native.Nat.{ℕ, zero, suc, _+_, _-_, _*_, _/_, _≤_, _<_}
 use mathlib.Core.Path.{_≡_}
 use mathlib.Core.List.{List}
 use mathlib.Core.Bool.{Bool, true, false, cond}
 use native.Mathlib.Omega.{arith}
 use native.Mathlib.Decide.{decLe}
-use native.Mathlib.Nat.{lt-of-not-le, mul-le-mul}
+use native.Mathlib.Nat.{lt-of-not-le, mul-le-mul, mul-le-mul-right, suc-mul}
 use lib.ListN.{length, getD, set}
 use lib.Seq.{getD-set-same, getD-set-other}
 use Rattle.records.specs.Records.{holdsHour, hoursSet}
@@ -13,7 +13,8 @@ use Rattle.rules.specs.Orders.{Side, buy, sell, maxPrice}
 use Rattle.rules.specs.Hour.{bySide, when}
 use Rattle.rules.proofs.CurveLaws.{when-le}
 use Rattle.places.specs.Layout.{mostQuantity, mostLimit, hourPlaces}
-use Rattle.places.specs.Hours.{Small}
+use Rattle.places.specs.Hours.{Small, rowWidth, HasRows}
+use Rattle.roots.specs.Roots.{RowHeld}
 
 -- a number for each side stays below what both do
 pub side-le : (side : Side) (a b m : ℕ) → a ≤ m → b ≤ m → bySide side a b ≤ m
@@ -62,3 +63,11 @@ set-small m l h v k a small j = elim (decLe j h) [
   ]
   | no b ↦ let d : h < j = lt-of-not-le b in rw (getD-set-other l h j v 0 (λ e. omega arith)) (small j)
 ]
+
+-- the row of an hour
+pub row-held : (table : List ℕ) (h : ℕ) → HasRows table → h < hourPlaces → RowHeld table (h * rowWidth table) (rowWidth table)
+row-held table h rows k =
+    let w = rowWidth table in
+    let next : suc h * w ≤ hourPlaces * w = mul-le-mul-right w k in
+    let whole : hourPlaces * (length table / hourPlaces) ≤ length table = omega arith in
+    record { inside = omega (arith, next, suc-mul h w, whole); narrow = rows .1; tableFits = omega (arith, rows .1) }

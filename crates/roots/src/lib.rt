@@ -1,12 +1,10 @@
 // The root prices, those that the search goes by. Any prices are right, so only safety is proved here; how many branches the search drops depends on them.
 // Assumes nothing.
-ghost use Prim.Native.Nat.{ℕ, _≤_};
-ghost use mathlib.Core.Path.{_≡_};
-ghost use lib.ListN.{length};
+ghost use Prim.Native.Nat.{_≤_};
 ghost use Rattle.rules.specs.Orders.{maxPrice};
 ghost use Rattle.book.specs.Bounds.{mostBlocks};
-ghost use Rattle.places.specs.Layout.{mostQuantity, mostLimit, lastPlace, tableSize};
-ghost use Rattle.places.specs.Hours.{Small, FirstSmall};
+ghost use Rattle.places.specs.Layout.{mostQuantity, mostLimit};
+ghost use Rattle.places.specs.Hours.{Small, FirstSmall, HasRows, lastIn};
 use crate::losses::empty_loss;
 use crate::moves::MOVES;
 use crate::moves::ROUND;
@@ -49,7 +47,7 @@ pub fn root_prices(
     prices: [u32; MOST_BLOCKS],
     quantities: [u32; MOST_BLOCKS],
 ) -> [u32; HOURS]
-    requires tables { ⌜ (length (now «unit_prices») ≡ tableSize) × Small maxPrice (now «unit_prices») × Small lastPlace off ⌝ }
+    requires tables { ⌜ HasRows (now «unit_prices») × Small maxPrice (now «unit_prices») × Small (lastIn (now «unit_prices»)) off ⌝ }
     requires blocks { ⌜ (count ≤ mostBlocks) × FirstSmall count maxPrice prices × FirstSmall count mostQuantity quantities ⌝ }
     ensures { λ r. ⌜ Small maxPrice r ⌝ }
 {

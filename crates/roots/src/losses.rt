@@ -1,26 +1,25 @@
 // What the empty set loses at given prices: what the blocks would gain there, and what the hours lose at its places.
-ghost use Prim.Native.Nat.{ℕ, _+_, _-_, _*_, _≤_};
-ghost use mathlib.Core.Path.{_≡_};
-ghost use lib.ListN.{length, getD};
+ghost use Prim.Native.Nat.{_+_, _-_, _*_, _≤_, _<_};
+ghost use lib.ListN.{length};
 ghost use Rattle.rules.specs.Orders.{maxPrice};
 ghost use Rattle.book.specs.Bounds.{mostBlocks};
-ghost use Rattle.places.specs.Layout.{hourPlaces, mostQuantity, mostLimit, lastPlace, rowSize, tableSize};
-ghost use Rattle.places.specs.Hours.{Small, FirstSmall};
+ghost use Rattle.places.specs.Layout.{hourPlaces, mostQuantity, mostLimit, lastPlace};
+ghost use Rattle.places.specs.Hours.{Small, FirstSmall, HasRows, lastIn};
+ghost use Rattle.roots.specs.Roots.{RowHeld};
 use places::layout::HOURS;
 use places::layout::MOST_BLOCKS;
-use places::layout::ROW;
 use places::limits::price_sum;
 use places::numbers::by_side;
 use places::numbers::less;
 
 // What an hour at the place from loses at a price below its own: how far the prices of the places above stand over it.
-fn gap_up(unit_prices: &[u32], row: usize, from: usize, price: u32) -> u64
-    requires { ⌜ (length (now «unit_prices») ≡ tableSize) × Small maxPrice (now «unit_prices») × (row ≤ tableSize - rowSize) × (from ≤ lastPlace) ⌝ }
-    ensures { λ r. ⌜ r ≤ rowSize * maxPrice ⌝ }
+fn gap_up(unit_prices: &[u32], row: usize, width: usize, from: usize, price: u32) -> u64
+    requires { ⌜ RowHeld (now «unit_prices») row width × Small maxPrice (now «unit_prices») × (from < width) ⌝ }
+    ensures { λ r. ⌜ r ≤ (lastPlace + 2) * maxPrice ⌝ }
 {
     let mut sum: u64 = 0;
     let mut i = from + 1;
-    while i < ROW {
+    while i < width {
         let cell = unit_prices[row + i];
         if cell <= price {
             return sum;
@@ -33,8 +32,8 @@ fn gap_up(unit_prices: &[u32], row: usize, from: usize, price: u32) -> u64
 
 // What it loses at a price above its own: how far the prices of the places down from it stand under it.
 fn gap_down(unit_prices: &[u32], row: usize, from: usize, price: u32) -> u64
-    requires { ⌜ (length (now «unit_prices») ≡ tableSize) × (row ≤ tableSize - rowSize) × (from ≤ lastPlace) × (price ≤ maxPrice) ⌝ }
-    ensures { λ r. ⌜ r ≤ rowSize * maxPrice ⌝ }
+    requires { ⌜ (row + from < length (now «unit_prices»)) × (length (now «unit_prices») < hourPlaces * (lastPlace + 3)) × (from ≤ lastPlace) × (price ≤ maxPrice) ⌝ }
+    ensures { λ r. ⌜ r ≤ (lastPlace + 2) * maxPrice ⌝ }
 {
     let mut sum: u64 = 0;
     let mut i = from;
@@ -51,15 +50,16 @@ fn gap_down(unit_prices: &[u32], row: usize, from: usize, price: u32) -> u64
 
 // What the hours at the places off lose at the prices.
 fn gaps_from(unit_prices: &[u32], off: [u32; HOURS], prices: [u32; HOURS]) -> u64
-    requires { ⌜ (length (now «unit_prices») ≡ tableSize) × Small maxPrice (now «unit_prices») × Small lastPlace off × Small maxPrice prices ⌝ }
-    ensures { λ r. ⌜ r ≤ 2 * hourPlaces * (rowSize * maxPrice) ⌝ }
+    requires { ⌜ HasRows (now «unit_prices») × Small maxPrice (now «unit_prices») × Small (lastIn (now «unit_prices»)) off × Small maxPrice prices ⌝ }
+    ensures { λ r. ⌜ r ≤ 2 * hourPlaces * ((lastPlace + 2) * maxPrice) ⌝ }
 {
+    let width = unit_prices.len() / HOURS;
     let mut sum: u64 = 0;
     let mut h: usize = 0;
     while h < HOURS {
-        let row = h * ROW;
+        let row = h * width;
         let from = off[h] as usize;
-        let up = gap_up(unit_prices, row, from, prices[h]);
+        let up = gap_up(unit_prices, row, width, from, prices[h]);
         let down = gap_down(unit_prices, row, from, prices[h]);
         sum += up + down;
         h += 1;
@@ -110,7 +110,7 @@ pub fn empty_loss(
     quantities: [u32; MOST_BLOCKS],
     root: [u32; HOURS],
 ) -> u64
-    requires tables { ⌜ (length (now «unit_prices») ≡ tableSize) × Small maxPrice (now «unit_prices») × Small lastPlace off ⌝ }
+    requires tables { ⌜ HasRows (now «unit_prices») × Small maxPrice (now «unit_prices») × Small (lastIn (now «unit_prices»)) off ⌝ }
     requires blocks { ⌜ (count ≤ mostBlocks) × FirstSmall count mostQuantity quantities ⌝ }
     requires prices { ⌜ Small mostLimit limits × Small maxPrice root ⌝ }
 {

@@ -1,11 +1,10 @@
 // Prices on their way to those at which the blocks that gain are taken: a third of the way with each move, towards the prices at the average place so far.
 ghost use Prim.Native.Nat.{ℕ, _+_, _*_, _≤_, _<_};
-ghost use mathlib.Core.Path.{_≡_};
-ghost use lib.ListN.{length, getD};
+ghost use lib.ListN.{getD};
 ghost use Rattle.rules.specs.Orders.{maxPrice};
 ghost use Rattle.book.specs.Bounds.{mostBlocks};
-ghost use Rattle.places.specs.Layout.{mostQuantity, lastPlace, tableSize};
-ghost use Rattle.places.specs.Hours.{Small, FirstSmall};
+ghost use Rattle.places.specs.Layout.{mostQuantity, lastPlace};
+ghost use Rattle.places.specs.Hours.{Small, FirstSmall, HasRows};
 ghost use Rattle.roots.specs.Roots.{allMoves, roundMoves};
 use places::added::moved;
 use places::cells::prices_at;
@@ -13,6 +12,10 @@ use places::layout::HOURS;
 use places::layout::MOST_BLOCKS;
 use places::limits::price_sum;
 use places::numbers::choose;
+use places::numbers::smaller;
+
+// The last place of a row that has one above it stands so far from its end.
+const LAST_AND_ABOVE: usize = 2;
 
 // The moves of a round, after which the prices are tried.
 pub const ROUND: u32 = 7;
@@ -45,15 +48,15 @@ pub fn added_places(
     places
 }
 
-// The places on the average, where n of them are added up.
-fn averaged(sum: [u32; HOURS], n: u32) -> [u32; HOURS]
-    requires { ⌜ (1 ≤ n) × Small (n * lastPlace) sum ⌝ }
-    ensures { λ r. ⌜ Small lastPlace r ⌝ }
+// The places on the average, where n of them are added up; none past the last.
+fn averaged(sum: [u32; HOURS], n: u32, last: u32) -> [u32; HOURS]
+    requires { ⌜ 1 ≤ n ⌝ }
+    ensures { λ r. ⌜ Small last r ⌝ }
 {
     let mut r = [0; HOURS];
     let mut h: usize = 0;
     while h < HOURS {
-        r[h] = sum[h] / n;
+        r[h] = smaller(sum[h] / n, last);
         h += 1;
     }
     r
@@ -101,17 +104,18 @@ pub fn moved_on(
     trail: Trail,
     n: u32,
 ) -> Trail
-    requires tables { ⌜ (length (now «unit_prices») ≡ tableSize) × Small maxPrice (now «unit_prices») ⌝ }
+    requires tables { ⌜ HasRows (now «unit_prices») × Small maxPrice (now «unit_prices») ⌝ }
     requires blocks { ⌜ (count ≤ mostBlocks) × FirstSmall count mostQuantity quantities ⌝ }
     requires trail { ⌜ (1 ≤ n) × (n < allMoves) × Small maxPrice (trail .prices) × Small (n * lastPlace) (trail .sum) ⌝ }
     ensures { λ r. ⌜ Small maxPrice (r .prices) × Small ((n + roundMoves) * lastPlace) (r .sum) ⌝ }
 {
+    let last = (unit_prices.len() / HOURS - LAST_AND_ABOVE) as u32;
     let mut root = trail.prices;
     let mut sum = trail.sum;
     let mut k = n;
     while k < n + ROUND {
         let more = added_places(sum, count, hours, limits, quantities, root);
-        let mean = averaged(more, k + 1);
+        let mean = averaged(more, k + 1, last);
         let there = prices_at(unit_prices, mean);
         let next = closer(root, there);
         sum = more;

@@ -2,13 +2,13 @@
 -- 250 each, at prices up to 300000 and with no hour counted more than twice, value and welfare are below 2 ^ 47, traded quantities below
 -- 10 ^ 9, executed quantities at most 99,999; a price is at most 300000. Assumes nothing.
 use Prim.Native.Nat.{ℕ, zero, suc, _*_, _^_, _≤_, _<_}
-use mathlib.Core.Bool.{Bool, true, false}
+use mathlib.Core.Bool.{Bool, true, false, cond}
 use mathlib.Core.List.{List, [], _∷_}
 use native.Mathlib.Omega.{arith}
 use native.Mathlib.Nat.{le-trans, mul-le-mul-left, mul-le-mul-right}
-use lib.Dec.{eqb}
+use lib.Dec.{eqb, leb}
 use lib.ListN.{length}
-use Rattle.rules.specs.Orders.{Side, buy, sell, Step, Block, maxPrice}
+use Rattle.rules.specs.Orders.{Side, buy, sell, Step, Block, maxPrice, Limits, limits, mostBlockQuantity}
 use Rattle.rules.specs.Hour.{bySide, when, Pricing, cleared, doesNotClear, pricing, answeredPrice}
 use Rattle.rules.specs.Execution.{bought}
 use Rattle.rules.specs.Day.{
@@ -48,7 +48,7 @@ SmallSteps (s ∷ l) = (s .price ≤ maxPrice) × (s .quantity ≤ 99999) × Sma
 -- A block's price and quantity are small.
 pub record SmallBlock (b : Block) : Type 0 where
   pub price : b .price ≤ maxPrice
-  pub quantity : b .quantity ≤ 250
+  pub quantity : b .quantity ≤ mostBlockQuantity
 
 -- There are few steps and blocks, each is small, and no hour counts more than twice.
 pub record SmallDay (day : Day) : Type 0 where
@@ -62,6 +62,15 @@ pub record SmallDay (day : Day) : Type 0 where
 pub weight-small : (hours h : ℕ) → weight hours h ≤ 2
 unfolding weight
 weight-small hours h = omega arith
+
+-- no edition lets a block have more
+pub limits-small : (edition : ℕ) → limits edition .blockQuantity ≤ mostBlockQuantity
+unfolding limits
+limits-small edition = at (leb edition 1)
+  where
+    at : (t : Bool) → cond {A = Limits} t (record { blockQuantity = 50; blocksOfPortfolio = 5 }) (record { blockQuantity = 250; blocksOfPortfolio = 10 }) .blockQuantity ≤ 250
+    at true = omega arith
+    at false = omega arith
 
 -- products of bounded numbers
 pub product-le : (a b c d : ℕ) → a ≤ c → b ≤ d → a * b ≤ c * d

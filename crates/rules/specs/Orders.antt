@@ -1,8 +1,9 @@
 -- THE ORDERS of a delivery day (document 01, "The auction in brief", "The book in bytes"). Definitions only. Assumes nothing.
 -- Prices are whole cents per MWh, quantities whole tenths of a MW, hours 1 to 24.
 use Prim.Native.Nat.{ℕ}
-use mathlib.Core.Bool.{Bool}
+use mathlib.Core.Bool.{Bool, cond}
 use mathlib.Core.List.{List, [], _∷_}
+use lib.Dec.{leb}
 
 pub data Side : Type 0 where
   buy sell : Side
@@ -42,9 +43,14 @@ pub record Limits : Type 0 where
   pub blockQuantity : ℕ
   pub blocksOfPortfolio : ℕ
 
--- The limits of an edition: a block's largest quantity, and how many blocks a portfolio may have. Today there is edition 1.
+-- The limits of an edition: a block's largest quantity, and how many blocks a portfolio may have. Edition 2 follows the notice of 2012.
 unfoldable pub limits : ℕ → Limits
-limits edition = record { blockQuantity = 50; blocksOfPortfolio = 5 }
+limits edition =
+    cond (leb edition 1) (record { blockQuantity = 50; blocksOfPortfolio = 5 }) (record { blockQuantity = 250; blocksOfPortfolio = 10 })
+
+-- The largest quantity of a block in any edition.
+abbrev pub mostBlockQuantity : ℕ
+mostBlockQuantity = 250
 
 -- The steps that the orders of the step chain stand for. Today each order is its one step.
 unfoldable pub stepsOf : List Order → List Step

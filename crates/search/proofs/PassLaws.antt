@@ -19,8 +19,8 @@ use Rattle.rules.proofs.TwinLaws.{InTurn, outcome-in-turn}
 use Rattle.rules.proofs.PlaceLaws.{place, place-none}
 use Rattle.rules.proofs.LossSearchLaws as by-loss
 use Rattle.book.specs.Bounds.{mostBlocks}
-use Rattle.places.specs.Layout.{hourPlaces, lastLimit, rowSize, gainColumn}
-use Rattle.places.specs.Hours.{cell}
+use Rattle.places.specs.Layout.{hourPlaces, lastLimit, gainColumn}
+use Rattle.places.specs.Hours.{cell, rowWidth}
 use Rattle.places.specs.Reach.{isOut}
 use Rattle.search.specs.Meaning.{Fits, Known, Turning, Branch, lossAbove, bestAs, DayOf, Outcome, StepsAre, ExploredFrom}
 use Rattle.search.specs.Tables.{Tables}
@@ -83,7 +83,7 @@ module _ {tables : Tables} (few : tables .count ≤ mostBlocks) (small : (i : �
         daySum-in (day .hours) g (λ h. at h + rest h) (λ h c. gap-of-lawful known none size law h c),
         daySum-add (day .hours) at rest,
         daySum-plain (day .hours) at,
-        sum-fits hourPlaces (2 ^ 32) at (λ h. omega (arith, smallGap ((h - 1) * rowSize + place (day .blocks) none h))),
+        sum-fits hourPlaces (2 ^ 32) at (λ h. omega (arith, smallGap ((h - 1) * rowWidth (tables .gaps) + place (day .blocks) none h))),
       )
 
   adds : by-loss.Adds day (lossAbove day p rest) (wholeOf day p - daySum (day .hours) rest)

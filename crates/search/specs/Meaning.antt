@@ -7,7 +7,7 @@ use mathlib.Core.List.{List, _∷_, _++_}
 use mathlib.Core.Path.{_≡_}
 use lib.ListN.{length, drop, getD}
 use Rattle.book.specs.Bounds.{mostBlocks}
-use Rattle.places.specs.Layout.{blockListSize, hourPlaces, lastPlace, mostAdded, tableSize}
+use Rattle.places.specs.Layout.{hourPlaces, mostAdded}
 use Rattle.records.specs.Records.{holdsHour}
 use Rattle.orders.specs.Columns.{sideFor}
 use Rattle.rules.specs.Orders.{Step, Block, maxPrice}
@@ -22,7 +22,7 @@ use Rattle.rules.proofs.LossLaws.{against, losses, lossOf}
 use Rattle.rules.proofs.LossSearchLaws as by-loss
 use Rattle.rules.proofs.PlaceLaws.{place, hourAt}
 use Rattle.rules.proofs.TwinLaws.{Ahead, InTurn}
-use Rattle.places.specs.Hours.{Small, cell, ofHour}
+use Rattle.places.specs.Hours.{Small, cell, ofHour, HasRows, lastIn}
 use Rattle.places.specs.Blocks.{BlocksSized, sideAt, hoursAt, limitAt, againstAt, gainAt, aheadAt, behindAt, rowQuantity}
 use Rattle.places.specs.Reach.{isOut}
 use Rattle.search.specs.Tables.{Tables}
@@ -33,11 +33,12 @@ use Rattle.rules.specs.Hour.{when}
 
 -- SIZES, for safe arithmetic and indexing
 pub record Sized (t : Tables) : Type 0 where
-  pub priceRows : length (t .unitPrices) ≡ tableSize
-  pub gapRows : length (t .gaps) ≡ tableSize
+  pub priceRows : HasRows (t .unitPrices)
+  pub gapRows : HasRows (t .gaps)
   pub firstHours : length (t .first) ≡ hourPlaces
   pub lastHours : length (t .last) ≡ hourPlaces
-  pub lastFits : Small lastPlace (t .last)
+  pub lastInPrices : Small (lastIn (t .unitPrices)) (t .last)
+  pub lastInGaps : Small (lastIn (t .gaps)) (t .last)
   pub pricesFit : Small maxPrice (t .unitPrices)
   pub blocksFit : BlocksSized (t .blocks)
   pub few : t .count ≤ mostBlocks

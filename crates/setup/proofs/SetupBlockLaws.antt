@@ -15,10 +15,10 @@ use Rattle.records.specs.Records.{holdsHour, hoursSet}
 use Rattle.orders.specs.Columns.{sideFor}
 use Rattle.rules.specs.Orders.{Side, buy, sell}
 use Rattle.rules.specs.Hour.{bySide, when}
-use Rattle.places.specs.Hours.{Small, sumOfHours}
+use Rattle.places.specs.Hours.{Small, sumOfHours, larger}
 use Rattle.places.specs.Blocks.{sideAt, hoursAt, quantityAt, limitAt, againstAt, gainAt}
 use Rattle.setup.specs.Setup.{BlocksHeld, sumBelow, blocksTrade, TradedBy, written, Written}
-use Rattle.places.proofs.NumberLaws.{zeros}
+use Rattle.places.proofs.NumberLaws.{zeros, below-next, larger-above, larger-least}
 use Rattle.roots.proofs.SizeLaws.{side-le, chosen-le, moved-most}
 
 -- WHAT THE BLOCKS TRADE in each hour
@@ -303,3 +303,31 @@ module _ (sides hours prices quantities root : List ℕ) where
   pub written-all : (count i : ℕ) (columns : List ℕ) → WrittenTo count i columns → count ≤ i →
       ((j : ℕ) → j < mostBlocks → quantityAt columns j ≤ mostQuantity) × ((j : ℕ) → j < count → Written sides hours prices quantities root columns j)
   written-all count i columns w k = (w .small, λ j a. w .done j (omega (arith, w .inside)))
+
+-- THE LARGEST OF A COLUMN, hour by hour
+pub record LargestTo (column : List ℕ) (h most : ℕ) : Type 0 where
+  pub inside : h ≤ hourPlaces
+  pub above : (j : ℕ) → j < h → getD column j 0 ≤ most
+  pub least : (m : ℕ) → Small m column → most ≤ m
+
+pub largest-start : (column : List ℕ) → LargestTo column 0 0
+largest-start column = record { inside = omega arith; above = λ j a. absurd (omega arith); least = λ m s. omega arith }
+
+pub largest-next : (column : List ℕ) (h most r : ℕ) → LargestTo column h most → h < hourPlaces → r ≡ larger most (getD column h 0) → LargestTo column (h + 1) r
+largest-next column h most r l k e =
+    let up = larger-above most (getD column h 0) in
+    record {
+      inside = omega arith;
+      above = λ j a. below-next (λ i. getD column i 0 ≤ r) h j (λ b. omega (arith, l .above j b, up .0, e)) (omega (arith, up .1, e)) (rw add-one at a);
+      least = λ m s. rw e (larger-least most (getD column h 0) m (l .least m s) (s h));
+    }
+
+pub largest-all : (column : List ℕ) (h most : ℕ) → length column ≡ hourPlaces → LargestTo column h most → hourPlaces ≤ h →
+    Small most column × ((m : ℕ) → Small m column → most ≤ m)
+largest-all column h most size l k = (at, l .least)
+  where
+    at : Small most column
+    at i = elim (decLe hourPlaces i) [
+      | yes a ↦ let z : length column ≤ i = omega arith in rw (lib.ListN.List·getD-eq-default column 0 z) (omega arith)
+      | no a ↦ l .above i (omega (arith, lt-of-not-le a))
+    ]

@@ -11,7 +11,7 @@ use lib.ListN.{length, take, drop, getD, length-map, drop-of-length-le}
 use lib.Seq.{getD-take, getD-drop, slice}
 use Rattle.book.specs.Bounds.{mostBlocks}
 use Rattle.orders.specs.Layout.{stepPlaces}
-use Rattle.places.specs.Layout.{hourPlaces, lastPlace, mostQuantity, rowSize, tableSize}
+use Rattle.places.specs.Layout.{hourPlaces, lastPlace, mostQuantity}
 use Rattle.records.specs.Records.{number, hoursSet, holdsHour}
 use Rattle.book.specs.Refusals.{Accepted}
 use Rattle.book.proofs.Members.{Each}
@@ -39,7 +39,7 @@ use Rattle.rules.proofs.TwinLaws.{limitOf, Ahead, ahead-by-limits}
 use Rattle.tables.specs.Tables.{UnitPrices, NotRising}
 use Rattle.tables.proofs.LevelLaws.{table-in-range, table-not-rising}
 use Rattle.tables.proofs.GapLaws.{gap-table, gap-falls, gap-rises}
-use Rattle.places.specs.Hours.{Small, cell, ofHour, sumOfHours}
+use Rattle.places.specs.Hours.{Small, cell, ofHour, sumOfHours, rowWidth, lastIn, HasRows}
 use Rattle.places.specs.Blocks.{sideAt, quantityAt, limitAt, aheadAt, behindAt, BlocksSized}
 use Rattle.search.specs.Tables.{Tables}
 use Rattle.search.specs.Meaning.{lastReached, Sized, Shown, Known, Turning}
@@ -50,6 +50,7 @@ use Rattle.setup.specs.Setup.{
   hourPart,
   rowPlaces,
   tableRow,
+  RowsFit,
   RowsAre,
   RangedAt,
   RangesAre,
@@ -62,7 +63,7 @@ use Rattle.setup.specs.Setup.{
 }
 use Rattle.search.proofs.CountsOnce.{block-sum}
 use Rattle.setup.proofs.SetupTwinLaws.{Completed, twins-back, no-worse-true, no-worse-false}
-use Rattle.setup.proofs.SetupTableLaws.{take-drop, row-length, range-holds}
+use Rattle.setup.proofs.SetupTableLaws.{take-drop, row-length, range-holds, row-fits}
 use Rattle.setup.proofs.SetupBlockLaws.{bought-within}
 
 -- THE BLOCKS OF THE COLUMNS
@@ -114,8 +115,8 @@ trades-fit h [] e = omega arith
 trades-fit h (s ∷ l) e = omega (arith, trade-fits h s (e .0), trades-fit h l (e .1))
 
 -- a place of a row
-row-at : (table : List ℕ) (h most i : ℕ) → i < rowPlaces most → getD (tableRow table h most) i 0 ≡ getD table (h * rowSize + i) 0
-row-at table h most i k = getD-take (rowPlaces most) (drop (h * rowSize) table) i 0 k ∙ getD-drop (h * rowSize) table i 0
+row-at : (w : ℕ) (table : List ℕ) (h most i : ℕ) → i < rowPlaces most → getD (tableRow w table h most) i 0 ≡ getD table (h * w + i) 0
+row-at w table h most i k = getD-take (rowPlaces most) (drop (h * w) table) i 0 k ∙ getD-drop (h * w) table i 0
 
 -- a part of a column, in either form
 slice-from-to : (a e : ℕ) (l : List ℕ) → a ≤ e → slice a e l ≡ fromTo a e l
@@ -271,9 +272,9 @@ module _ (b ends stepRecords sides prices quantities : List ℕ) (count : ℕ) (
         (below, twins-ahead j c k (omega arith) (twins-back columns c j (f .1)) (omega (arith, less)) (λ n. (f .3, less)))
 
   -- THE HOURS
-  module _ (off most root unitPrices gap first last turn columns : List ℕ) (pricesSize : length unitPrices ≡ tableSize)
+  module _ (off most root unitPrices gap first last turn columns : List ℕ) (gapSize : length gap ≡ length unitPrices) (fit : RowsFit (rowWidth unitPrices) most)
       (bought : TradedBy count blockSides hours blockQuantities false off) (traded : TradedBy count blockSides hours blockQuantities true most)
-      (rows : RowsAre sides prices quantities ends off most unitPrices) (ranges : RangesAre sides prices quantities ends off most root unitPrices gap first last turn)
+      (rows : RowsAre (rowWidth unitPrices) sides prices quantities ends off most unitPrices) (ranges : RangesAre (rowWidth unitPrices) sides prices quantities ends off most root unitPrices gap first last turn)
       (blocks : Completed blockSides hours blockPrices blockQuantities root count columns) where
     abbrev rootOf : ℕ → ℕ
     rootOf h = getD root (h - 1) 0
@@ -301,10 +302,10 @@ module _ (b ends stepRecords sides prices quantities : List ℕ) (count : ℕ) (
       abbrev offHere : ℕ
       offHere = getD off (h - 1) 0
 
-      range : RangedAt sides prices quantities ends off most root unitPrices gap first last turn (h - 1)
+      range : RangedAt (rowWidth unitPrices) sides prices quantities ends off most root unitPrices gap first last turn (h - 1)
       range = ranges (h - 1) inside
 
-      unit-prices : UnitPrices steps offHere (tableRow unitPrices (h - 1) mostHere)
+      unit-prices : UnitPrices steps offHere (tableRow (rowWidth unitPrices) unitPrices (h - 1) mostHere)
       unit-prices = rw (steps-are h from to) (rows (h - 1) inside h)
 
       prices-here : PricesInRange steps
@@ -319,21 +320,24 @@ module _ (b ends stepRecords sides prices quantities : List ℕ) (count : ℕ) (
       clearing-at : (i : ℕ) → i ≤ mostHere → ((ofHour first h ≤ i) × (i ≤ ofHour last h)) ↔ Clearable (net steps i offHere)
       clearing-at = range .range .clearing steps bought-here sold-here
 
-      most-fits : mostHere ≤ lastPlace
-      most-fits = traded .small (h - 1)
+      room : (h - 1) * rowWidth unitPrices + rowPlaces mostHere ≤ length unitPrices
+      room = row-fits unitPrices (h - 1) (rowPlaces mostHere) inside (fit (h - 1) inside)
 
-      cell-is : (table : List ℕ) (i : ℕ) → i ≤ mostHere + 1 → getD (tableRow table (h - 1) mostHere) i 0 ≡ cell table h i
-      cell-is table i k = row-at table (h - 1) mostHere i (omega arith)
+      cell-is : (i : ℕ) → i ≤ mostHere + 1 → getD (tableRow (rowWidth unitPrices) unitPrices (h - 1) mostHere) i 0 ≡ cell unitPrices h i
+      cell-is i k = row-at (rowWidth unitPrices) unitPrices (h - 1) mostHere i (omega arith)
+
+      gap-cell : (i : ℕ) → i ≤ mostHere + 1 → getD (tableRow (rowWidth unitPrices) gap (h - 1) mostHere) i 0 ≡ cell gap h i
+      gap-cell i k = row-at (rowWidth unitPrices) gap (h - 1) mostHere i (omega arith) ∙ rw (← gapSize)
 
       unit-price-is : (i : ℕ) → i ≤ lastReached (dayFrom b) h + 1 → cell unitPrices h i ≡ unitPrice (net steps i (suc (overBlocks (buys h) (dayFrom b .blocks))))
       unit-price-is i k =
-          rw (← off-is) (sym (cell-is unitPrices i (omega (arith, most-is))) ∙ unit-prices i (omega (arith, most-is, row-length unitPrices (h - 1) mostHere pricesSize inside most-fits)))
+          rw (← off-is) (sym (cell-is i (omega (arith, most-is))) ∙ unit-prices i (omega (arith, most-is, row-length (rowWidth unitPrices) unitPrices (h - 1) mostHere room)))
 
-      row-falls : NotRising (tableRow unitPrices (h - 1) mostHere)
-      row-falls = table-not-rising steps offHere (tableRow unitPrices (h - 1) mostHere) unit-prices
+      row-falls : NotRising (tableRow (rowWidth unitPrices) unitPrices (h - 1) mostHere)
+      row-falls = table-not-rising steps offHere (tableRow (rowWidth unitPrices) unitPrices (h - 1) mostHere) unit-prices
 
-      row-inside : ofHour last h < length (tableRow unitPrices (h - 1) mostHere)
-      row-inside = omega (arith, range .range .inside, traded .small (h - 1), row-length unitPrices (h - 1) mostHere pricesSize inside most-fits)
+      row-inside : ofHour last h < length (tableRow (rowWidth unitPrices) unitPrices (h - 1) mostHere)
+      row-inside = omega (arith, range .range .inside, traded .small (h - 1), row-length (rowWidth unitPrices) unitPrices (h - 1) mostHere room)
 
       last-is : ofHour last h ≤ lastReached (dayFrom b) h
       last-is = omega (arith, range .range .inside, most-is)
@@ -351,13 +355,13 @@ module _ (b ends stepRecords sides prices quantities : List ℕ) (count : ℕ) (
           (bought-within count blockSides hours blockQuantities off most bought traded (h - 1) inside)
 
       gap-here : (i : ℕ) → ofHour first h ≤ i → i ≤ ofHour last h →
-          slack (rootOf h) (net steps i offHere) ≡ getD (tableRow gap (h - 1) mostHere) i 0 + slack (rootOf h) (net steps (ofHour turn h) offHere)
+          slack (rootOf h) (net steps i offHere) ≡ getD (tableRow (rowWidth unitPrices) gap (h - 1) mostHere) i 0 + slack (rootOf h) (net steps (ofHour turn h) offHere)
       gap-here =
           let o = ordered in
           let top = range .range .inside in
           let fits = traded .small (h - 1) in
-          gap-table steps prices-here offHere (tableRow unitPrices (h - 1) mostHere) unit-prices (rootOf h) (ofHour first h) (ofHour last h) (ofHour turn h)
-          (tableRow gap (h - 1) mostHere) (range .gaps) (omega (arith, row-length unitPrices (h - 1) mostHere pricesSize inside most-fits))
+          gap-table steps prices-here offHere (tableRow (rowWidth unitPrices) unitPrices (h - 1) mostHere) unit-prices (rootOf h) (ofHour first h) (ofHour last h) (ofHour turn h)
+          (tableRow (rowWidth unitPrices) gap (h - 1) mostHere) (range .gaps) (omega (arith, row-length (rowWidth unitPrices) unitPrices (h - 1) mostHere room))
           (clearing-at (ofHour first h) (omega arith) .0 (omega arith, omega arith))
           (clearing-at (ofHour last h) (omega arith) .0 (omega arith, omega arith))
 
@@ -371,8 +375,8 @@ module _ (b ends stepRecords sides prices quantities : List ℕ) (count : ℕ) (
             arith,
             gap-here i x y,
             gap-here (ofHour first h) (omega arith) (omega arith),
-            cell-is gap i (omega arith),
-            cell-is gap (ofHour first h) (omega arith),
+            gap-cell i (omega arith),
+            gap-cell (ofHour first h) (omega arith),
           ))
 
     abbrev tables : Tables
@@ -399,45 +403,62 @@ module _ (b ends stepRecords sides prices quantities : List ℕ) (count : ℕ) (
           let o = range h from to .range .inside in
           let fits = traded .small (h - 1) in
           let g = gap-falls _ _ _ _ _ _ (row-falls h from to) (row-inside h from to) (range h from to .gaps) i j x y z t in
-          rw (cell-is h from to gap i (omega arith), cell-is h from to gap j (omega arith)) at g;
+          rw (gap-cell h from to i (omega arith), gap-cell h from to j (omega arith)) at g;
       rises = λ h i j from to x y z t.
           let o = range h from to .range .inside in
           let fits = traded .small (h - 1) in
           let g = gap-rises _ _ _ _ _ _ (row-falls h from to) (row-inside h from to) (range h from to .gaps) i j x y z t in
-          rw (cell-is h from to gap i (omega arith), cell-is h from to gap j (omega arith)) at g;
+          rw (gap-cell h from to i (omega arith), gap-cell h from to j (omega arith)) at g;
     }
 
+-- THE ROWS HAVE ROOM for what the blocks reach
+pub rows-fit : (w count : ℕ) (sides hours quantities most : List ℕ) → TradedBy count sides hours quantities true most →
+    ((h : ℕ) → 1 ≤ h → h ≤ hourPlaces → rowPlaces (blocksTrade count sides hours quantities true h) ≤ w) → RowsFit w most
+rows-fit w count sides hours quantities most traded room h k =
+    let back : h + 1 - 1 ≡ h = omega arith in
+    let is : getD most h 0 ≡ blocksTrade count sides hours quantities true (h + 1) =
+    ap (λ i. getD most i 0) (sym back) ∙ traded .is (h + 1) (omega arith) (omega arith) in
+    omega (arith, is, room (h + 1) (omega arith) (omega arith))
+
+pub off-fits : (table off most : List ℕ) → length off ≡ hourPlaces → ((h : ℕ) → h < hourPlaces → getD off h 0 ≤ getD most h 0) →
+    RowsFit (rowWidth table) most → Small (lastIn table) off
+off-fits table off most size within fit i = elim (decLe hourPlaces i) [
+  | yes k ↦ let z : length off ≤ i = omega arith in rw (lib.ListN.List·getD-eq-default off 0 z) (omega arith)
+  | no k ↦ let a : i < hourPlaces = lt-of-not-le k in omega (arith, within i a, fit i a)
+]
+
 -- WHAT IS PREPARED
-pub set-up : (t : Tables) → length (t .unitPrices) ≡ tableSize → length (t .gaps) ≡ tableSize → length (t .first) ≡ hourPlaces → length (t .last) ≡ hourPlaces →
-    Small lastPlace (t .last) → Small maxPrice (t .unitPrices) → BlocksSized (t .blocks) → t .count ≤ mostBlocks → Sized t
+pub set-up : (t : Tables) → HasRows (t .unitPrices) → length (t .gaps) ≡ length (t .unitPrices) → length (t .first) ≡ hourPlaces → length (t .last) ≡ hourPlaces →
+    Small (lastIn (t .unitPrices)) (t .last) → Small maxPrice (t .unitPrices) → BlocksSized (t .blocks) → t .count ≤ mostBlocks → Sized t
 set-up t prices gaps first last fits small blocks few =
     record {
       priceRows = prices;
-      gapRows = gaps;
+      gapRows = rw gaps prices;
       firstHours = first;
       lastHours = last;
-      lastFits = fits;
+      lastInPrices = fits;
+      lastInGaps = rw gaps fits;
       pricesFit = small;
       blocksFit = blocks;
       few = few;
     }
 
 pub ready : (sides prices quantities ends : List ℕ) (count : ℕ) (records blockSides hours blockPrices blockQuantities : List ℕ)
-    (off most root unitPrices gap first last turn columns : List ℕ) → length unitPrices ≡ tableSize → TradedBy count blockSides hours blockQuantities false off →
-    TradedBy count blockSides hours blockQuantities true most → RowsAre sides prices quantities ends off most unitPrices →
-    RangesAre sides prices quantities ends off most root unitPrices gap first last turn →
+    (off most root unitPrices gap first last turn columns : List ℕ) → length gap ≡ length unitPrices → RowsFit (rowWidth unitPrices) most → TradedBy count blockSides hours blockQuantities false off →
+    TradedBy count blockSides hours blockQuantities true most → RowsAre (rowWidth unitPrices) sides prices quantities ends off most unitPrices →
+    RangesAre (rowWidth unitPrices) sides prices quantities ends off most root unitPrices gap first last turn →
     Completed blockSides hours blockPrices blockQuantities root count columns →
     ReadyFor sides prices quantities ends records blockSides hours blockPrices blockQuantities
     record { unitPrices = unitPrices; gaps = gap; first = first; last = last; turn = turn; blocks = columns; count = count }
-ready sides prices quantities ends count records blockSides hours blockPrices blockQuantities off most root unitPrices gap first last turn columns l o t rows
+ready sides prices quantities ends count records blockSides hours blockPrices blockQuantities off most root unitPrices gap first last turn columns l fit o t rows
     ranges w b stepRecords a sc bc =
     record {
       p = _;
       rest = _;
       known = known b ends stepRecords sides prices quantities count records blockSides hours blockPrices blockQuantities a sc bc off most root unitPrices
-          gap first last turn columns l o t rows ranges w;
+          gap first last turn columns l fit o t rows ranges w;
       turning = turning b ends stepRecords sides prices quantities count records blockSides hours blockPrices blockQuantities a sc bc off most root unitPrices
-          gap first last turn columns l o t rows ranges w;
+          gap first last turn columns l fit o t rows ranges w;
     }
 
 -- WHAT SAFETY ASKS holds of an accepted book's columns, where the steps' are arrays of 2,048

@@ -1,21 +1,21 @@
 -- The tables of the search, filled row after row: the price tables, the ranges and the gap tables of the hours. Assumes nothing.
-use Prim.Native.Nat.{ℕ, zero, suc, _+_, _-_, _*_, _≤_, _<_}
+use Prim.Native.Nat.{ℕ, zero, suc, _+_, _-_, _*_, _/_, _≤_, _<_}
 use mathlib.Core.Path.{_≡_, refl, sym, ap, _∙_}
 use mathlib.Core.List.{List, [], _∷_, _++_}
 use native.Mathlib.Omega.{arith}
 use native.Mathlib.Numerals.{add-one}
 use native.Mathlib.Decide.{decLe}
-use native.Mathlib.Nat.{lt-of-not-le}
+use native.Mathlib.Nat.{lt-of-not-le, mul-le-mul-right, suc-mul}
 use lib.ListN.{length, take, drop, getD, set, replicate, length-set, length-take, length-drop}
 use lib.Seq.{length-take-le, take-take, take-nil, drop-nil, drop-at, take-at, getD-set-same, getD-set-other, getD-drop}
 use borrow.Rule.Slice.PartMut.{putMid, midOf, take-put, same-len-mid}
-use Rattle.places.specs.Layout.{hourPlaces, lastPlace, rowSize, tableSize}
+use Rattle.places.specs.Layout.{hourPlaces, lastPlace}
 use Rattle.rules.specs.Orders.{Step, buy, sell, maxPrice}
 use Rattle.orders.specs.Columns.{stepsFrom}
 use Rattle.tables.specs.Tables.{PriceTable, AllOf, ClearRange, NotRising, GapsFor, GapTable}
 use Rattle.tables.proofs.LevelLaws.{table-not-rising, table-in-range}
-use Rattle.places.specs.Hours.{Small}
-use Rattle.setup.specs.Setup.{StepsHeld, PartHeld, hourPart, rowPlaces, tableRow, RowIs, RowsAre, Ranged, RangedAt, RangesAre}
+use Rattle.places.specs.Hours.{Small, rowWidth, lastIn}
+use Rattle.setup.specs.Setup.{StepsHeld, PartHeld, hourPart, rowPlaces, tableRow, RowsFit, RowIs, RowsAre, Ranged, RangedAt, RangesAre}
 use Rattle.places.proofs.NumberLaws.{below-next, zeros}
 use Rattle.roots.proofs.SizeLaws.{set-small}
 
@@ -57,56 +57,64 @@ small-behind : (m n : ℕ) (l : List ℕ) → Small m l → Small m (drop n l)
 small-behind m n l s i = rw (getD-drop n l i 0) (s (n + i))
 
 -- ROWS
-module _ (table row : List ℕ) (h k most : ℕ) (size : length table ≡ tableSize) (here : h < hourPlaces) (fits : most ≤ lastPlace)
-    (full : length row ≡ rowPlaces most) (wide : k ≡ rowPlaces most) where
-  pub row-put : tableRow (putMid (h * rowSize) k table row) h most ≡ row
+-- one row stands behind another, and the last within the table
+pub rows-apart : (w j h n : ℕ) → j < h → n ≤ w → j * w + n ≤ h * w
+rows-apart w j h n k fits = let next : suc j * w ≤ h * w = mul-le-mul-right w k in omega (arith, next, suc-mul j w)
+
+pub row-fits : (table : List ℕ) (h n : ℕ) → h < hourPlaces → n ≤ rowWidth table → h * rowWidth table + n ≤ length table
+row-fits table h n k fits =
+    let whole : hourPlaces * (length table / hourPlaces) ≤ length table = omega arith in
+    omega (arith, rows-apart (rowWidth table) h hourPlaces n k fits, whole)
+
+module _ (w : ℕ) (table row : List ℕ) (h k most : ℕ) (room : h * w + rowPlaces most ≤ length table) (full : length row ≡ rowPlaces most)
+    (wide : k ≡ rowPlaces most) where
+  pub row-put : tableRow w (putMid (h * w) k table row) h most ≡ row
   row-put =
-      let n : h * rowSize ≤ length table = omega arith in
+      let n : h * w ≤ length table = omega (arith, room) in
       rw (
-        drop-at (take (h * rowSize) table) (row ++ drop k (drop (h * rowSize) table)) (h * rowSize) (length-take-le (h * rowSize) table n),
-        take-at row (drop k (drop (h * rowSize) table)) (rowPlaces most) full,
+        drop-at (take (h * w) table) (row ++ drop k (drop (h * w) table)) (h * w) (length-take-le (h * w) table n),
+        take-at row (drop k (drop (h * w) table)) (rowPlaces most) full,
       )
 
-  pub row-before : (j n : ℕ) → j < h → n ≤ lastPlace → tableRow (putMid (h * rowSize) k table row) j n ≡ tableRow table j n
-  row-before j n a few =
-      part-front (j * rowSize) (rowPlaces n) (h * rowSize) (putMid (h * rowSize) k table row) table (omega arith) (take-put (h * rowSize) k table row (omega arith))
+  pub row-before : (j n : ℕ) → j * w + rowPlaces n ≤ h * w → tableRow w (putMid (h * w) k table row) j n ≡ tableRow w table j n
+  row-before j n apart =
+      part-front (j * w) (rowPlaces n) (h * w) (putMid (h * w) k table row) table apart (take-put (h * w) k table row (omega (arith, room)))
 
-  pub put-size : length (putMid (h * rowSize) k table row) ≡ tableSize
+  pub put-size : length (putMid (h * w) k table row) ≡ length table
   put-size =
-      let e : length row ≡ length (midOf (h * rowSize) k table) = rw (wide, full) (simp (length-take, length-drop) (omega arith)) in
-      same-len-mid (h * rowSize) k table row e ∙ size
+      let e : length row ≡ length (midOf (h * w) k table) = rw (wide, full) (simp (length-take, length-drop) (omega (arith, room))) in
+      same-len-mid (h * w) k table row e
 
   -- what is small stays so
-  pub put-small : (m : ℕ) → Small m table → Small m row → Small m (putMid (h * rowSize) k table row)
+  pub put-small : (m : ℕ) → Small m table → Small m row → Small m (putMid (h * w) k table row)
   put-small m small rowSmall =
-      small-append m (take (h * rowSize) table) (row ++ drop k (drop (h * rowSize) table)) (small-front m (h * rowSize) table small)
-      (small-append m row (drop k (drop (h * rowSize) table)) rowSmall (small-behind m k (drop (h * rowSize) table) (small-behind m (h * rowSize) table small)))
+      small-append m (take (h * w) table) (row ++ drop k (drop (h * w) table)) (small-front m (h * w) table small)
+      (small-append m row (drop k (drop (h * w) table)) rowSmall (small-behind m k (drop (h * w) table) (small-behind m (h * w) table small)))
 
-pub row-length : (table : List ℕ) (h most : ℕ) → length table ≡ tableSize → h < hourPlaces → most ≤ lastPlace →
-    length (tableRow table h most) ≡ rowPlaces most
-row-length table h most size k fits = simp (length-take, length-drop) (omega arith)
+pub row-length : (w : ℕ) (table : List ℕ) (h most : ℕ) → h * w + rowPlaces most ≤ length table → length (tableRow w table h most) ≡ rowPlaces most
+row-length w table h most room = simp (length-take, length-drop) (omega (arith, room))
 
-pub part-length : (table : List ℕ) (h most : ℕ) → length table ≡ tableSize → h < hourPlaces → most ≤ lastPlace →
-    length (take (h * rowSize + most + 2 - h * rowSize) (drop (h * rowSize) table)) ≡ rowPlaces most
-part-length table h most size k fits = simp (length-take, length-drop) (omega arith)
+pub row-wide : (w h most : ℕ) → h * w + most + 2 - h * w ≡ rowPlaces most
+row-wide w h most = omega arith
 
-pub row-wide : (h most : ℕ) → h * rowSize + most + 2 - h * rowSize ≡ rowPlaces most
-row-wide h most = omega arith
+pub part-length : (w : ℕ) (table : List ℕ) (h most : ℕ) → h * w + rowPlaces most ≤ length table →
+    length (take (h * w + most + 2 - h * w) (drop (h * w) table)) ≡ rowPlaces most
+part-length w table h most room = rw (row-wide w h most) (row-length w table h most room)
 
 -- the part of a table that is lent is the row
-pub part-row : (table : List ℕ) (h most : ℕ) → take (h * rowSize + most + 2 - h * rowSize) (drop (h * rowSize) table) ≡ tableRow table h most
-part-row table h most = rw (row-wide h most)
+pub part-row : (w : ℕ) (table : List ℕ) (h most : ℕ) → take (h * w + most + 2 - h * w) (drop (h * w) table) ≡ tableRow w table h most
+part-row w table h most = rw (row-wide w h most)
 
 -- THE PRICE TABLES
-module _ (sides prices quantities ends off most : List ℕ) where
+module _ (before sides prices quantities ends off most : List ℕ) where
   pub record RowsTo (unitPrices : List ℕ) (h : ℕ) : Type 0 where
     pub inside : h ≤ hourPlaces
-    pub size : length unitPrices ≡ tableSize
+    pub size : length unitPrices ≡ length before
     pub small : Small maxPrice unitPrices
-    pub done : (j : ℕ) → j < h → RowIs sides prices quantities ends off most unitPrices j
+    pub done : (j : ℕ) → j < h → RowIs (rowWidth before) sides prices quantities ends off most unitPrices j
 
-  pub rows-start : (unitPrices : List ℕ) → length unitPrices ≡ tableSize → Small maxPrice unitPrices → RowsTo unitPrices 0
-  rows-start unitPrices e s = record { inside = omega arith; size = e; small = s; done = λ j a. absurd (omega arith) }
+  pub rows-start : Small maxPrice before → RowsTo before 0
+  rows-start s = record { inside = omega arith; size = refl; small = s; done = λ j a. absurd (omega arith) }
 
   -- a row of unit prices is small
   row-small : (h : ℕ) (row : List ℕ) → PriceTable (hourPart ends h sides) (hourPart ends h prices) (hourPart ends h quantities) (getD off h 0) row → Small maxPrice row
@@ -115,20 +123,24 @@ module _ (sides prices quantities ends off most : List ℕ) where
     | no k ↦ table-in-range (stepsFrom 0 (hourPart ends h sides) (hourPart ends h prices) (hourPart ends h quantities)) (getD off h 0) row (t 0) i (lt-of-not-le k)
   ]
 
-  pub rows-next : Small lastPlace most → (unitPrices row : List ℕ) (h k : ℕ) → RowsTo unitPrices h → h < hourPlaces → length row ≡ rowPlaces (getD most h 0) → k ≡ rowPlaces (getD most h 0) →
+  pub rows-next : RowsFit (rowWidth before) most → (unitPrices row : List ℕ) (h k : ℕ) → RowsTo unitPrices h → h < hourPlaces → length row ≡ rowPlaces (getD most h 0) → k ≡ rowPlaces (getD most h 0) →
       PriceTable (hourPart ends h sides) (hourPart ends h prices) (hourPart ends h quantities) (getD off h 0) row →
-      RowsTo (putMid (h * rowSize) k unitPrices row) (h + 1)
-  rows-next few unitPrices row h k r a full wide t = record {
-    inside = omega arith;
-    size = put-size unitPrices row h k (getD most h 0) (r .size) a (few h) full wide;
-    small = put-small unitPrices row h k (getD most h 0) (r .size) a (few h) full wide maxPrice (r .small) (row-small h row t);
-    done = λ j b. below-next (RowIs sides prices quantities ends off most (putMid (h * rowSize) k unitPrices row)) h j
-        (λ c. rw (row-before unitPrices row h k (getD most h 0) (r .size) a (few h) full wide j (getD most j 0) c (few j)) (r .done j c))
-        (rw (row-put unitPrices row h k (getD most h 0) (r .size) a (few h) full wide) t) (rw add-one at b);
-  }
+      RowsTo (putMid (h * rowWidth before) k unitPrices row) (h + 1)
+  rows-next few unitPrices row h k r a full wide t =
+      let w = rowWidth before in
+      let room : h * w + rowPlaces (getD most h 0) ≤ length unitPrices = rw (r .size) (row-fits before h (rowPlaces (getD most h 0)) a (few h a)) in
+      record {
+        inside = omega arith;
+        size = put-size w unitPrices row h k (getD most h 0) room full wide ∙ r .size;
+        small = put-small w unitPrices row h k (getD most h 0) room full wide maxPrice (r .small) (row-small h row t);
+        done = λ j b. below-next (RowIs w sides prices quantities ends off most (putMid (h * w) k unitPrices row)) h j
+            (λ c. rw (row-before w unitPrices row h k (getD most h 0) room full wide j (getD most j 0)
+            (rows-apart w j h (rowPlaces (getD most j 0)) c (few j (omega arith)))) (r .done j c))
+            (rw (row-put w unitPrices row h k (getD most h 0) room full wide) t) (rw add-one at b);
+      }
 
   pub rows-all : (unitPrices : List ℕ) (h : ℕ) → RowsTo unitPrices h → hourPlaces ≤ h →
-      RowsAre sides prices quantities ends off most unitPrices × Small maxPrice unitPrices
+      RowsAre (rowWidth before) sides prices quantities ends off most unitPrices × Small maxPrice unitPrices
   rows-all unitPrices h r k = (λ j a. r .done j (omega arith), r .small)
 
 -- ONE HOUR'S RANGE: it has the place off
@@ -156,27 +168,27 @@ module _ (sides prices quantities : List ℕ) (off most price : ℕ) (row : List
 
   pub hour-ranged : (buys sells first last turn : ℕ) (gap : List ℕ) → AllOf sides prices quantities buys sells →
       ClearRange buys sells off most first last → GapTable row price first last turn gap →
-      ((first ≤ lastPlace) × (last ≤ lastPlace) × (turn ≤ lastPlace)) × Ranged sides prices quantities off most price first last turn row gap
+      ((first ≤ most) × (last ≤ most) × (turn ≤ most)) × Ranged sides prices quantities off most price first last turn row gap
   hour-ranged buys sells first last turn gap a r g = (
     (omega (arith, range-holds buys sells off most first last r small), omega (arith, r .inside), omega (arith, g .to, r .inside)),
     record { bought = buys; sold = sells; all = a; range = r; gaps = g },
   )
 
 -- THE RANGES AND THE GAP TABLES
-module _ (sides prices quantities ends off most root unitPrices : List ℕ) where
+module _ (before sides prices quantities ends off most root unitPrices : List ℕ) where
   pub record RangesTo (gap first last turn : List ℕ) (h : ℕ) : Type 0 where
     pub inside : h ≤ hourPlaces
-    pub size : length gap ≡ tableSize
+    pub size : length gap ≡ length before
     pub firstSize : length first ≡ hourPlaces
     pub lastSize : length last ≡ hourPlaces
     pub turnSize : length turn ≡ hourPlaces
-    pub small : (j : ℕ) → getD last j 0 ≤ lastPlace
-    pub done : (j : ℕ) → j < h → RangedAt sides prices quantities ends off most root unitPrices gap first last turn j
+    pub small : Small (lastIn before) last
+    pub done : (j : ℕ) → j < h → RangedAt (rowWidth before) sides prices quantities ends off most root unitPrices gap first last turn j
 
-  pub ranges-start : (gap : List ℕ) → length gap ≡ tableSize → RangesTo gap (replicate hourPlaces 0) (replicate hourPlaces 0) (replicate hourPlaces 0) 0
-  ranges-start gap e = record {
+  pub ranges-start : RangesTo before (replicate hourPlaces 0) (replicate hourPlaces 0) (replicate hourPlaces 0) 0
+  ranges-start = record {
     inside = omega arith;
-    size = e;
+    size = refl;
     firstSize = refl;
     lastSize = refl;
     turnSize = refl;
@@ -184,30 +196,33 @@ module _ (sides prices quantities ends off most root unitPrices : List ℕ) wher
     done = λ j a. absurd (omega arith);
   }
 
-  pub ranges-next : Small lastPlace most → (gap first last turn row : List ℕ) (h k f l m : ℕ) → RangesTo gap first last turn h → h < hourPlaces → length row ≡ rowPlaces (getD most h 0) → k ≡ rowPlaces (getD most h 0) → l ≤ lastPlace →
-      Ranged (hourPart ends h sides) (hourPart ends h prices) (hourPart ends h quantities) (getD off h 0) (getD most h 0) (getD root h 0) f l m (tableRow unitPrices h (getD most h 0)) row →
-      RangesTo (putMid (h * rowSize) k gap row) (set first h f) (set last h l) (set turn h m) (h + 1)
+  pub ranges-next : RowsFit (rowWidth before) most → (gap first last turn row : List ℕ) (h k f l m : ℕ) → RangesTo gap first last turn h → h < hourPlaces → length row ≡ rowPlaces (getD most h 0) → k ≡ rowPlaces (getD most h 0) → l ≤ getD most h 0 →
+      Ranged (hourPart ends h sides) (hourPart ends h prices) (hourPart ends h quantities) (getD off h 0) (getD most h 0) (getD root h 0) f l m (tableRow (rowWidth before) unitPrices h (getD most h 0)) row →
+      RangesTo (putMid (h * rowWidth before) k gap row) (set first h f) (set last h l) (set turn h m) (h + 1)
   ranges-next few gap first last turn row h k f l m r a full wide small t =
       let inF : h < length first = omega (arith, r .firstSize) in
       let inL : h < length last = omega (arith, r .lastSize) in
       let inT : h < length turn = omega (arith, r .turnSize) in
-      let new = putMid (h * rowSize) k gap row in
+      let w = rowWidth before in
+      let room : h * w + rowPlaces (getD most h 0) ≤ length gap = rw (r .size) (row-fits before h (rowPlaces (getD most h 0)) a (few h a)) in
+      let top : l ≤ lastIn before = omega (arith, few h a) in
+      let new = putMid (h * w) k gap row in
       record {
         inside = omega arith;
-        size = put-size gap row h k (getD most h 0) (r .size) a (few h) full wide;
+        size = put-size w gap row h k (getD most h 0) room full wide ∙ r .size;
         firstSize = rw length-set (r .firstSize);
         lastSize = rw length-set (r .lastSize);
         turnSize = rw length-set (r .turnSize);
-        small = set-small lastPlace last h l inL small (r .small);
-        done = λ j b. below-next (RangedAt sides prices quantities ends off most root unitPrices new (set first h f) (set last h l) (set turn h m)) h j
+        small = set-small (lastIn before) last h l inL top (r .small);
+        done = λ j b. below-next (RangedAt w sides prices quantities ends off most root unitPrices new (set first h f) (set last h l) (set turn h m)) h j
             (λ c. rw (
-              row-before gap row h k (getD most h 0) (r .size) a (few h) full wide j (getD most j 0) c (few j),
+              row-before w gap row h k (getD most h 0) room full wide j (getD most j 0) (rows-apart w j h (rowPlaces (getD most j 0)) c (few j (omega arith))),
               getD-set-other first h j f 0 (λ e. omega arith),
               getD-set-other last h j l 0 (λ e. omega arith),
               getD-set-other turn h j m 0 (λ e. omega arith),
             ) (r .done j c))
             (rw (
-              row-put gap row h k (getD most h 0) (r .size) a (few h) full wide,
+              row-put w gap row h k (getD most h 0) room full wide,
               getD-set-same first h f 0 inF,
               getD-set-same last h l 0 inL,
               getD-set-same turn h m 0 inT,
@@ -215,6 +230,6 @@ module _ (sides prices quantities ends off most root unitPrices : List ℕ) wher
       }
 
   pub ranges-all : (gap first last turn : List ℕ) (h : ℕ) → RangesTo gap first last turn h → hourPlaces ≤ h →
-      ((length first ≡ hourPlaces) × (length last ≡ hourPlaces) × (length turn ≡ hourPlaces) × Small lastPlace last)
-      × RangesAre sides prices quantities ends off most root unitPrices gap first last turn
+      ((length first ≡ hourPlaces) × (length last ≡ hourPlaces) × (length turn ≡ hourPlaces) × Small (lastIn before) last)
+      × RangesAre (rowWidth before) sides prices quantities ends off most root unitPrices gap first last turn
   ranges-all gap first last turn h r k = ((r .firstSize, r .lastSize, r .turnSize, r .small), λ j a. r .done j (omega arith))

@@ -9,13 +9,14 @@ use Rattle.records.specs.Records.{holdsHour, hoursSet}
 use Rattle.book.specs.Refusals.{Accepted}
 use Rattle.orders.specs.Bridge.{dayFrom}
 use Rattle.orders.specs.Columns.{StepColumns, BlockColumns, sideFor}
+use Rattle.orders.specs.declared.Blocks.{Blocks}
 use Rattle.rules.specs.Hour.{bySide, when}
 use Rattle.rules.specs.Execution.{testSide}
 use Rattle.tables.specs.Tables.{PriceTable, AllOf, ClearRange, GapTable}
 use Rattle.rules.specs.Orders.{maxPrice}
 use Rattle.book.specs.Bounds.{mostBlocks}
 use Rattle.orders.specs.Layout.{stepPlaces}
-use Rattle.places.specs.Layout.{hourPlaces, mostQuantity, lastPlace, rowSize, hoursColumn, quantityColumn, limitColumn, againstColumn, gainColumn, aheadColumn, rowsColumn, blockListSize}
+use Rattle.places.specs.Layout.{hourPlaces, mostQuantity, lastPlace, hoursColumn, quantityColumn, limitColumn, againstColumn, gainColumn, aheadColumn, rowsColumn, blockListSize}
 use Rattle.places.specs.Hours.{Small, FirstSmall, sumOfHours}
 use Rattle.places.specs.Blocks.{sideAt, hoursAt, quantityAt, limitAt, againstAt, gainAt, aheadAt, behindAt, rowQuantity}
 use Rattle.search.specs.Tables.{Tables}
@@ -55,8 +56,12 @@ hourPart ends h column = fromTo (getD ends h 0) (getD ends (h + 1) 0) column
 abbrev pub rowPlaces : ℕ → ℕ
 rowPlaces most = most + 2
 
-abbrev pub tableRow : List ℕ → (h most : ℕ) → List ℕ
-tableRow table h most = take (rowPlaces most) (drop (h * rowSize) table)
+abbrev pub tableRow : (width : ℕ) → List ℕ → (h most : ℕ) → List ℕ
+tableRow width table h most = take (rowPlaces most) (drop (h * width) table)
+
+-- No hour's blocks reach past a row of so many places.
+abbrev pub RowsFit : ℕ → List ℕ → Type 0
+RowsFit width most = (h : ℕ) → h < hourPlaces → rowPlaces (getD most h 0) ≤ width
 
 -- THE TABLES
 -- A row is the price table of the steps from a up to e.
@@ -64,12 +69,12 @@ abbrev pub TableOf : (sides prices quantities : List ℕ) (a e off : ℕ) (row :
 TableOf sides prices quantities a e off row = PriceTable (fromTo a e sides) (fromTo a e prices) (fromTo a e quantities) off row
 
 -- The row of hour h + 1 is its price table.
-abbrev pub RowIs : (sides prices quantities ends off most unitPrices : List ℕ) → ℕ → Type 0
-RowIs sides prices quantities ends off most unitPrices h =
-    PriceTable (hourPart ends h sides) (hourPart ends h prices) (hourPart ends h quantities) (getD off h 0) (tableRow unitPrices h (getD most h 0))
+abbrev pub RowIs : (width : ℕ) (sides prices quantities ends off most unitPrices : List ℕ) → ℕ → Type 0
+RowIs width sides prices quantities ends off most unitPrices h =
+    PriceTable (hourPart ends h sides) (hourPart ends h prices) (hourPart ends h quantities) (getD off h 0) (tableRow width unitPrices h (getD most h 0))
 
-abbrev pub RowsAre : (sides prices quantities ends off most unitPrices : List ℕ) → Type 0
-RowsAre sides prices quantities ends off most unitPrices = (h : ℕ) → h < hourPlaces → RowIs sides prices quantities ends off most unitPrices h
+abbrev pub RowsAre : (width : ℕ) (sides prices quantities ends off most unitPrices : List ℕ) → Type 0
+RowsAre width sides prices quantities ends off most unitPrices = (h : ℕ) → h < hourPlaces → RowIs width sides prices quantities ends off most unitPrices h
 
 -- The places at which an hour clears, of those up to most, and its gaps there at a price, the least at turn.
 pub record Ranged (sides prices quantities : List ℕ) (off most price first last turn : ℕ) (unitPrices gap : List ℕ) : Type 0 where
@@ -83,14 +88,14 @@ abbrev pub RangedOf : (sides prices quantities : List ℕ) (a e off most price f
 RangedOf sides prices quantities a e off most price first last turn unitPrices gap =
     Ranged (fromTo a e sides) (fromTo a e prices) (fromTo a e quantities) off most price first last turn unitPrices gap
 
-abbrev pub RangedAt : (sides prices quantities ends off most root unitPrices gap first last turn : List ℕ) → ℕ → Type 0
-RangedAt sides prices quantities ends off most root unitPrices gap first last turn h =
+abbrev pub RangedAt : (width : ℕ) (sides prices quantities ends off most root unitPrices gap first last turn : List ℕ) → ℕ → Type 0
+RangedAt width sides prices quantities ends off most root unitPrices gap first last turn h =
     Ranged (hourPart ends h sides) (hourPart ends h prices) (hourPart ends h quantities) (getD off h 0) (getD most h 0) (getD root h 0) (getD first h 0)
-    (getD last h 0) (getD turn h 0) (tableRow unitPrices h (getD most h 0)) (tableRow gap h (getD most h 0))
+    (getD last h 0) (getD turn h 0) (tableRow width unitPrices h (getD most h 0)) (tableRow width gap h (getD most h 0))
 
-abbrev pub RangesAre : (sides prices quantities ends off most root unitPrices gap first last turn : List ℕ) → Type 0
-RangesAre sides prices quantities ends off most root unitPrices gap first last turn =
-    (h : ℕ) → h < hourPlaces → RangedAt sides prices quantities ends off most root unitPrices gap first last turn h
+abbrev pub RangesAre : (width : ℕ) (sides prices quantities ends off most root unitPrices gap first last turn : List ℕ) → Type 0
+RangesAre width sides prices quantities ends off most root unitPrices gap first last turn =
+    (h : ℕ) → h < hourPlaces → RangedAt width sides prices quantities ends off most root unitPrices gap first last turn h
 
 -- THE BLOCKS
 -- The sum of a number of each of the first n places.
@@ -102,6 +107,11 @@ sumBelow (suc n) f = sumBelow n f + f n
 abbrev pub blocksTrade : (count : ℕ) (sides hours quantities : List ℕ) (all : Bool) (h : ℕ) → ℕ
 blocksTrade count sides hours quantities all h =
     sumBelow count (λ i. when (holdsHour (getD hours i 0) h) (bySide (sideFor (getD sides i 0)) (getD quantities i 0) (cond all (getD quantities i 0) 0)))
+
+-- No hour's blocks reach past a row of so many places.
+abbrev pub BlocksFit : (width : ℕ) → Blocks → Type 0
+BlocksFit width blocks =
+    (h : ℕ) → 1 ≤ h → h ≤ hourPlaces → rowPlaces (blocksTrade (blocks .count) (blocks .sides) (blocks .hours) (blocks .quantities) true h) ≤ width
 
 -- A column has that sum for each hour; it is a place.
 pub record TradedBy (count : ℕ) (sides hours quantities : List ℕ) (all : Bool) (column : List ℕ) : Type 0 where

@@ -22,11 +22,25 @@ use places::layout::RUNS;
 use places::limits::price_sum;
 use places::numbers::by_side;
 use places::numbers::choose;
+use places::numbers::larger;
 use places::numbers::less;
 use records::hour_count;
 
 // How much the first six columns hold, those in front of the twins'.
 const SIX_COLUMNS: usize = AHEAD;
+
+// The largest number of a column of hours.
+pub fn largest(column: [u32; HOURS]) -> u32
+    ensures { λ r. ⌜ Small r column × ((m : ℕ) → Small m column → r ≤ m) ⌝ }
+{
+    let mut most: u32 = 0;
+    let mut h: usize = 0;
+    while h < HOURS {
+        most = larger(most, column[h]);
+        h += 1;
+    }
+    most
+}
 
 // What the buy blocks buy in each hour; where `all` is true, with what the sell blocks sell.
 pub fn traded_by_hour(

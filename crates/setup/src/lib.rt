@@ -1,16 +1,19 @@
 // The setup of the search: from a book's decoded columns to the tables of the hours and the columns of the blocks. Assumes nothing.
 ghost use mathlib.Core.Path.{_≡_};
 ghost use lib.ListN.{length};
-ghost use Rattle.places.specs.Layout.{tableSize};
-ghost use Rattle.places.specs.Hours.{Small};
+ghost use Prim.Native.Nat.{_+_, _≤_};
+ghost use Rattle.places.specs.Layout.{lastPlace};
+ghost use Rattle.places.specs.Hours.{Small, rowWidth, HasRows};
 ghost use Rattle.rules.specs.Orders.{maxPrice};
 ghost use Rattle.search.specs.Tables.{tablesOf};
 ghost use Rattle.search.specs.Meaning.{Sized};
-ghost use Rattle.setup.specs.Setup.{StepsHeld, BlocksHeld, ReadyFor};
+ghost use Rattle.setup.specs.Setup.{StepsHeld, BlocksHeld, BlocksFit, ReadyFor};
 use crate::blocks::block_columns;
+use crate::blocks::largest;
 use crate::blocks::traded_by_hour;
 use crate::blocks::widened;
 use crate::blocks::with_rows;
+use crate::rows::LAST_AND_ABOVE;
 use crate::rows::fill_ranges;
 use crate::rows::fill_tables;
 use crate::rows::joined;
@@ -31,6 +34,19 @@ pub struct Prepared {
     pub columns: [u32; BLOCK_LIST],
 }
 
+// The places that a row needs: up to the last that the blocks reach in any hour, and the one above it.
+pub fn row_needed(blocks: Blocks) -> usize
+    requires { ⌜ BlocksHeld (blocks .count) (blocks .prices) (blocks .quantities) ⌝ }
+    ensures fits { λ r. ⌜ BlocksFit r blocks ⌝ }
+    ensures narrow { λ r. ⌜ r ≤ lastPlace + 2 ⌝ }
+{
+    let sides = blocks.sides;
+    let hours = blocks.hours;
+    let quantities = blocks.quantities;
+    let most = traded_by_hour(blocks.count, sides, hours, quantities, true);
+    (largest(most) as usize) + LAST_AND_ABOVE
+}
+
 // All that the search is given, from the columns of a book's steps and blocks; unit_prices and gap are its two tables, a row of places for each hour.
 pub fn prepare(
     sides: &[u8],
@@ -43,7 +59,8 @@ pub fn prepare(
 ) -> Prepared
     requires steps { ⌜ StepsHeld (now sides) (now prices) (now quantities) ends ⌝ }
     requires blocks { ⌜ BlocksHeld (blocks .count) (blocks .prices) (blocks .quantities) ⌝ }
-    requires tables { ⌜ (length (now «unit_prices») ≡ tableSize) × (length (now gap) ≡ tableSize) × Small maxPrice (now «unit_prices») ⌝ }
+    requires tables { ⌜ HasRows (now «unit_prices») × (length (now gap) ≡ length (now «unit_prices»)) × Small maxPrice (now «unit_prices») ⌝ }
+    requires room { ⌜ BlocksFit (rowWidth (now «unit_prices»)) blocks ⌝ }
     ensures sized { λ r. ⌜ Sized (tablesOf (now («unit_prices» .exit)) (now (gap .exit)) (r .hours) (r .columns) (blocks .count)) ⌝ }
     ensures ready { λ r. ⌜ ReadyFor (now (sides .entry)) (now (prices .entry)) (now (quantities .entry)) ends
         (blocks .records) (blocks .sides) (blocks .hours) (blocks .prices) (blocks .quantities)

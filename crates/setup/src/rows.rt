@@ -1,15 +1,14 @@
 // The hours for the search: the price table of each, the places at which it clears, and its gaps there, row after row; and the hours' three columns.
 ghost use mathlib.Core.Path.{_≡_};
-ghost use Prim.Native.Nat.{ℕ, _≤_, _<_};
+ghost use Prim.Native.Nat.{ℕ, _+_, _≤_, _<_};
 ghost use lib.ListN.{length, getD};
 ghost use Rattle.rules.specs.Orders.{maxPrice};
-ghost use Rattle.places.specs.Layout.{hourPlaces, lastPlace, rowSize, tableSize};
-ghost use Rattle.places.specs.Hours.{Small, clearsFirst, clearsLast, gapsTurn};
-ghost use Rattle.setup.specs.Setup.{rowPlaces, StepsHeld, PartHeld, TableOf, RowsAre, RangedOf, RangesAre};
+ghost use Rattle.places.specs.Layout.{hourPlaces, lastPlace};
+ghost use Rattle.places.specs.Hours.{Small, rowWidth, lastIn, HasRows, clearsFirst, clearsLast, gapsTurn};
+ghost use Rattle.setup.specs.Setup.{rowPlaces, RowsFit, StepsHeld, PartHeld, TableOf, RowsAre, RangedOf, RangesAre};
 use places::layout::HOUR_LIST;
 use places::layout::HOURS;
 use places::layout::LAST;
-use places::layout::ROW;
 use places::layout::TURN;
 use tables::all_totals;
 use tables::clear_range;
@@ -31,7 +30,7 @@ pub struct Ranges {
 }
 
 // The places of a row that are filled are as many as the last that the hour's blocks can reach, and these: it and the one above it.
-const LAST_AND_ABOVE: usize = 2;
+pub const LAST_AND_ABOVE: usize = 2;
 
 // The price table of an hour, whose steps stand from a up to e.
 fn fill_row(
@@ -43,7 +42,7 @@ fn fill_row(
     off: u32,
     row: &mut [u32],
 )
-    requires { ⌜ PartHeld (now sides) (now prices) (now quantities) a e × (off ≤ lastPlace) × (length (now row) ≤ rowSize) ⌝ }
+    requires { ⌜ PartHeld (now sides) (now prices) (now quantities) a e × (off ≤ lastPlace) × (length (now row) ≤ lastPlace + 2) ⌝ }
     ensures { λ _. ⌜ TableOf (now (sides .entry)) (now (prices .entry)) (now (quantities .entry)) a e off (now (row .exit)) ⌝ }
 {
     fill_prices(&sides[a..e], &prices[a..e], &quantities[a..e], off, row);
@@ -60,13 +59,14 @@ pub fn fill_tables(
     unit_prices: &mut [u32],
 )
     requires steps { ⌜ StepsHeld (now sides) (now prices) (now quantities) ends × Small lastPlace off × Small lastPlace most ⌝ }
-    requires table { ⌜ (length (now «unit_prices») ≡ tableSize) × Small maxPrice (now «unit_prices») ⌝ }
-    ensures rows { λ _. ⌜ RowsAre (now (sides .entry)) (now (prices .entry)) (now (quantities .entry)) ends off most (now («unit_prices» .exit)) ⌝ }
+    requires table { ⌜ HasRows (now «unit_prices») × RowsFit (rowWidth (now «unit_prices»)) most × Small maxPrice (now «unit_prices») ⌝ }
+    ensures rows { λ _. ⌜ RowsAre (rowWidth (now («unit_prices» .entry))) (now (sides .entry)) (now (prices .entry)) (now (quantities .entry)) ends off most (now («unit_prices» .exit)) ⌝ }
     ensures small { λ _. ⌜ Small maxPrice (now («unit_prices» .exit)) ⌝ }
 {
+    let width = unit_prices.len() / HOURS;
     let mut h: usize = 0;
     while h < HOURS {
-        let from = h * ROW;
+        let from = h * width;
         let to = from + (most[h] as usize) + LAST_AND_ABOVE;
         fill_row(
             sides,
@@ -97,7 +97,7 @@ fn fill_hour(
 ) -> Range
     requires held { ⌜ PartHeld (now sides) (now prices) (now quantities) a e × (off ≤ most) × (most ≤ lastPlace) × (price ≤ maxPrice) × (length (now gap) ≡ rowPlaces most) ⌝ }
     requires table { ⌜ (length (now row) ≡ rowPlaces most) × TableOf (now sides) (now prices) (now quantities) a e off (now row) ⌝ }
-    ensures fits { λ r. ⌜ (r .first ≤ lastPlace) × (r .last ≤ lastPlace) × (r .turn ≤ lastPlace) ⌝ }
+    ensures fits { λ r. ⌜ (r .first ≤ most) × (r .last ≤ most) × (r .turn ≤ most) ⌝ }
     ensures ranged { λ r. ⌜ RangedOf (now (sides .entry)) (now (prices .entry)) (now (quantities .entry)) a e off most price
         (r .first) (r .last) (r .turn) (now (row .entry)) (now (gap .exit)) ⌝ }
 {
@@ -123,19 +123,20 @@ pub fn fill_ranges(
     unit_prices: &[u32],
     gap: &mut [u32],
 ) -> Ranges
-    requires held { ⌜ StepsHeld (now sides) (now prices) (now quantities) ends × Small lastPlace most × Small maxPrice root × (length (now gap) ≡ tableSize) ⌝ }
+    requires held { ⌜ StepsHeld (now sides) (now prices) (now quantities) ends × Small lastPlace most × Small maxPrice root × HasRows (now gap) × RowsFit (rowWidth (now gap)) most ⌝ }
     requires within { ⌜ ((h : ℕ) → h < hourPlaces → getD off h 0 ≤ getD most h 0) ⌝ }
-    requires tables { ⌜ (length (now «unit_prices») ≡ tableSize) × RowsAre (now sides) (now prices) (now quantities) ends off most (now «unit_prices») ⌝ }
-    ensures small { λ r. ⌜ (length (r .first) ≡ hourPlaces) × (length (r .last) ≡ hourPlaces) × (length (r .turn) ≡ hourPlaces) × Small lastPlace (r .last) ⌝ }
-    ensures ranges { λ r. ⌜ RangesAre (now (sides .entry)) (now (prices .entry)) (now (quantities .entry)) ends off most root
+    requires tables { ⌜ (length (now «unit_prices») ≡ length (now gap)) × RowsAre (rowWidth (now gap)) (now sides) (now prices) (now quantities) ends off most (now «unit_prices») ⌝ }
+    ensures small { λ r. ⌜ (length (r .first) ≡ hourPlaces) × (length (r .last) ≡ hourPlaces) × (length (r .turn) ≡ hourPlaces) × Small (lastIn (now (gap .entry))) (r .last) ⌝ }
+    ensures ranges { λ r. ⌜ RangesAre (rowWidth (now (gap .entry))) (now (sides .entry)) (now (prices .entry)) (now (quantities .entry)) ends off most root
         (now («unit_prices» .entry)) (now (gap .exit)) (r .first) (r .last) (r .turn) ⌝ }
 {
+    let width = gap.len() / HOURS;
     let mut first = [0; HOURS];
     let mut last = [0; HOURS];
     let mut turn = [0; HOURS];
     let mut h: usize = 0;
     while h < HOURS {
-        let from = h * ROW;
+        let from = h * width;
         let to = from + (most[h] as usize) + LAST_AND_ABOVE;
         let range = fill_hour(
             sides,

@@ -12,28 +12,31 @@ book_text: the plain-text form of an order book
   book_text to-text < day.book > orders.txt    book bytes to text
   book_text --help                             this page
 
-The text has one order a line. `#` begins a comment; empty lines are skipped.
+The text has one order a line. `#` begins a comment; empty lines are skipped. A
+line `edition 2` in front of all orders makes a book of edition 2; without it the
+book is of edition 1.
 
   step buy hour 1 price 5000 quantity 100 portfolio 1
   step sell hour 1 price 3000 quantity 100 portfolio 2 number 7
   block sell hours 1,2 price 2900 quantity 50 portfolio 3
   block buy hours 1-8,21-24 price 4100 quantity 10 portfolio 3
 
-A line begins with `step` or `block` and `buy` or `sell`; the fields follow, each
-a word and its value, in any order:
+A line of an order begins with `step` or `block` and `buy` or `sell`; the fields
+follow, each a word and its value, in any order:
 
   hour       of a step, 1 to 24
   hours      of a block, at least two, as a list of hours and ranges, no spaces
   price      whole cents per MWh, 1 to 300000
-  quantity   whole tenths of a MW, 1 to 99999 for a step, 1 to 50 for a block
+  quantity   whole tenths of a MW, 1 to 99999 for a step; for a block 1 to 50 in
+             edition 1, 1 to 250 in edition 2
   portfolio  1 to 255
   number     1 to 65535; may be left out: one more than the order of its kind on
              the line before it, and 1 for the first. Steps and blocks are
              numbered separately, and each number stands once among them.
 
 The first order becomes record 1, the second record 2, and so on; the chains
-follow the numbers. A book has at most 2047 orders, of them at most 32 blocks,
-and at most 5 blocks of one portfolio.
+follow the numbers. A book has at most 2047 orders, of them at most 32 blocks;
+of one portfolio at most 5 blocks in edition 1, at most 10 in edition 2.
 
 Exit codes: 0 done; 1 the input is wrong (the reason is on standard error and
 nothing is on standard output); 2 a wrong command.

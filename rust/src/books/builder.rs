@@ -27,10 +27,18 @@ pub struct BlockOrder {
 }
 
 /// The orders of a book; each list is a chain in its order.
-#[derive(Clone, Debug, Default, PartialEq, Eq)]
+#[derive(Clone, Debug, PartialEq, Eq)]
 pub struct Orders {
+    /// Edition 1, where nothing else is said.
+    pub edition: u32,
     pub steps: Vec<StepOrder>,
     pub blocks: Vec<BlockOrder>,
+}
+
+impl Default for Orders {
+    fn default() -> Orders {
+        Orders { edition: 1, steps: Vec::new(), blocks: Vec::new() }
+    }
 }
 
 /// The 24 bits of a block's hours.
@@ -42,6 +50,12 @@ impl Orders {
     /// No orders yet.
     pub fn new() -> Orders {
         Orders::default()
+    }
+
+    /// The same orders in a book of another edition; it is not checked either.
+    pub fn of_edition(mut self, edition: u32) -> Orders {
+        self.edition = edition;
+        self
     }
 
     /// Adds a step, numbered one more than the step before it.
@@ -97,7 +111,7 @@ impl Orders {
         assert_eq!(places.len(), self.count(), "one place for each order");
         let (step_places, block_places) = places.split_at(self.steps.len());
         let mut book = vec![0; 16 * (self.count() + 1)];
-        write_head(&mut book, self.count() + 1, first(step_places), first(block_places));
+        write_head(&mut book, first(step_places), first(block_places), self.edition);
         for (index, step) in self.steps.iter().enumerate() {
             write_step(&mut book, step_places[index], first(&step_places[index + 1..]), step);
         }
@@ -120,12 +134,13 @@ pub(super) fn put(book: &mut [u8], k: usize, at: usize, count: usize, number: u3
     book[start..start + count].copy_from_slice(&number.to_be_bytes()[4 - count..]);
 }
 
-fn write_head(book: &mut [u8], record_count: usize, first_step: usize, first_block: usize) {
+fn write_head(book: &mut [u8], first_step: usize, first_block: usize, edition: u32) {
+    let record_count = book.len() / 16;
     put(book, 0, 0, 2, record_count as u32);
     put(book, 0, 2, 2, first_step as u32);
     put(book, 0, 4, 2, first_block as u32);
     put(book, 0, 6, 1, 24);
-    put(book, 0, 7, 1, 1);
+    put(book, 0, 7, 1, edition);
 }
 
 fn write_step(book: &mut [u8], k: usize, next: usize, step: &StepOrder) {

@@ -1,31 +1,41 @@
-//! Refused books: with chosen causes, with any byte changed, of any length.
+//! Refused books: with chosen causes, with any byte changed, of any length, of any
+//! edition. As in `random`, a name that ends with `of` makes books of an edition.
 
 use super::builder::{hour_bits, put, BlockOrder, Orders, StepOrder};
 use super::dice::Dice;
-use super::random::small_orders;
-use crate::paper::Side;
+use super::random::small_orders_of;
+use crate::paper::{limits, Limits, Side};
 
 /// A book for a reader, settled by its seed: accepted ones, each cause alone,
 /// several causes at once, random changes and plain noise.
 pub fn reader_book(seed: u64) -> Vec<u8> {
+    reader_book_of(1, seed)
+}
+
+/// A book for a reader of an edition. For edition 2 there are also books whose head
+/// names another edition than the one that their orders were made for.
+pub fn reader_book_of(edition: u32, seed: u64) -> Vec<u8> {
     let mut dice = Dice::new(seed ^ 0x7265_6164_0000_0000);
+    if edition != 1 && dice.once_in(5) {
+        return another_edition(&mut dice);
+    }
     if dice.once_in(2_000) {
-        return large_book(&mut dice);
+        return large_book(edition, &mut dice);
     }
     match dice.below(20) {
-        0..=4 => small_orders(&mut dice).shuffled_book(&mut dice),
+        0..=4 => small_orders_of(edition, &mut dice).shuffled_book(&mut dice),
         5..=9 => {
             let cause = dice.between(1, 6) as u8;
-            book_with_causes(&[cause], &mut dice)
+            book_with_causes_of(edition, &[cause], &mut dice)
         }
         10..=13 => {
             let causes = [dice.between(1, 6) as u8, dice.between(1, 6) as u8];
-            book_with_causes(&causes, &mut dice)
+            book_with_causes_of(edition, &causes, &mut dice)
         }
-        14..=16 => bytes_changed(&mut dice),
-        17 => length_changed(&mut dice),
+        14..=16 => bytes_changed(edition, &mut dice),
+        17 => length_changed(edition, &mut dice),
         18 => noise(&mut dice),
-        _ => loose_records(&mut dice),
+        _ => loose_records(edition, &mut dice),
     }
 }
 
@@ -75,11 +85,41 @@ pub fn edge_books() -> Vec<Vec<u8>> {
         books.push(book);
     }
     for count in [31, 32, 33, 34, 255] {
-        books.push(many_blocks(count, 5).book());
+        books.push(many_blocks(1, count, 5).book());
     }
     for of_one_portfolio in [5, 6, 7] {
-        books.push(many_blocks(of_one_portfolio, of_one_portfolio).book());
-        books.push(many_blocks(32, of_one_portfolio).book());
+        books.push(many_blocks(1, of_one_portfolio, of_one_portfolio).book());
+        books.push(many_blocks(1, 32, of_one_portfolio).book());
+    }
+    books
+}
+
+/// Editions that are there and editions that are not.
+pub const SOME_EDITIONS: [u32; 6] = [0, 1, 2, 3, 4, 255];
+
+/// Books at the edges of the editions' limits, each under every edition of
+/// [`SOME_EDITIONS`]: one block of a quantity beside so many of one portfolio, so that
+/// two causes meet; 31 to 34 blocks in all; and what is wrong in the head besides.
+pub fn edition_edges() -> Vec<Vec<u8>> {
+    let mut books = Vec::new();
+    for edition in SOME_EDITIONS {
+        let mut push = |orders: Orders| books.push(orders.of_edition(edition).book());
+        for of_one_portfolio in [1, 2, 4, 5, 6, 7, 9, 10, 11, 12] {
+            for quantity in [0, 1, 49, 50, 51, 249, 250, 251, 256, 306, 65_535] {
+                let mut orders = many_blocks(1, of_one_portfolio, of_one_portfolio);
+                orders.blocks[of_one_portfolio as usize / 2].quantity = quantity;
+                push(orders);
+            }
+            for count in [31, 32, 33, 34] {
+                push(many_blocks(1, count, of_one_portfolio));
+                push(many_blocks(2, count, of_one_portfolio));
+            }
+        }
+        for at in [6, 8, 15] {
+            let mut book = many_blocks(1, 2, 2).of_edition(edition).book();
+            book[at] += 1;
+            books.push(book);
+        }
     }
     books
 }
@@ -87,14 +127,20 @@ pub fn edge_books() -> Vec<Vec<u8>> {
 /// A random book with each of these causes, 1 to 6, so that the lowest of them
 /// is its refusal.
 pub fn book_with_causes(causes: &[u8], dice: &mut Dice) -> Vec<u8> {
-    let mut orders = small_orders(dice);
+    book_with_causes_of(1, causes, dice)
+}
+
+/// The same with a book of an edition.
+pub fn book_with_causes_of(edition: u32, causes: &[u8], dice: &mut Dice) -> Vec<u8> {
+    let mut orders = small_orders_of(edition, dice);
+    let limits = limits(edition).expect("an edition");
     ensure_orders(&mut orders);
     let holds = |cause: u8| causes.contains(&cause);
     if holds(6) {
-        crowd_blocks(&mut orders, dice);
+        crowd_blocks(&mut orders, limits, dice);
     }
     let book = orders.shuffled_book(dice);
-    let mut damaged = Damaged { chained: (1..=orders.count()).collect(), book };
+    let mut damaged = Damaged { limits, chained: (1..=orders.count()).collect(), book };
     // From the highest cause down, so that no change undoes a cause with a lower
     // number than its own. What it does to the higher ones does not matter.
     if holds(5) {
@@ -117,6 +163,7 @@ pub fn book_with_causes(causes: &[u8], dice: &mut Dice) -> Vec<u8> {
 
 /// A book under damage, with the records that are still on a chain.
 struct Damaged {
+    limits: Limits,
     book: Vec<u8>,
     chained: Vec<usize>,
 }
@@ -200,7 +247,7 @@ impl Damaged {
             (11, 3, 300_001),
             (11, 3, 0xff_ffff),
             (14, 2, 0),
-            (14, 2, 51),
+            (14, 2, self.limits.block_quantity + 1),
             (14, 2, 65_535),
         ];
         let choices = if self.is_block(k) { of_block } else { of_step };
@@ -270,10 +317,11 @@ impl Damaged {
 
     /// Cause 2.
     fn break_the_head(&mut self, dice: &mut Dice) {
-        let other_than = |right: u32, value: u32| if value == right { right + 1 } else { value };
+        let hours = |value: u32| if value == 24 { 25 } else { value };
+        let edition = |value: u32| if limits(value).is_some() { 3 } else { value };
         match dice.below(3) {
-            0 => self.put(0, 6, 1, other_than(24, dice.between(0, 254))),
-            1 => self.put(0, 7, 1, other_than(1, dice.between(0, 254))),
+            0 => self.put(0, 6, 1, hours(dice.between(0, 254))),
+            1 => self.put(0, 7, 1, edition(dice.between(0, 254))),
             _ => self.put(0, 8 + dice.below(8), 1, dice.between(1, 255)),
         }
     }
@@ -333,8 +381,8 @@ fn number_from_one(orders: &mut Orders) {
     }
 }
 
-/// Cause 6: more than 32 blocks, or more than 5 of one portfolio.
-fn crowd_blocks(orders: &mut Orders, dice: &mut Dice) {
+/// Cause 6: more than 32 blocks, or one more of one portfolio than its edition allows.
+fn crowd_blocks(orders: &mut Orders, limits: Limits, dice: &mut Dice) {
     let model = dice.pick(&orders.blocks);
     if dice.once_in(2) {
         let count = dice.pick(&[33, 34, 40]);
@@ -344,7 +392,7 @@ fn crowd_blocks(orders: &mut Orders, dice: &mut Dice) {
         }
     } else {
         let portfolio = dice.between(1, 255);
-        for _ in 0..6 {
+        for _ in 0..=limits.blocks_of_a_portfolio {
             let place = dice.below(orders.blocks.len() + 1);
             let side = dice.pick(&[Side::Buy, Side::Sell]);
             orders.blocks.insert(place, BlockOrder { portfolio, side, ..model });
@@ -353,9 +401,29 @@ fn crowd_blocks(orders: &mut Orders, dice: &mut Dice) {
     number_from_one(orders);
 }
 
+/// Orders at the limits of either edition, under any edition.
+fn another_edition(dice: &mut Dice) -> Vec<u8> {
+    let edition = dice.between(1, 2);
+    let mut orders = small_orders_of(edition, dice);
+    ensure_orders(&mut orders);
+    if dice.once_in(2) {
+        let k = dice.below(orders.blocks.len());
+        orders.blocks[k].quantity = dice.pick(&[50, 51, 52, 249, 250, 251, 252]);
+    }
+    if dice.once_in(2) {
+        let model = dice.pick(&orders.blocks);
+        let count = dice.pick(&[5, 6, 10, 11]);
+        orders.blocks.truncate(count);
+        orders.blocks.resize(count, model);
+        orders.blocks.iter_mut().for_each(|block| block.portfolio = model.portfolio);
+        number_from_one(&mut orders);
+    }
+    orders.of_edition(dice.pick(&[0, 1, 1, 1, 2, 2, 2, 3, 4, 255])).shuffled_book(dice)
+}
+
 /// One to three bytes of a small book changed, a little or altogether.
-fn bytes_changed(dice: &mut Dice) -> Vec<u8> {
-    let mut book = small_orders(dice).shuffled_book(dice);
+fn bytes_changed(edition: u32, dice: &mut Dice) -> Vec<u8> {
+    let mut book = small_orders_of(edition, dice).shuffled_book(dice);
     for _ in 0..dice.between(1, 3) {
         let place = dice.below(book.len());
         book[place] = match dice.below(4) {
@@ -369,8 +437,8 @@ fn bytes_changed(dice: &mut Dice) -> Vec<u8> {
 }
 
 /// A small book cut or lengthened; now and then R follows.
-fn length_changed(dice: &mut Dice) -> Vec<u8> {
-    let mut book = small_orders(dice).shuffled_book(dice);
+fn length_changed(edition: u32, dice: &mut Dice) -> Vec<u8> {
+    let mut book = small_orders_of(edition, dice).shuffled_book(dice);
     let length = dice.below(book.len() + 48);
     book.resize(length, dice.bits() as u8);
     if dice.once_in(2) && length >= 16 {
@@ -389,9 +457,9 @@ fn noise(dice: &mut Dice) -> Vec<u8> {
 
 /// A right head over records whose links, kinds and numbers are drawn at random
 /// from a few values: cycles, shared records and strays of every shape.
-fn loose_records(dice: &mut Dice) -> Vec<u8> {
-    let mut orders = many_steps(dice.between(1, 3));
-    orders.blocks = many_blocks(dice.between(1, 3), 5).blocks;
+fn loose_records(edition: u32, dice: &mut Dice) -> Vec<u8> {
+    let mut orders = many_steps(dice.between(1, 3)).of_edition(edition);
+    orders.blocks = many_blocks(edition, dice.between(1, 3), 5).blocks;
     let records = orders.count() as u32 + 1;
     let mut book = orders.shuffled_book(dice);
     let wrong_kinds = dice.once_in(2);
@@ -410,9 +478,10 @@ fn loose_records(dice: &mut Dice) -> Vec<u8> {
 }
 
 /// A full book with at most one thing wrong.
-fn large_book(dice: &mut Dice) -> Vec<u8> {
-    let mut orders = many_steps(dice.between(2_014, 2_016));
-    orders.blocks = many_blocks(32, 5).blocks;
+fn large_book(edition: u32, dice: &mut Dice) -> Vec<u8> {
+    let of_one_portfolio = limits(edition).expect("an edition").blocks_of_a_portfolio;
+    let mut orders = many_steps(dice.between(2_014, 2_016)).of_edition(edition);
+    orders.blocks = many_blocks(edition, 32, of_one_portfolio as u32).blocks;
     let mut book = orders.shuffled_book(dice);
     if dice.once_in(2) {
         let place = dice.below(book.len());
@@ -439,16 +508,13 @@ fn many_steps(count: u32) -> Orders {
     (0..count).fold(Orders::new(), step)
 }
 
-fn many_blocks(count: u32, of_one_portfolio: u32) -> Orders {
+/// Blocks of an edition, with small quantities in edition 1 and large ones in edition 2.
+fn many_blocks(edition: u32, count: u32, of_one_portfolio: u32) -> Orders {
     let block = |orders: Orders, index: u32| {
         let side = [Side::Sell, Side::Buy][index as usize % 2];
-        orders.block(
-            side,
-            &[1, 2 + index % 23],
-            1 + index,
-            1 + index % 50,
-            1 + index / of_one_portfolio,
-        )
+        let quantity = if edition == 1 { 1 + index % 50 } else { 250 - index % 200 };
+        let portfolio = 1 + index / of_one_portfolio;
+        orders.block(side, &[1, 2 + index % 23], 1 + index, quantity, portfolio)
     };
-    (0..count).fold(Orders::new(), block)
+    (0..count).fold(Orders::new().of_edition(edition), block)
 }

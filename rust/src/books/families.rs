@@ -34,7 +34,7 @@ impl Family {
 }
 
 /// The families of the benchmark.
-pub const FAMILIES: [Family; 7] = [
+pub const FAMILIES: [Family; 10] = [
     Family::new("full days", 32, 32, |seed, blocks| full_day(seed, 2015, blocks)),
     Family::new("full days, odd hours", 32, 32, odd_day),
     Family::new("identical blocks", 30, 32, identical_blocks),
@@ -42,6 +42,9 @@ pub const FAMILIES: [Family; 7] = [
     Family::new("blocks only", 32, 32, blocks_only),
     Family::new("ties", 18, 24, ties),
     Family::new("cliffs", 18, 22, cliffs),
+    Family::new("edition 2, large", 32, 32, ed2),
+    Family::new("edition 2, widest", 32, 32, ed2_widest),
+    Family::new("edition 2, small", 32, 32, ed2_small),
 ];
 
 /// A day with deep curves in every hour and ordinary blocks, most of which have
@@ -146,6 +149,49 @@ fn cliffs(seed: u64, blocks: usize) -> Vec<u8> {
     orders.book()
 }
 
+/// A full day of edition 2 with blocks of the greatest quantity.
+fn ed2(seed: u64, blocks: usize) -> Vec<u8> {
+    ed2_day(seed, blocks, usual_hours)
+}
+
+/// The same with blocks of all 24 hours, so that with 32 of them every hour's blocks trade
+/// 8,000 in all: no day has wider hours.
+fn ed2_widest(seed: u64, blocks: usize) -> Vec<u8> {
+    ed2_day(seed, blocks, |_| ALL_HOURS)
+}
+
+fn ed2_day(seed: u64, blocks: usize, hours_of: fn(&mut Dice) -> u32) -> Vec<u8> {
+    let mut dice = Dice::new(seed);
+    let mut orders = deep_steps(&mut dice, 2015).of_edition(2);
+    add_ordinary_blocks(&mut orders, &mut dice, blocks, hours_of, 20);
+    orders.blocks.iter_mut().for_each(|block| block.quantity = 250);
+    orders.book()
+}
+
+/// What an hour's blocks trade at most in all in edition 1: 32 of 50.
+const MOST_IN_EDITION_1: u32 = 1600;
+
+/// A full day of edition 2 whose blocks trade no more than 1,600 in all in any hour, as
+/// those of edition 1 do, though most of them have more than 50.
+fn ed2_small(seed: u64, blocks: usize) -> Vec<u8> {
+    let mut dice = Dice::new(seed);
+    let mut orders = deep_steps(&mut dice, 2015).of_edition(2);
+    add_ordinary_blocks(&mut orders, &mut dice, blocks, usual_hours, 20);
+    for block in &mut orders.blocks {
+        block.quantity *= 5;
+    }
+    let most = (0..24).map(|h| traded_in(&orders, h)).max().unwrap_or(0);
+    for block in &mut orders.blocks {
+        block.quantity = block.quantity * MOST_IN_EDITION_1 / most.max(MOST_IN_EDITION_1);
+    }
+    orders.book()
+}
+
+/// What the blocks with hour h + 1 trade in it, all of them together.
+fn traded_in(orders: &Orders, h: usize) -> u32 {
+    orders.blocks.iter().map(|block| ((block.hours >> h) & 1) * block.quantity).sum()
+}
+
 /// Steps of both sides around the level of each hour, and some at any price.
 fn deep_steps(dice: &mut Dice, count: usize) -> Orders {
     let mut orders = Orders::new();
@@ -176,7 +222,8 @@ fn push_step(orders: &mut Orders, side: Side, hour: u32, price: u32, quantity: u
 
 fn push_block(orders: &mut Orders, side: Side, hours: u32, price: u32, quantity: u32) {
     let number = orders.blocks.len() as u32 + 1;
-    let portfolio = 100 + (number - 1) / 5;
+    let limits = paper::limits(orders.edition).expect("an edition");
+    let portfolio = 100 + (number - 1) / limits.blocks_of_a_portfolio as u32;
     orders.blocks.push(BlockOrder { number, side, hours, price, quantity, portfolio });
 }
 
@@ -211,10 +258,12 @@ fn near_average(prices: &[u32; 24], hours: u32, thousandths: u32, dice: &mut Dic
     (sum / hours.count_ones() * moved / 1000).clamp(1, 300_000)
 }
 
+const ALL_HOURS: u32 = (1 << 24) - 1;
+
 /// All day, by day, by night.
 fn standard_hours(dice: &mut Dice) -> u32 {
-    let (all, day) = ((1 << 24) - 1, 0x000f_ff00);
-    dice.pick(&[all, day, all & !day])
+    let day = 0x000f_ff00;
+    dice.pick(&[ALL_HOURS, day, ALL_HOURS & !day])
 }
 
 fn usual_hours(dice: &mut Dice) -> u32 {
@@ -234,7 +283,7 @@ fn run_of_hours(dice: &mut Dice, least: u32, most: u32) -> u32 {
 /// Two hours or more, each as likely as not.
 fn odd_hours(dice: &mut Dice) -> u32 {
     loop {
-        let hours = dice.bits() as u32 & ((1 << 24) - 1);
+        let hours = dice.bits() as u32 & ALL_HOURS;
         if hours.count_ones() >= 2 {
             return hours;
         }

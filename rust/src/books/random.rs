@@ -1,5 +1,9 @@
 //! Random accepted books: few price levels so that ties are frequent, prices at
 //! both ends, empty and one-sided hours, blocks that meet and miss their limits.
+//!
+//! A function whose name ends with `of` makes books of an edition, 1 or 2; the one
+//! without it those of edition 1. The books of a seed stay as they are: a test holds
+//! them.
 
 use super::builder::{hour_bits, BlockOrder, Orders, StepOrder};
 use super::dice::Dice;
@@ -13,6 +17,7 @@ struct Market {
     block_quantities: Vec<u32>,
     most_steps_an_hour: u32,
     block_count: usize,
+    blocks_of_a_portfolio: usize,
     /// Whether buys tend to the higher levels and sells to the lower ones, and
     /// every hour has both, so that much is traded.
     lively: bool,
@@ -20,53 +25,150 @@ struct Market {
 
 /// A random book of 0 to 9 blocks; its records stand in any order.
 pub fn small_book(seed: u64) -> Vec<u8> {
+    small_book_of(1, seed)
+}
+
+/// A random book of an edition. Those of edition 2 have 0 to 10 blocks, mostly six or
+/// more and mostly of one portfolio, and quantities on both sides of 50 and up to 250.
+pub fn small_book_of(edition: u32, seed: u64) -> Vec<u8> {
     let mut dice = Dice::new(seed);
-    let orders = small_orders(&mut dice);
+    let orders = small_orders_of(edition, &mut dice);
     placed(&orders, &mut dice)
 }
 
 /// A random book so small that all its contenders can be listed: at most 7
 /// steps of at most 3, at most 4 blocks of at most 2.
 pub fn tiny_book(seed: u64) -> Vec<u8> {
+    tiny_book_of(1, seed)
+}
+
+/// A random book of an edition, so small that all its contenders can be listed. Those of
+/// edition 2 have six to nine blocks of at most 2, or few steps and blocks of more
+/// than 50.
+pub fn tiny_book_of(edition: u32, seed: u64) -> Vec<u8> {
     let mut dice = Dice::new(seed);
+    let orders = match edition {
+        1 => tiny_orders(&mut dice),
+        // The lists of the first two are the longest.
+        _ => match dice.below(8) {
+            0 => three_large_steps(&mut dice),
+            1 => two_larger_steps(&mut dice),
+            _ => many_tiny_blocks(&mut dice),
+        },
+    };
+    placed(&orders.of_edition(edition), &mut dice)
+}
+
+fn tiny_orders(dice: &mut Dice) -> Orders {
     let hours: &[u32] = dice.pick(&[&[1, 2], &[1, 2], &[23, 24], &[1, 2, 3]]);
     let market = Market {
         hours: hours.to_vec(),
-        levels: price_levels(&mut dice),
+        levels: price_levels(dice),
         step_quantities: vec![1, 2, 3],
         block_quantities: vec![1, 1, 2],
         // One for each side, so three hours come to at most six.
         most_steps_an_hour: if hours.len() == 2 { 2 } else { 1 },
         block_count: dice.below(5),
+        blocks_of_a_portfolio: 5,
         lively: !dice.once_in(4),
     };
-    let mut orders = orders_of(&market, &mut dice);
+    let mut orders = orders_of(&market, dice);
     orders.steps.truncate(7);
-    placed(&orders, &mut dice)
+    orders
+}
+
+/// A market in hours 1 and 2, with one step of each side in each of them.
+fn two_hours(step_quantities: &[u32], block_quantities: &[u32], dice: &mut Dice) -> Market {
+    Market {
+        hours: vec![1, 2],
+        levels: price_levels(dice),
+        step_quantities: step_quantities.to_vec(),
+        block_quantities: block_quantities.to_vec(),
+        most_steps_an_hour: 1,
+        block_count: dice.between(1, 3) as usize,
+        blocks_of_a_portfolio: 10,
+        lively: true,
+    }
+}
+
+/// Six to nine blocks of one portfolio.
+fn many_tiny_blocks(dice: &mut Dice) -> Orders {
+    let mut market = two_hours(&[2, 3, 4], &[1, 1, 2], dice);
+    market.block_count = dice.between(6, 9) as usize;
+    orders_of(&market, dice)
+}
+
+/// Three steps and one to three blocks of 51 to 60.
+fn three_large_steps(dice: &mut Dice) -> Orders {
+    let mut orders = orders_of(&two_hours(&[51, 52, 60], &[51, 51, 60], dice), dice);
+    orders.steps.truncate(3);
+    orders
+}
+
+/// Two steps of one side and one to three blocks of up to 250.
+fn two_larger_steps(dice: &mut Dice) -> Orders {
+    let mut orders = orders_of(&two_hours(&[249, 250, 251], &[125, 250], dice), dice);
+    let side = dice.pick(&[Side::Buy, Side::Sell]);
+    orders.steps.retain(|step| step.side == side);
+    orders
 }
 
 /// The orders of a random small book.
 pub fn small_orders(dice: &mut Dice) -> Orders {
+    small_orders_of(1, dice)
+}
+
+/// The orders of a random small book of an edition, see [`small_book_of`].
+pub fn small_orders_of(edition: u32, dice: &mut Dice) -> Orders {
+    let market = match edition {
+        1 => small_market(dice),
+        _ => wide_market(dice),
+    };
+    orders_of(&market, dice).of_edition(edition)
+}
+
+fn small_market(dice: &mut Dice) -> Market {
     let hours = used_hours(dice);
     // The 24-hour books get fewer blocks, to keep the listing short.
     let most_blocks = if hours.len() > 6 { 5 } else { 9 };
-    let market = Market {
+    Market {
         hours,
         levels: price_levels(dice),
         step_quantities: step_quantities(dice),
         block_quantities: block_quantities(dice),
         most_steps_an_hour: dice.between(1, 5),
         block_count: dice.below(most_blocks + 1),
+        blocks_of_a_portfolio: 5,
         lively: dice.once_in(2),
-    };
-    orders_of(&market, dice)
+    }
+}
+
+fn wide_market(dice: &mut Dice) -> Market {
+    let hours = used_hours(dice);
+    let most_blocks = if hours.len() > 6 { 6 } else { 10 };
+    let least_blocks = if dice.once_in(5) { 0 } else { 6 };
+    Market {
+        hours,
+        levels: price_levels(dice),
+        step_quantities: wide_step_quantities(dice),
+        block_quantities: wide_block_quantities(dice),
+        most_steps_an_hour: dice.between(1, 4),
+        block_count: dice.between(least_blocks, most_blocks) as usize,
+        blocks_of_a_portfolio: dice.pick(&[10, 10, 10, 6, 3]),
+        lively: !dice.once_in(3),
+    }
 }
 
 /// A book with a set of blocks and an hour to price under it. Sets beyond the
 /// blocks and hours beyond the day are among them.
 pub fn pricing_case(seed: u64) -> (Vec<u8>, u32, u32) {
+    pricing_case_of(1, seed)
+}
+
+/// The same with a book of an edition.
+pub fn pricing_case_of(edition: u32, seed: u64) -> (Vec<u8>, u32, u32) {
     let mut dice = Dice::new(seed ^ 0x7072_6963_6500_0000);
-    let orders = small_orders(&mut dice);
+    let orders = small_orders_of(edition, &mut dice);
     let blocks = orders.blocks.len();
     let book = placed(&orders, &mut dice);
     let known = (1u64 << blocks) as u32 - 1;
@@ -150,6 +252,31 @@ fn block_quantities(dice: &mut Dice) -> Vec<u32> {
     }
 }
 
+/// Quantities that blocks of 51 and more can be traded with.
+fn wide_step_quantities(dice: &mut Dice) -> Vec<u32> {
+    match dice.below(6) {
+        0 => vec![250, 500, 1_000],
+        1 => vec![50, 51, 100, 101],
+        2 => vec![51, 200, 249, 250, 251],
+        3 => vec![1, 99_999],
+        // Room for all blocks of a portfolio together.
+        4 => vec![2_000, 2_500],
+        _ => (0..5).map(|_| dice.between(1, 1_500)).collect(),
+    }
+}
+
+/// On both sides of edition 1's limit, and up to edition 2's.
+fn wide_block_quantities(dice: &mut Dice) -> Vec<u32> {
+    match dice.below(6) {
+        0 => vec![250],
+        1 => vec![50, 51, 249, 250],
+        2 => vec![51],
+        3 => vec![1, 100, 250],
+        4 => vec![25, 50],
+        _ => (0..5).map(|_| dice.between(1, 250)).collect(),
+    }
+}
+
 fn orders_of(market: &Market, dice: &mut Dice) -> Orders {
     let mut orders = Orders::new();
     let mut hours = market.hours.clone();
@@ -204,8 +331,7 @@ fn add_blocks(orders: &mut Orders, market: &Market, dice: &mut Dice) {
             hours: block_hours(market, dice),
             price: block_price(market, side, dice),
             quantity: dice.pick(&market.block_quantities),
-            // Five blocks at most to a portfolio.
-            portfolio: 3 + (position / 5) as u32 * dice.between(1, 50),
+            portfolio: 3 + (position / market.blocks_of_a_portfolio) as u32 * dice.between(1, 50),
         };
         // Now and then the same block twice, or its opposite.
         if let (Some(twin), true) = (twin, dice.once_in(4)) {

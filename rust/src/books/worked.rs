@@ -1,5 +1,5 @@
-//! The days of document 01 that are checked by hand. Numbers and portfolios
-//! follow decision 23: the base book's steps are 1 to 4, portfolio 1 buys,
+//! The days of document 01 that are checked by hand, and one of document 02. Numbers
+//! and portfolios follow decision 23: the base book's steps are 1 to 4, portfolio 1 buys,
 //! portfolio 2 sells, portfolio 3 owns the blocks.
 
 use super::builder::Orders;
@@ -95,6 +95,38 @@ pub fn thirty_two_blocks() -> Orders {
             (1, index) if index < 9 => orders.block(Sell, &peak, 4_500, 50, portfolio),
             _ => orders.block(Buy, &whole_day, 2_500, 50, portfolio),
         };
+    }
+    orders
+}
+
+/// The quantities and prices of the blocks of [`edition_2_day`], all sells.
+pub const EDITION_2_BLOCKS: [(u32, u32); 10] = [
+    (250, 2_900),
+    (200, 2_950),
+    (150, 2_800),
+    (100, 2_000),
+    (51, 2_900),
+    (250, 2_990),
+    (120, 2_900),
+    (60, 2_700),
+    (90, 2_500),
+    (75, 2_850),
+];
+
+/// A day of edition 2: ten blocks of one portfolio, of 51 to 250.
+///
+/// Hours 1 and 2 each buy 1346 at 5000 and sell 1346 at 3000, so their price is 4000
+/// with N = 0, 3000 with N from 1 to 1345 and 1500 with N = 1346. The ten blocks sell 1346
+/// together, and none of them is within its limit at 1500: one has to be left out, and
+/// the others are within theirs. A block adds (3000 - price) x quantity in both hours,
+/// which is least for block 6, one of the two largest: 5000.
+pub fn edition_2_day() -> Orders {
+    let mut orders = Orders::new().of_edition(2);
+    for hour in [1, 2] {
+        orders = orders.step(Buy, hour, 5_000, 1_346, 1).step(Sell, hour, 3_000, 1_346, 2);
+    }
+    for (quantity, price) in EDITION_2_BLOCKS {
+        orders = orders.block(Sell, &[1, 2], price, quantity, 3);
     }
     orders
 }

@@ -6,9 +6,26 @@ pub const HOURS: u32 = 24;
 const RECORD_LENGTH: usize = 16;
 const MOST_RECORDS: usize = 2_048;
 const MOST_BLOCKS: usize = 32;
-const MOST_BLOCKS_OF_A_PORTFOLIO: usize = 5;
 const KIND_STEP: u32 = 1;
 const KIND_BLOCK: u32 = 2;
+
+/// What an edition allows a portfolio's blocks.
+#[derive(Clone, Copy, Debug, PartialEq, Eq)]
+pub struct Limits {
+    /// The greatest quantity of a block, in tenths of a MW.
+    pub block_quantity: u32,
+    /// The most blocks of one portfolio, both sides together.
+    pub blocks_of_a_portfolio: usize,
+}
+
+/// The limits of an edition, where there is such an edition.
+pub fn limits(edition: u32) -> Option<Limits> {
+    match edition {
+        1 => Some(Limits { block_quantity: 50, blocks_of_a_portfolio: 5 }),
+        2 => Some(Limits { block_quantity: 250, blocks_of_a_portfolio: 10 }),
+        _ => None,
+    }
+}
 
 /// Buy or sell.
 #[derive(Clone, Copy, Debug, PartialEq, Eq)]
@@ -62,6 +79,8 @@ impl Block {
 /// An accepted book. Both lists are in chain order, so in rising order number.
 #[derive(Clone, Debug, PartialEq, Eq)]
 pub struct Book {
+    /// 1 or 2.
+    pub edition: u32,
     /// R, the head included.
     pub record_count: usize,
     pub steps: Vec<Step>,
@@ -81,14 +100,13 @@ pub fn read(book: &[u8]) -> Result<Book, u8> {
     if length_is_wrong(book) {
         return Err(1);
     }
-    if head_is_wrong(book) {
-        return Err(2);
-    }
+    // The edition is known before any block is looked at: 2 before 4 and 6.
+    let limits = limits_of_head(book).ok_or(2)?;
     // Both chains are walked before any other field is looked at: 3 before 4.
     let step_records = chain(book, number(book, 2, 2), KIND_STEP)?;
     let block_records = chain(book, number(book, 4, 2), KIND_BLOCK)?;
     let bad_step = step_records.iter().any(|&k| step_is_out_of_range(book, k));
-    let bad_block = block_records.iter().any(|&k| block_is_out_of_range(book, k));
+    let bad_block = block_records.iter().any(|&k| block_is_out_of_range(book, k, limits));
     if bad_step || bad_block {
         return Err(4);
     }
@@ -97,10 +115,11 @@ pub fn read(book: &[u8]) -> Result<Book, u8> {
         return Err(5);
     }
     let blocks: Vec<Block> = block_records.iter().map(|&k| block_at(book, k)).collect();
-    if too_many_blocks(&blocks) {
+    if too_many_blocks(&blocks, limits) {
         return Err(6);
     }
     Ok(Book {
+        edition: edition(book),
         record_count: record_count(book),
         steps: step_records.iter().map(|&k| step_at(book, k)).collect(),
         blocks,
@@ -133,11 +152,15 @@ fn length_is_wrong(book: &[u8]) -> bool {
     book.len() != RECORD_LENGTH * records || !(1..=MOST_RECORDS).contains(&records)
 }
 
-/// Refusal 2.
-fn head_is_wrong(book: &[u8]) -> bool {
+fn edition(book: &[u8]) -> u32 {
+    number(book, 7, 1)
+}
+
+/// The limits of the head's edition; nothing where the head is wrong, refusal 2.
+fn limits_of_head(book: &[u8]) -> Option<Limits> {
     let hours = number(book, 6, 1);
-    let edition = number(book, 7, 1);
-    hours != HOURS || edition != 1 || book[8..16].iter().any(|&byte| byte != 0)
+    let rest_is_zero = book[8..16].iter().all(|&byte| byte == 0);
+    limits(edition(book)).filter(|_| hours == HOURS && rest_is_zero)
 }
 
 /// The records of a chain in its order, or refusal 3.
@@ -177,7 +200,7 @@ fn step_is_out_of_range(book: &[u8], k: usize) -> bool {
 }
 
 /// Refusal 4 at a block.
-fn block_is_out_of_range(book: &[u8], k: usize) -> bool {
+fn block_is_out_of_range(book: &[u8], k: usize, limits: Limits) -> bool {
     let side = field(book, k, 1, 1);
     let zero = field(book, k, 6, 1);
     let portfolio = field(book, k, 7, 1);
@@ -189,13 +212,14 @@ fn block_is_out_of_range(book: &[u8], k: usize) -> bool {
         || !(1..=255).contains(&portfolio)
         || hours.count_ones() < 2
         || !(1..=300_000).contains(&price)
-        || !(1..=50).contains(&quantity)
+        || !(1..=limits.block_quantity).contains(&quantity)
 }
 
-/// Refusal 6. Both sides of a portfolio count together.
-fn too_many_blocks(blocks: &[Block]) -> bool {
+/// Refusal 6: 32 blocks at most in every edition, and of one portfolio those of the
+/// edition. Both sides of a portfolio count together.
+fn too_many_blocks(blocks: &[Block], limits: Limits) -> bool {
     let count_of = |portfolio| blocks.iter().filter(|block| block.portfolio == portfolio).count();
-    let crowded = (1..=255).any(|portfolio| count_of(portfolio) > MOST_BLOCKS_OF_A_PORTFOLIO);
+    let crowded = (1..=255).any(|portfolio| count_of(portfolio) > limits.blocks_of_a_portfolio);
     blocks.len() > MOST_BLOCKS || crowded
 }
 

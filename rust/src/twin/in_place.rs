@@ -25,26 +25,41 @@ use orders::Orders;
 /// A list with a value for each of the 24 hours.
 type ByHour<T> = [T; 24];
 
+/// The last place of an hour with 32 blocks of 50, and with 32 of 250.
+const SMALL: usize = 1_600;
+const WIDE: usize = 8_000;
+
 /// All that a clearing needs besides book and result, to be used again.
 #[derive(Default)]
 pub struct Workspace {
     orders: Orders,
-    hours: Hours,
+    small: Hours<{ SMALL + 2 }>,
+    wide: Hours<{ WIDE + 2 }>,
 }
 
 /// Clears a book: 0 when the outcome is written to the result, else the refusal.
 pub fn clear(book: &[u8], result: &mut [u8], space: &mut Workspace) -> u32 {
-    let Workspace { orders, hours } = space;
+    let Workspace { orders, small, wide } = space;
     if let Err(refusal) = orders.read(book) {
         return refusal;
     }
     if result.len() != 196 + 4 * orders.record_count {
         return 7;
     }
+    // Rows close to each other are read faster, so that wide ones are kept for the days
+    // that need them.
+    if orders.fit(SMALL as u32) {
+        clear_in(orders, small, result);
+    } else {
+        clear_in(orders, wide, result);
+    }
+    0
+}
+
+fn clear_in<const ROOM: usize>(orders: &Orders, hours: &mut Hours<ROOM>, result: &mut [u8]) {
     hours.fill_prices(orders);
     let root = root::prices(orders, hours);
     hours.fill_gaps(&root);
     let best = search::find(orders, hours, &root);
     publish::publish(orders, hours, &best, result);
-    0
 }

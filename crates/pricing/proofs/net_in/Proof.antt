@@ -5,6 +5,7 @@ use mathlib.Core.Path.{_≡_, sym, _∙_}
 use lib.ListN.{length}
 use lib.Seq.{length-take-le}
 use Rattle.pricing.proofs.CallLaws.{trades-fit, net-is}
+use Rattle.pricing.specs.Curves.{mostTraded}
 use borrow.Author.Needs.{needs}
 use Rattle.pricing.proofs.net_in.Statement.{statement}
 use Rattle.pricing.proofs.net_in.Tie as tie
@@ -63,7 +64,7 @@ trades-of-requires c κs =
     let quantities = length-take-le (f .blocks-of .result .count) (f .blocks-of .result .quantities) (omega (arith, size-quantities f, few)) in
     (record { asManyPrices = sides ∙ sym hours; asManyQuantities = sides ∙ sym quantities; notTooMany = omega (arith, sides, few) }, pre .1, pre .2)
 
-fit : (t : Traded) → (t .trades-of .result .sales ≤ 1600) × (t .trades-of .result .buys ≤ 1600)
+fit : (t : Traded) → (t .trades-of .result .sales ≤ mostTraded) × (t .trades-of .result .buys ≤ mostTraded)
 fit t =
     let f = t .before .before .before .before .before .before .before in
     trades-fit _ (f .before .before .pre .0) _ _ _ _ _ _ (f .blocks-of .ensures) (size-records f) (size-sides f) (size-hours f) (size-prices f) (size-quantities f) _ _ _ _

@@ -41,7 +41,8 @@ loop-holds : tie.Need-loop-holds Inv-loop μ-loop
 loop-holds c =
     let a = c .before in
     let root = a .prices-at .ensures .small in
-    (omega arith, omega arith, root, root, a .before .before .before .pre .0 .2)
+    let p = a .before .before .before .pre .0 in
+    (omega arith, omega arith, root, root, λ i. omega (arith, p .0 .1, p .2 i))
 
 moved-on-requires : tie.Need-moved-on-requires Inv-loop μ-loop
 moved-on-requires c κs =

@@ -1,12 +1,13 @@
 -- `setup::prepare` meets its contract: the tables and columns filled one after the other are those of the day. Assumes nothing.
-use Prim.Native.Nat.{ℕ}
+use Prim.Native.Nat.{ℕ, _≤_, _<_}
 use mathlib.Core.List.{List}
-use mathlib.Core.Path.{_≡_, _∙_}
-use lib.ListN.{length}
-use Rattle.places.specs.Layout.{tableSize}
+use mathlib.Core.Path.{_≡_, sym, _∙_}
+use lib.ListN.{length, getD}
+use Rattle.places.specs.Layout.{hourPlaces}
 use Rattle.rules.specs.Orders.{maxPrice}
-use Rattle.places.specs.Hours.{Small}
-use Rattle.setup.proofs.SetupLaws.{set-up, ready}
+use Rattle.places.specs.Hours.{Small, rowWidth}
+use Rattle.setup.specs.Setup.{RowsFit}
+use Rattle.setup.proofs.SetupLaws.{rows-fit, off-fits, set-up, ready}
 use Rattle.setup.proofs.SetupTwinLaws.{completed, blocks-sized, rows-empty, twins-empty}
 use Rattle.setup.proofs.SetupBlockLaws.{bought-within}
 use borrow.Author.Needs.{needs}
@@ -23,11 +24,22 @@ begun f = f .before .before .before .before .before .before .before .before .bef
 abbrev unitPricesOf : tie.After-fill-tables → List ℕ
 unitPricesOf f = f .fill-tables .last .1 .1 .1 .1 .1 .1 .0
 
-prices-size : (f : tie.After-fill-tables) → length (unitPricesOf f) ≡ tableSize
-prices-size f = f .fill-tables .kept .1 .1 .1 .1 .1 .1 .0 ∙ begun f .pre .1 .1 .0
+prices-size : (f : tie.After-fill-tables) → length (unitPricesOf f) ≡ length (begun f .args .unit-prices .now)
+prices-size f = f .fill-tables .kept .1 .1 .1 .1 .1 .1 .0
 
 prices-fit : (f : tie.After-fill-tables) → Small maxPrice (unitPricesOf f)
 prices-fit f = f .fill-tables .ensures .1
+
+-- the places that the blocks reach have room in the rows
+fits : (m : tie.After-traded-by-hour2) → RowsFit (rowWidth (opened (m .before) .args .unit-prices .now)) (m .traded-by-hour2 .result)
+fits m = rows-fit _ _ _ _ _ _ (m .traded-by-hour2 .ensures) (opened (m .before) .pre .1 .1 .1)
+
+within : (m : tie.After-traded-by-hour2) → (h : ℕ) → h < hourPlaces →
+    getD (m .before .traded-by-hour .result) h 0 ≤ getD (m .traded-by-hour2 .result) h 0
+within m = bought-within _ _ _ _ _ _ (m .before .traded-by-hour .ensures) (m .traded-by-hour2 .ensures)
+
+off-size : (o : tie.After-traded-by-hour) → length (o .traded-by-hour .result) ≡ hourPlaces
+off-size o = search needs
 
 traded-by-hour-requires : tie.Need-traded-by-hour-requires
 traded-by-hour-requires c κs = search needs
@@ -36,7 +48,12 @@ traded-by-hour-requires-2 : tie.Need-traded-by-hour-requires-2
 traded-by-hour-requires-2 c κs = search needs
 
 fill-tables-requires : tie.Need-fill-tables-requires
-fill-tables-requires c κs = search needs
+fill-tables-requires c κs =
+    let most = c .before in
+    let off = most .before in
+    let s = opened off in
+    let t = s .pre .1 .1 .0 in
+    ((s .pre .0, off .traded-by-hour .ensures .small, most .traded-by-hour2 .ensures .small), (t .0, fits most, t .2))
 
 root-prices-requires : tie.Need-root-prices-requires
 root-prices-requires c κs =
@@ -44,18 +61,21 @@ root-prices-requires c κs =
     let after-traded-by-hour = f .before .before .before in
     let start = begun f in
     let held = start .pre .1 .0 in
-    ((prices-size f, prices-fit f, after-traded-by-hour .traded-by-hour .ensures .small), (held .few, held .pricesFit, held .quantitiesFit))
+    let m = f .before .before in
+    let rows = rw (← (prices-size f)) at (start .pre .1 .1 .0 .0) in
+    let fit = rw (← (prices-size f)) at (fits m) in
+    let off = off-fits (unitPricesOf f) (after-traded-by-hour .traded-by-hour .result) (m .traded-by-hour2 .result) (off-size after-traded-by-hour) (within m) fit in
+    ((rows, prices-fit f, off), (held .few, held .pricesFit, held .quantitiesFit))
 
 fill-ranges-requires : tie.Need-fill-ranges-requires
 fill-ranges-requires c κs =
     let f = c .before .before .before .before .before .before in
-    let after-traded-by-hour2 = f .before .before in
-    let after-traded-by-hour = after-traded-by-hour2 .before in
+    let m = f .before .before in
     let s = begun f in
-    let bought = after-traded-by-hour .traded-by-hour .ensures in
-    let traded = after-traded-by-hour2 .traded-by-hour2 .ensures in (
-      (s .pre .0, traded .small, c .before .before .root-prices .ensures, s .pre .1 .1 .1),
-      (bought-within _ _ _ _ _ _ bought traded, (prices-size f, f .fill-tables .ensures .0)),
+    let t = s .pre .1 .1 .0 in
+    let same = sym (t .1) in (
+      (s .pre .0, m .traded-by-hour2 .ensures .small, c .before .before .root-prices .ensures, rw same at (t .0), rw same at (fits m)),
+      (within m, (prices-size f ∙ same, rw same at (f .fill-tables .ensures .0))),
     )
 
 block-columns-requires : tie.Need-block-columns-requires
@@ -109,13 +129,14 @@ returns c =
     let few = s .pre .1 .0 .few in
     let sized = blocks-sized _ _ _ _ _ few wide rows twins in
     let all = completed _ _ _ _ _ few wide rows twins _ _ _ _ _ (after-block-columns .block-columns .ensures .1) in
-    let gapSize = g .fill-ranges .kept .1 .1 .1 .1 .1 .1 .1 .1 .0 ∙ s .pre .1 .1 .1 in
+    let gapSize = g .fill-ranges .kept .1 .1 .1 .1 .1 .1 .1 .1 .0 ∙ s .pre .1 .1 .0 .1 ∙ sym (prices-size f) in
     let t = g .fill-ranges .ensures .0 in
+    let same = s .pre .1 .1 .0 .1 ∙ sym (prices-size f) in
     rw (j .joined .ensures .0, j .joined .ensures .1, j .joined .ensures .2) (
-      set-up _ (prices-size f) gapSize (t .0) (t .1) (t .3) (prices-fit f) sized few,
+      set-up _ (rw (← (prices-size f)) at (s .pre .1 .1 .0 .0)) gapSize (t .0) (t .1) (rw same at (t .3)) (prices-fit f) sized few,
       ready _ _ _ _ _ _ _ _ _ _ (after-traded-by-hour .traded-by-hour .result) (after-traded-by-hour2 .traded-by-hour2 .result)
-          (after-root-prices .root-prices .result) (unitPricesOf f) _ _ _ _ _ (prices-size f) (after-traded-by-hour .traded-by-hour .ensures)
-          (after-traded-by-hour2 .traded-by-hour2 .ensures) (f .fill-tables .ensures .0) (g .fill-ranges .ensures .1) all,
+          (after-root-prices .root-prices .result) (unitPricesOf f) _ _ _ _ _ gapSize (rw (← (prices-size f)) at (fits after-traded-by-hour2)) (after-traded-by-hour .traded-by-hour .ensures)
+          (after-traded-by-hour2 .traded-by-hour2 .ensures) (rw (← (prices-size f)) at (f .fill-tables .ensures .0)) (rw same at (g .fill-ranges .ensures .1)) all,
     )
 
 pub prepare-spec : {M : Type 1} → statement M

@@ -1,9 +1,11 @@
 // Written by `twin_source` from crates/setup/src/lib.rt.
 // The setup of the search: from a book's decoded columns to the tables of the hours and the columns of the blocks. Assumes nothing.
 use crate::twin::by_value::setup::blocks::block_columns;
+use crate::twin::by_value::setup::blocks::largest;
 use crate::twin::by_value::setup::blocks::traded_by_hour;
 use crate::twin::by_value::setup::blocks::widened;
 use crate::twin::by_value::setup::blocks::with_rows;
+use crate::twin::by_value::setup::rows::LAST_AND_ABOVE;
 use crate::twin::by_value::setup::rows::fill_ranges;
 use crate::twin::by_value::setup::rows::fill_tables;
 use crate::twin::by_value::setup::rows::joined;
@@ -23,6 +25,16 @@ pub mod twins; // the blocks that are taken in turn
 pub struct Prepared {
     pub hours: [u32; HOUR_LIST],
     pub columns: [u32; BLOCK_LIST],
+}
+
+// The places that a row needs: up to the last that the blocks reach in any hour, and the one above it.
+pub fn row_needed(blocks: Blocks) -> usize
+{
+    let sides = blocks.sides;
+    let hours = blocks.hours;
+    let quantities = blocks.quantities;
+    let most = traded_by_hour(blocks.count, sides, hours, quantities, true);
+    (largest(most) as usize) + LAST_AND_ABOVE
 }
 
 // All that the search is given, from the columns of a book's steps and blocks; unit_prices and gap are its two tables, a row of places for each hour.

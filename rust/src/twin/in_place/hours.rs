@@ -4,13 +4,16 @@
 use super::orders::{Orders, Step};
 use super::ByHour;
 
-/// Places of an hour: 1,600 at most, and the one after each.
-const PLACES: usize = 1602;
+/// A row for each hour, with room for its places from 0 on and the one after the last.
+type Table<const ROOM: usize> = Box<ByHour<[u32; ROOM]>>;
 
-/// A row for each hour.
-type Table = Box<ByHour<[u32; PLACES]>>;
+/// A table of zeros, made where it stays: it is too large to pass over a small stack.
+fn empty_table<const ROOM: usize>() -> Table<ROOM> {
+    let rows = vec![[0; ROOM]; 24].into_boxed_slice();
+    rows.try_into().expect("24 rows")
+}
 
-pub struct Hours {
+pub struct Hours<const ROOM: usize> {
     /// What the buy blocks buy together.
     pub off: ByHour<u16>,
     /// What all blocks trade together: the last place that can be reached.
@@ -21,33 +24,32 @@ pub struct Hours {
     /// The place without a gap.
     pub turn: ByHour<u16>,
     /// The unit price before each place.
-    unit: Table,
+    unit: Table<ROOM>,
     /// The price at each place.
-    price: Table,
+    price: Table<ROOM>,
     /// The gap at each place.
-    gap: Table,
+    gap: Table<ROOM>,
     /// The steps of an hour, sorted.
     sorted: Vec<(u32, u32)>,
 }
 
-impl Default for Hours {
-    fn default() -> Hours {
-        let table = || Box::new([[0; PLACES]; 24]);
+impl<const ROOM: usize> Default for Hours<ROOM> {
+    fn default() -> Self {
         Hours {
             off: [0; 24],
             most: [0; 24],
             first: [0; 24],
             last: [0; 24],
             turn: [0; 24],
-            unit: table(),
-            price: table(),
-            gap: table(),
+            unit: empty_table(),
+            price: empty_table(),
+            gap: empty_table(),
             sorted: Vec::new(),
         }
     }
 }
 
-impl Hours {
+impl<const ROOM: usize> Hours<ROOM> {
     /// The price of an hour at a place.
     pub fn price(&self, h: usize, place: u16) -> u32 {
         self.price[h][usize::from(place)]

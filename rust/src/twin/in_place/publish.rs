@@ -5,7 +5,12 @@ use super::orders::{Block, Orders, Step};
 use super::search::Best;
 
 /// Writes the result, whose size is right.
-pub fn publish(orders: &Orders, hours: &Hours, best: &Best, result: &mut [u8]) {
+pub fn publish<const ROOM: usize>(
+    orders: &Orders,
+    hours: &Hours<ROOM>,
+    best: &Best,
+    result: &mut [u8],
+) {
     let mut welfare = 0i64;
     for h in 0..24 {
         let steps = &orders.steps[orders.ends[h]..orders.ends[h + 1]];

@@ -19,13 +19,13 @@ pub fn masked_sum(prices: &ByHour<u32>, mask: &ByHour<u32>) -> u32 {
 }
 
 /// The price of each hour at its place.
-pub fn prices_at(hours: &Hours, places: &ByHour<u16>) -> ByHour<u32> {
+pub fn prices_at<const ROOM: usize>(hours: &Hours<ROOM>, places: &ByHour<u16>) -> ByHour<u32> {
     std::array::from_fn(|h| hours.price(h, places[h]))
 }
 
 /// The prices that the search goes by: of the empty set's own and those after some moves
 /// the first at which it loses least.
-pub fn prices(orders: &Orders, hours: &Hours) -> ByHour<u32> {
+pub fn prices<const ROOM: usize>(orders: &Orders, hours: &Hours<ROOM>) -> ByHour<u32> {
     let masks: Vec<ByHour<u32>> = orders.blocks.iter().map(|b| mask_of(b.hours)).collect();
     let mut trail = Trail::new(orders, hours, &masks);
     let mut best = trail.root;
@@ -42,9 +42,9 @@ pub fn prices(orders: &Orders, hours: &Hours) -> ByHour<u32> {
 
 /// Prices on their way from the empty set's own towards those at the average of the places
 /// so far at which the blocks that gain are taken.
-struct Trail<'a> {
+struct Trail<'a, const ROOM: usize> {
     orders: &'a Orders,
-    hours: &'a Hours,
+    hours: &'a Hours<ROOM>,
     masks: &'a [ByHour<u32>],
     root: ByHour<u32>,
     /// The sum of `count` places.
@@ -55,8 +55,8 @@ struct Trail<'a> {
     moving: Vec<bool>,
 }
 
-impl<'a> Trail<'a> {
-    fn new(orders: &'a Orders, hours: &'a Hours, masks: &'a [ByHour<u32>]) -> Trail<'a> {
+impl<'a, const ROOM: usize> Trail<'a, ROOM> {
+    fn new(orders: &'a Orders, hours: &'a Hours<ROOM>, masks: &'a [ByHour<u32>]) -> Self {
         Trail {
             orders,
             hours,

@@ -51,8 +51,8 @@ struct State {
     gaps: u64,
 }
 
-struct Search<'a> {
-    hours: &'a Hours,
+struct Search<'a, const ROOM: usize> {
+    hours: &'a Hours<ROOM>,
     choices: Vec<Choice>,
     /// The blocks in falling order of loss.
     order: Vec<usize>,
@@ -65,7 +65,7 @@ struct Search<'a> {
 }
 
 /// Passes with a doubled limit until one finds a set.
-pub fn find(orders: &Orders, hours: &Hours, root: &ByHour<u32>) -> Best {
+pub fn find<const ROOM: usize>(orders: &Orders, hours: &Hours<ROOM>, root: &ByHour<u32>) -> Best {
     let mut search = Search::new(orders, hours, root);
     let start = search.state;
     let mut limit = 1024;
@@ -80,8 +80,8 @@ pub fn find(orders: &Orders, hours: &Hours, root: &ByHour<u32>) -> Best {
     }
 }
 
-impl<'a> Search<'a> {
-    fn new(orders: &Orders, hours: &'a Hours, root: &ByHour<u32>) -> Search<'a> {
+impl<'a, const ROOM: usize> Search<'a, ROOM> {
+    fn new(orders: &Orders, hours: &'a Hours<ROOM>, root: &ByHour<u32>) -> Self {
         let mut choices = choices(orders, root);
         let mut order: Vec<usize> = (0..choices.len()).collect();
         order.sort_by_key(|&i| std::cmp::Reverse(choices[i].taken + choices[i].left));
@@ -319,7 +319,7 @@ impl State {
     }
 
     /// The sum of the least gaps over the places in reach, if each hour has one.
-    fn least_gaps(&self, hours: &Hours) -> Option<u64> {
+    fn least_gaps<const ROOM: usize>(&self, hours: &Hours<ROOM>) -> Option<u64> {
         let mut balances = true;
         let places: ByHour<u16> = std::array::from_fn(|h| {
             let from = self.least[h].max(hours.first[h]);

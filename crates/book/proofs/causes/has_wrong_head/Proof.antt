@@ -7,16 +7,40 @@ use Rattle.book.proofs.causes.has_wrong_head.Tie as tie
 day-hours-requires : tie.Need-day-hours-requires
 day-hours-requires c κs = search needs
 
+cast-is-within : tie.Need-cast-is-within
+cast-is-within c = search needs
+
 edition-of-requires : tie.Need-edition-of-requires
 edition-of-requires c κs = search needs
+
+cast-is-within-2 : tie.Need-cast-is-within-2
+cast-is-within-2 c = search needs
+
+cast-is-within-3 : tie.Need-cast-is-within-3
+cast-is-within-3 c = search needs
+
+is-within-requires : tie.Need-is-within-requires
+is-within-requires c κs = search needs
 
 is-nonzero-requires : tie.Need-is-nonzero-requires
 is-nonzero-requires c κs = search needs
 
 returns : tie.Need-returns
 unfolding wrongHead
-returns c = rw (c .is-nonzero .ensures, c .before .edition-of .ensures, c .before .before .day-hours .ensures)
+returns c =
+    let within = c .before in
+    let edition = within .before in
+    rw (c .is-nonzero .ensures, within .is-within .ensures, edition .edition-of .ensures, edition .before .day-hours .ensures)
 
 pub has-wrong-head-spec : {M : Type 1} → statement M
 has-wrong-head-spec =
-    tie.close (tie.spec day-hours-requires edition-of-requires is-nonzero-requires returns)
+    tie.close
+    (tie.spec
+    day-hours-requires
+    cast-is-within
+    edition-of-requires
+    cast-is-within-2
+    cast-is-within-3
+    is-within-requires
+    is-nonzero-requires
+    returns)

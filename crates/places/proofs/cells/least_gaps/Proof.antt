@@ -1,26 +1,38 @@
 -- `places::cells::least_gaps` meets its contract: the least gaps of the hours before this one. Assumes nothing.
 use Prim.Native.Nat.{_+_, _-_, _*_, _^_, _<_}
-use lib.ListN.{getD}
+use lib.ListN.{length, getD}
 use native.Mathlib.Omega.{arith}
-use Rattle.places.specs.Layout.{hourPlaces, rowSize}
-use Rattle.places.specs.Hours.{larger}
-use Rattle.places.proofs.CellLaws.{LeastTo, least-start, least-next, least-all}
+use Rattle.places.specs.Layout.{hourPlaces, lastPlace}
+use Rattle.places.specs.Hours.{rowWidth, larger}
+use Rattle.places.proofs.CellLaws.{place-inside, LeastTo, least-start, least-next, least-all}
 use Rattle.places.proofs.NumberLaws.{smaller-below}
 use borrow.Author.Needs.{needs}
 use Rattle.places.proofs.cells.least_gaps.Statement.{statement}
 use Rattle.places.proofs.cells.least_gaps.Tie as tie
 
 abbrev Inv-loop : tie.InvT-loop
-Inv-loop gap turn from to sum₀ h₀ sum h = LeastTo gap turn from to h sum
+Inv-loop gap turn from to width sum₀ h₀ sum h = LeastTo gap turn from to h sum
 
 abbrev μ-loop : tie.MeasureT-loop
-μ-loop gap turn from to sum₀ h₀ sum h = hourPlaces - h
+μ-loop gap turn from to width sum₀ h₀ sum h = hourPlaces - h
 
 -- a number of the gap table
 gap-small : (c : tie.After-shared-slice-known4 Inv-loop μ-loop) →
     getD (c .before .before .before .before .before .before .before .before .args .gap .now)
-    (c .before .before .before .before .before .loop .h * rowSize + c .before .smaller .result) 0 < 2 ^ 32
-gap-small c = omega (arith, c .shared-slice-known4 .given (c .before .before .before .before .before .loop .h * rowSize + c .before .smaller .result))
+    (c .before .before .before .before .before .loop .h * rowWidth (c .before .before .before .before .before .before .before .before .args .gap .now) + c .before .smaller .result) 0 < 2 ^ 32
+gap-small c = omega (arith, c .shared-slice-known4 .given (c .before .before .before .before .before .loop .h * rowWidth (c .before .before .before .before .before .before .before .before .args .gap .now) + c .before .smaller .result))
+
+-- the cell of an hour within reach is within the table
+cell-inside : (c : tie.After-smaller Inv-loop μ-loop) → let a = c .before .before .before .before in let s = a .before .before .before in
+    (a .loop .h * rowWidth (s .args .gap .now) + c .smaller .result + 1 < length (s .args .gap .now)) × (length (s .args .gap .now) < hourPlaces * (lastPlace + 3))
+cell-inside c =
+    let a = c .before .before .before .before in
+    let s = a .before .before .before in
+    let v = a .loop in
+    let k = c .before .before .before .loop-test .taken in
+    let near = rw (c .before .larger .ensures) at (c .smaller .ensures) in
+    let below = smaller-below (larger (getD (s .args .turn .now) (v .h) 0) (getD (s .args .t3) (v .h) 0)) (getD (s .args .t4) (v .h) 0) .1 in
+    place-inside (s .args .gap .now) (v .h) (c .smaller .result) (s .pre .0) k (omega (arith, s .pre .2 (v .h) k))
 
 loop-holds : tie.Need-loop-holds Inv-loop μ-loop
 loop-holds c = least-start _ _ _ _
@@ -50,25 +62,19 @@ smaller-requires : tie.Need-smaller-requires Inv-loop μ-loop
 smaller-requires c κs = search needs
 
 mul-sum : tie.Need-mul-sum Inv-loop μ-loop
-mul-sum c = search needs
+mul-sum c = omega (arith, cell-inside c)
 
 cast-sum : tie.Need-cast-sum Inv-loop μ-loop
 cast-sum c = search needs
 
 add-sum : tie.Need-add-sum Inv-loop μ-loop
-add-sum c = search needs
+add-sum c = omega (arith, cell-inside c)
 
 mul-sum-2 : tie.Need-mul-sum-2 Inv-loop μ-loop
-mul-sum-2 c = search needs
+mul-sum-2 c = omega (arith, cell-inside c)
 
 shared-slice-read-sum : tie.Need-shared-slice-read-sum Inv-loop μ-loop
-shared-slice-read-sum c =
-    let s = c .before .before .before .before .before .before .before .before in
-    let v = c .before .before .before .before .before .loop in
-    let near = rw (c .before .before .larger .ensures) at (c .before .smaller .ensures) in
-    let k = c .before .before .before .before .loop-test .taken in
-    let below = smaller-below (larger (getD (s .args .turn .now) (v .h) 0) (getD (s .args .t3) (v .h) 0)) (getD (s .args .t4) (v .h) 0) .1 in
-    omega (arith, s .pre .0, s .pre .2 (v .h) k)
+shared-slice-read-sum c = omega (arith, cell-inside (c .before))
 
 cast-sum-2 : tie.Need-cast-sum-2 Inv-loop μ-loop
 cast-sum-2 c = omega (arith, gap-small c)

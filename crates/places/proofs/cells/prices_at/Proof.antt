@@ -1,24 +1,33 @@
 -- `places::cells::prices_at` meets its contract: the prices of the first h hours. Assumes nothing.
-use Prim.Native.Nat.{_+_, _-_, _*_}
-use lib.ListN.{getD}
+use Prim.Native.Nat.{_+_, _-_, _*_, _<_}
+use lib.ListN.{length, getD}
 use native.Mathlib.Omega.{arith}
-use Rattle.places.specs.Layout.{hourPlaces, rowSize}
-use Rattle.places.proofs.CellLaws.{PricesTo, prices-start, prices-next, prices-all}
+use Rattle.places.specs.Layout.{hourPlaces, lastPlace}
+use Rattle.places.specs.Hours.{rowWidth}
+use Rattle.places.proofs.CellLaws.{place-inside, PricesTo, prices-start, prices-next, prices-all}
 use borrow.Author.Needs.{needs}
 use Rattle.places.proofs.cells.prices_at.Statement.{statement}
 use Rattle.places.proofs.cells.prices_at.Tie as tie
 
 abbrev Inv-loop : tie.InvT-loop
-Inv-loop low places prices₀ h₀ prices h = PricesTo low places h prices
+Inv-loop unit-prices places width prices₀ h₀ prices h = PricesTo unit-prices places h prices
 
 abbrev μ-loop : tie.MeasureT-loop
-μ-loop low places prices₀ h₀ prices h = hourPlaces - h
+μ-loop unit-prices places width prices₀ h₀ prices h = hourPlaces - h
+
+-- the two cells of an hour are within the table
+cells-inside : (a : tie.At-loop Inv-loop μ-loop) → a .loop .h < hourPlaces → let g = a .before .args in
+    (a .loop .h * rowWidth (g .unit-prices .now) + getD (g .t2) (a .loop .h) 0 + 1 < length (g .unit-prices .now))
+    × (length (g .unit-prices .now) < hourPlaces * (lastPlace + 3))
+cells-inside a k =
+    let s = a .before in
+    place-inside (s .args .unit-prices .now) (a .loop .h) (getD (s .args .t2) (a .loop .h) 0) (s .pre .0) k (s .pre .2 (a .loop .h))
 
 loop-holds : tie.Need-loop-holds Inv-loop μ-loop
 loop-holds c = prices-start _ _
 
 mul-at : tie.Need-mul-at Inv-loop μ-loop
-mul-at c = search needs
+mul-at c = omega (arith, cells-inside (c .before) (c .loop-test .taken))
 
 mul-at-2 : tie.Need-mul-at-2 Inv-loop μ-loop
 mul-at-2 c = search needs
@@ -30,39 +39,27 @@ cast-at : tie.Need-cast-at Inv-loop μ-loop
 cast-at c = search needs
 
 add-at : tie.Need-add-at Inv-loop μ-loop
-add-at c =
-    let a = c .before in
-    omega (arith, a .before .pre .2 (a .loop .h))
+add-at c = omega (arith, cells-inside (c .before) (c .loop-test .taken))
 
 mul-prices : tie.Need-mul-prices Inv-loop μ-loop
-mul-prices c =
-    let a = c .before in
-    omega (arith, a .before .pre .2 (a .loop .h))
+mul-prices c = omega (arith, cells-inside (c .before) (c .loop-test .taken))
 
 shared-slice-read-prices : tie.Need-shared-slice-read-prices Inv-loop μ-loop
-shared-slice-read-prices c =
-    let a = c .before .before in
-    omega (arith, a .before .pre .0, a .before .pre .2 (a .loop .h))
+shared-slice-read-prices c = omega (arith, cells-inside (c .before .before) (c .before .loop-test .taken))
 
 add-prices : tie.Need-add-prices Inv-loop μ-loop
-add-prices c =
-    let a = c .before .before in
-    omega (arith, a .before .pre .2 (a .loop .h))
+add-prices c = omega (arith, cells-inside (c .before .before) (c .before .loop-test .taken))
 
 mul-prices-2 : tie.Need-mul-prices-2 Inv-loop μ-loop
-mul-prices-2 c =
-    let a = c .before .before in
-    omega (arith, a .before .pre .2 (a .loop .h))
+mul-prices-2 c = omega (arith, cells-inside (c .before .before) (c .before .loop-test .taken))
 
 shared-slice-read-prices-2 : tie.Need-shared-slice-read-prices-2 Inv-loop μ-loop
-shared-slice-read-prices-2 c =
-    let a = c .before .before .before in
-    omega (arith, a .before .pre .0, a .before .pre .2 (a .loop .h))
+shared-slice-read-prices-2 c = omega (arith, cells-inside (c .before .before .before) (c .before .before .loop-test .taken))
 
 add-prices-2 : tie.Need-add-prices-2 Inv-loop μ-loop
 add-prices-2 c =
     let a = c .before .before .before in
-    let at = a .loop .h * rowSize + getD (a .before .args .t2) (a .loop .h) 0 in
+    let at = a .loop .h * rowWidth (a .before .args .unit-prices .now) + getD (a .before .args .t2) (a .loop .h) 0 in
     omega (arith, a .before .pre .1 at, a .before .pre .1 (at + 1))
 
 mul-prices-3 : tie.Need-mul-prices-3 Inv-loop μ-loop

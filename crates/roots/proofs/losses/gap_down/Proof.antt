@@ -2,32 +2,34 @@
 use Prim.Native.Nat.{_+_, _*_, _≤_}
 use native.Mathlib.Omega.{arith}
 use borrow.Author.Needs.{needs}
-use Rattle.places.specs.Layout.{lastPlace, rowSize}
+use Rattle.places.specs.Layout.{lastPlace}
 use Rattle.rules.specs.Orders.{maxPrice}
 use Rattle.roots.proofs.losses.gap_down.Statement.{statement}
 use Rattle.roots.proofs.losses.gap_down.Tie as tie
-use Rattle.roots.proofs.losses.gap_down.Reads as reads
-use Rattle.roots.proofs.losses.gap_down.Lts as lts
 
 abbrev Inv-loop : tie.InvT-loop
-Inv-loop unitPrices row from price sum₀ i₀ sum i = (i ≤ lastPlace) × (sum + i * maxPrice ≤ rowSize * maxPrice)
+Inv-loop unitPrices row from price sum₀ i₀ sum i = (i ≤ from) × (sum + i * maxPrice ≤ (lastPlace + 2) * maxPrice)
 
 abbrev μ-loop : tie.MeasureT-loop
 μ-loop unitPrices row from price sum₀ i₀ sum i = i
 
 loop-holds : tie.Need-loop-holds Inv-loop μ-loop
-loop-holds c = (c .pre .2, omega (arith, c .pre .2))
+loop-holds c = (omega arith, omega (arith, c .pre .2))
 
 add-cell : tie.Need-add-cell Inv-loop μ-loop
 add-cell c =
     let s = c .before .before in
-    omega (arith, s .pre .1, c .before .loop .inv .0)
+    omega (arith, s .pre .0, s .pre .1, c .before .loop .inv .0)
 
 mul-cell : tie.Need-mul-cell Inv-loop μ-loop
-mul-cell c = search needs
+mul-cell c =
+    let s = c .before .before in
+    omega (arith, s .pre .0, s .pre .1, c .before .loop .inv .0)
 
 shared-slice-read-cell : tie.Need-shared-slice-read-cell Inv-loop μ-loop
-shared-slice-read-cell c = search needs
+shared-slice-read-cell c =
+    let s = c .before .before .before in
+    omega (arith, s .pre .0, c .before .before .loop .inv .0)
 
 returns : tie.Need-returns Inv-loop μ-loop
 returns c =

@@ -2,40 +2,42 @@
 use Prim.Native.Nat.{_+_, _-_, _*_, _≤_}
 use native.Mathlib.Omega.{arith}
 use borrow.Author.Needs.{needs}
-use Rattle.places.specs.Layout.{rowSize}
 use Rattle.rules.specs.Orders.{maxPrice}
 use Rattle.roots.proofs.losses.gap_up.Statement.{statement}
 use Rattle.roots.proofs.losses.gap_up.Tie as tie
-use Rattle.roots.proofs.losses.gap_up.Reads as reads
-use Rattle.roots.proofs.losses.gap_up.Lts as lts
 
 abbrev Inv-loop : tie.InvT-loop
-Inv-loop unitPrices row from price sum₀ i₀ sum i = (i ≤ rowSize) × (sum ≤ i * maxPrice)
+Inv-loop unitPrices row width from price sum₀ i₀ sum i = (i ≤ width) × (sum ≤ i * maxPrice)
 
 abbrev μ-loop : tie.MeasureT-loop
-μ-loop unitPrices row from price sum₀ i₀ sum i = rowSize - i
+μ-loop unitPrices row width from price sum₀ i₀ sum i = width - i
 
 add-i : tie.Need-add-i Inv-loop μ-loop
-add-i c = search needs
+add-i c = omega (arith, c .pre .0 .narrow, c .pre .2)
 
 loop-holds : tie.Need-loop-holds Inv-loop μ-loop
-loop-holds c = (omega (arith, c .pre .3), omega arith)
+loop-holds c = (omega (arith, c .pre .2), omega arith)
 
 add-cell : tie.Need-add-cell Inv-loop μ-loop
 add-cell c =
     let s = c .before .before in
-    omega (arith, s .pre .2, c .loop-test .taken)
+    omega (arith, s .pre .0 .inside, s .pre .0 .tableFits, c .loop-test .taken)
 
 mul-cell : tie.Need-mul-cell Inv-loop μ-loop
-mul-cell c = search needs
+mul-cell c =
+    let s = c .before .before in
+    omega (arith, s .pre .0 .inside, s .pre .0 .tableFits, c .loop-test .taken)
 
 shared-slice-read-cell : tie.Need-shared-slice-read-cell Inv-loop μ-loop
-shared-slice-read-cell c = search needs
+shared-slice-read-cell c =
+    let s = c .before .before .before in
+    omega (arith, s .pre .0 .inside, c .before .loop-test .taken)
 
 returns : tie.Need-returns Inv-loop μ-loop
 returns c =
     let v = c .before .before .before .loop in
-    omega (arith, v .inv .0, v .inv .1)
+    let s = c .before .before .before .before in
+    omega (arith, v .inv .0, v .inv .1, s .pre .0 .narrow)
 
 sub-sum : tie.Need-sub-sum Inv-loop μ-loop
 sub-sum c = search needs
@@ -50,10 +52,12 @@ add-sum : tie.Need-add-sum Inv-loop μ-loop
 add-sum c =
     let v = c .before .before .before .loop in
     let s = c .before .before .before .before in
-    omega (arith, v .inv .0, v .inv .1, s .pre .1 (s .args .row + v .i))
+    omega (arith, v .inv .0, v .inv .1, s .pre .0 .narrow, s .pre .1 (s .args .row + v .i))
 
 add-i-2 : tie.Need-add-i-2 Inv-loop μ-loop
-add-i-2 c = search needs
+add-i-2 c =
+    let s = c .before .before .before .before in
+    omega (arith, s .pre .0 .narrow, c .before .before .loop-test .taken)
 
 loop-less : tie.Need-loop-less Inv-loop μ-loop
 loop-less c = search needs
@@ -65,7 +69,7 @@ loop-again c =
     (omega (arith, c .before .before .loop-test .taken), omega (arith, v .inv .1, s .pre .1 (s .args .row + v .i)))
 
 returns-2 : tie.Need-returns-2 Inv-loop μ-loop
-returns-2 c = omega (arith, c .before .loop .inv .0, c .before .loop .inv .1)
+returns-2 c = omega (arith, c .before .loop .inv .0, c .before .loop .inv .1, c .before .before .pre .0 .narrow)
 
 pub gap-up-spec : {M : Type 1} → statement M
 gap-up-spec =

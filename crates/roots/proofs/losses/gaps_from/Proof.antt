@@ -1,27 +1,27 @@
 -- `roots::gaps_from` meets its contract: each hour adds at most two gaps. Assumes nothing.
-use Prim.Native.Nat.{_-_, _*_, _≤_}
+use Prim.Native.Nat.{_+_, _-_, _*_, _≤_}
 use native.Mathlib.Omega.{arith}
 use borrow.Author.Needs.{needs}
-use Rattle.places.specs.Layout.{hourPlaces, rowSize}
+use Rattle.places.specs.Layout.{hourPlaces, lastPlace}
+use Rattle.roots.proofs.SizeLaws.{row-held}
 use Rattle.rules.specs.Orders.{maxPrice}
 use Rattle.roots.proofs.losses.gaps_from.Statement.{statement}
 use Rattle.roots.proofs.losses.gaps_from.Tie as tie
-use Rattle.roots.proofs.losses.gaps_from.Reads as reads
-use Rattle.roots.proofs.losses.gaps_from.Lts as lts
-use Rattle.roots.proofs.losses.gap_down.Reads as gap-down-reads
-use Rattle.roots.proofs.losses.gap_up.Reads as gap-up-reads
 
 abbrev Inv-loop : tie.InvT-loop
-Inv-loop unitPrices off prices sum₀ h₀ sum h = (h ≤ hourPlaces) × (sum ≤ h * (2 * (rowSize * maxPrice)))
+Inv-loop unitPrices off prices width sum₀ h₀ sum h = (h ≤ hourPlaces) × (sum ≤ h * (2 * ((lastPlace + 2) * maxPrice)))
 
 abbrev μ-loop : tie.MeasureT-loop
-μ-loop unitPrices off prices sum₀ h₀ sum h = hourPlaces - h
+μ-loop unitPrices off prices width sum₀ h₀ sum h = hourPlaces - h
 
 loop-holds : tie.Need-loop-holds Inv-loop μ-loop
 loop-holds c = (omega arith, omega arith)
 
 mul-row : tie.Need-mul-row Inv-loop μ-loop
-mul-row c = search needs
+mul-row c =
+    let s = c .before .before .before in
+    let row = row-held (s .args .unit-prices .now) (c .before .loop .h) (s .pre .0) (c .loop-test .taken) in
+    omega (arith, row .inside, row .tableFits)
 
 mul-from : tie.Need-mul-from Inv-loop μ-loop
 mul-from c = search needs
@@ -42,7 +42,8 @@ gap-up-requires : tie.Need-gap-up-requires Inv-loop μ-loop
 gap-up-requires c κs =
     let v = c .before .loop in
     let s = c .before .before .before in
-    (s .pre .0, s .pre .1, omega (arith, c .loop-test .taken), s .pre .2 (v .h))
+    let rows = s .pre .0 in
+    (row-held (s .args .unit-prices .now) (v .h) rows (c .loop-test .taken), s .pre .1, omega (arith, rows .0, s .pre .2 (v .h)))
 
 mul-gap-down : tie.Need-mul-gap-down Inv-loop μ-loop
 mul-gap-down c = search needs
@@ -54,7 +55,10 @@ gap-down-requires : tie.Need-gap-down-requires Inv-loop μ-loop
 gap-down-requires c κs =
     let v = c .before .before .loop in
     let s = c .before .before .before .before in
-    (s .pre .0, omega (arith, c .before .loop-test .taken), s .pre .2 (v .h), s .pre .3 (v .h))
+    let rows = s .pre .0 in
+    let row = row-held (s .args .unit-prices .now) (v .h) rows (c .before .loop-test .taken) in
+    let off = s .pre .2 (v .h) in
+    (omega (arith, row .inside, rows .0, off), row .tableFits, omega (arith, rows .1, off), s .pre .3 (v .h))
 
 add-sum : tie.Need-add-sum Inv-loop μ-loop
 add-sum c = search needs

@@ -1,4 +1,4 @@
--- `roots::moved_on` meets its contract: each move ends at prices again, and the places so far add up to at most 1,600 for each. Assumes nothing.
+-- `roots::moved_on` meets its contract: each move ends at prices again, and the places so far add up to at most the last place for each. Assumes nothing.
 use Prim.Native.Nat.{_+_, _-_, _*_, _≤_}
 use native.Mathlib.Omega.{arith}
 use Rattle.roots.specs.Roots.{roundMoves}
@@ -8,18 +8,18 @@ use Rattle.places.specs.Hours.{Small}
 use borrow.Author.Needs.{needs}
 use Rattle.roots.proofs.moves.moved_on.Statement.{statement}
 use Rattle.roots.proofs.moves.moved_on.Tie as tie
-use Rattle.roots.proofs.moves.moved_on.Reads as reads
-use Rattle.roots.proofs.moves.moved_on.Lts as lts
-use Rattle.places.proofs.cells.prices_at.Reads as prices-at-reads
-use Rattle.roots.proofs.moves.added_places.Reads as added-places-reads
-use Rattle.roots.proofs.moves.averaged.Reads as averaged-reads
-use Rattle.roots.proofs.moves.closer.Reads as closer-reads
 
 abbrev Inv-loop : tie.InvT-loop
-Inv-loop unitPrices count hours limits quantities n root₀ sum₀ k₀ root sum k = (1 ≤ k) × (k ≤ n + roundMoves) × Small maxPrice root × Small (k * lastPlace) sum
+Inv-loop unitPrices count hours limits quantities n last root₀ sum₀ k₀ root sum k = (1 ≤ k) × (k ≤ n + roundMoves) × Small maxPrice root × Small (k * lastPlace) sum
 
 abbrev μ-loop : tie.MeasureT-loop
-μ-loop unitPrices count hours limits quantities n root₀ sum₀ k₀ root sum k = n + roundMoves - k
+μ-loop unitPrices count hours limits quantities n last root₀ sum₀ k₀ root sum k = n + roundMoves - k
+
+sub-last : tie.Need-sub-last Inv-loop μ-loop
+sub-last c = omega (arith, c .before .pre .0 .0)
+
+cast-last : tie.Need-cast-last Inv-loop μ-loop
+cast-last c = omega (arith, c .before .pre .0 .0)
 
 loop-holds : tie.Need-loop-holds Inv-loop μ-loop
 loop-holds c =
@@ -40,9 +40,7 @@ add-averaged : tie.Need-add-averaged Inv-loop μ-loop
 add-averaged c = search needs
 
 averaged-requires : tie.Need-averaged-requires Inv-loop μ-loop
-averaged-requires c κs =
-    let v = c .before .before .loop in
-    (omega arith, λ i. omega (arith, c .added-places .ensures i, v .inv .3 i))
+averaged-requires c κs = omega arith
 
 prices-at-requires : tie.Need-prices-at-requires Inv-loop μ-loop
 prices-at-requires c κs = search needs
@@ -74,6 +72,8 @@ moved-on-spec =
     (tie.spec
     Inv-loop
     μ-loop
+    sub-last
+    cast-last
     loop-holds
     add-loop
     added-places-requires

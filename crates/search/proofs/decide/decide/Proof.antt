@@ -48,7 +48,7 @@ part-gaps-at-end-2 : tie.Need-part-gaps-at-end-2
 part-gaps-at-end-2 c = search needs
 
 gaps-at-requires : tie.Need-gaps-at-requires
-gaps-at-requires c κs = let s = start c .pre .0 in (s .gapRows, s .firstHours, s .lastHours, s .lastFits)
+gaps-at-requires c κs = let s = start c .pre .0 in (s .gapRows, s .firstHours, s .lastHours, s .lastInGaps)
 
 returns : tie.Need-returns
 returns c = decided-unclear (c .before .before .gaps-at .ensures) (not-true _ (c .if1 .taken))
@@ -67,8 +67,8 @@ prices-at-requires c κs =
     let s = start (g .before) in (
       s .pre .0 .priceRows,
       s .pre .0 .pricesFit,
-      places-small (clearsFirst (s .args .hours .now)) (clearsLast (s .args .hours .now)) (s .args .node .places)
-          (g .gaps-at .ensures .inRange (not-false _ (clear c .if1 .left))) (s .pre .0 .lastFits) (size s),
+      places-small _ (clearsFirst (s .args .hours .now)) (clearsLast (s .args .hours .now)) (s .args .node .places)
+          (g .gaps-at .ensures .inRange (not-false _ (clear c .if1 .left))) (s .pre .0 .lastInPrices) (size s),
     )
 
 slice-aggregate-keeps-limits : tie.Need-slice-aggregate-keeps-limits

@@ -52,7 +52,9 @@ explore-returns : (t : ℕ) → explore-lts.Need-returns (claims-explore t) (exp
 explore-returns t c = explored-dropped (c .before .judge .ensures .dropped (c .if1 .taken))
 
 explore-decide-requires : (t : ℕ) → explore-lts.Need-decide-requires (claims-explore t) (explore-at t) explore.Post
-explore-decide-requires t c κs = search needs
+explore-decide-requires t c κs =
+    let p = start t (c .before .before) .pre .1 in
+    (p .0, p .1, p .2, p .3, omega (arith, p .0 .few, p .5 .lossFits))
 
 explore-returns-2 : (t : ℕ) → explore-lts.Need-returns-2 (claims-explore t) (explore-at t) explore.Post
 explore-returns-2 t c =

@@ -82,7 +82,7 @@ least-gaps-requires : tie.Need-least-gaps-requires
 least-gaps-requires c κs =
     let r = reached (balanced c) in
     let s = start (r .before) in
-    (s .pre .0 .gapRows, turn-size s, to-fits (r .reach-at .ensures .reach) (s .pre .0 .lastFits))
+    (s .pre .0 .gapRows, turn-size s, to-fits (r .reach-at .ensures .reach) (s .pre .0 .lastInGaps))
 
 add-if4 : tie.Need-add-if4
 add-if4 c =
@@ -100,13 +100,13 @@ prices-at-requires c κs =
     let b = balanced (bounded c .before) in
     let r = reached b in
     let p = start (r .before) .pre .0 in
-    (p .priceRows, p .pricesFit, from-small (r .reach-at .ensures .reach) (p .lastFits) (not-false _ (b .if3 .left)) (from-size r))
+    (p .priceRows, p .pricesFit, from-small (r .reach-at .ensures .reach) (p .lastInPrices) (not-false _ (b .if3 .left)) (from-size r))
 
 prices-at-requires-2 : tie.Need-prices-at-requires-2
 prices-at-requires-2 c κs =
     let r = reached (balanced (bounded (c .before) .before)) in
     let p = start (r .before) .pre .0 in
-    (p .priceRows, p .pricesFit, to-small (r .reach-at .ensures .reach) (p .lastFits) (to-size r))
+    (p .priceRows, p .pricesFit, to-small (r .reach-at .ensures .reach) (p .lastInPrices) (to-size r))
 
 slice-aggregate-keeps-limits : tie.Need-slice-aggregate-keeps-limits
 slice-aggregate-keeps-limits c = search needs

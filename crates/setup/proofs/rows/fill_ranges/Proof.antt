@@ -1,25 +1,35 @@
 -- `setup::fill_ranges` meets its contract: the hours before this one have their ranges and their gaps. Assumes nothing.
-use Prim.Native.Nat.{_-_}
-use mathlib.Core.Path.{sym, _∙_}
+use Prim.Native.Nat.{_+_, _-_, _*_, _≤_, _<_}
+use mathlib.Core.Path.{_∙_}
+use lib.ListN.{length, getD}
 use native.Mathlib.Omega.{arith}
 use Rattle.places.specs.Layout.{hourPlaces}
-use Rattle.setup.proofs.SetupTableLaws.{part-held, part-length, row-wide, part-row, RangesTo, ranges-start, ranges-next, ranges-all}
+use Rattle.places.specs.Hours.{rowWidth}
+use Rattle.setup.specs.Setup.{rowPlaces}
+use Rattle.setup.proofs.SetupTableLaws.{part-held, row-fits, part-length, row-wide, part-row, RangesTo, ranges-start, ranges-next, ranges-all}
 use borrow.Author.Needs.{needs}
 use Rattle.setup.proofs.rows.fill_ranges.Statement.{statement}
 use Rattle.setup.proofs.rows.fill_ranges.Tie as tie
 
 abbrev Inv-loop : tie.InvT-loop
-Inv-loop sides prices quantities unitPrices gap₀ ends off most root first₀ last₀ turn₀ h₀ gap first last turn h =
-    RangesTo sides prices quantities ends off most root unitPrices gap first last turn h
+Inv-loop sides prices quantities unitPrices gap₀ ends off most root width first₀ last₀ turn₀ h₀ gap first last turn h =
+    RangesTo gap₀ sides prices quantities ends off most root unitPrices gap first last turn h
 
 abbrev μ-loop : tie.MeasureT-loop
-μ-loop sides prices quantities unitPrices gap₀ ends off most root first₀ last₀ turn₀ h₀ gap first last turn h = hourPlaces - h
+μ-loop sides prices quantities unitPrices gap₀ ends off most root width first₀ last₀ turn₀ h₀ gap first last turn h = hourPlaces - h
+
+-- the row of an hour has room in the tables
+room : (a : tie.At-loop Inv-loop μ-loop) → a .loop .h < hourPlaces → let s = a .before .before .before .before .before .before in
+    a .loop .h * rowWidth (s .args .gap .now) + rowPlaces (getD (s .args .t6) (a .loop .h) 0) ≤ length (s .args .gap .now)
+room a k =
+    let s = a .before .before .before .before .before .before in
+    row-fits (s .args .gap .now) (a .loop .h) _ k (s .pre .0 .4 (a .loop .h) k)
 
 loop-holds : tie.Need-loop-holds Inv-loop μ-loop
-loop-holds c = ranges-start _ _ _ _ _ _ _ _ _ (c .before .before .before .before .before .pre .0 .3)
+loop-holds c = ranges-start _ _ _ _ _ _ _ _ _
 
 mul-from : tie.Need-mul-from Inv-loop μ-loop
-mul-from c = search needs
+mul-from c = let s = c .before .before .before .before .before .before .before in omega (arith, room (c .before) (c .loop-test .taken), s .pre .0 .3)
 
 mul-to : tie.Need-mul-to Inv-loop μ-loop
 mul-to c = search needs
@@ -31,10 +41,10 @@ cast-to : tie.Need-cast-to Inv-loop μ-loop
 cast-to c = search needs
 
 add-to : tie.Need-add-to Inv-loop μ-loop
-add-to c = let v = c .before in omega (arith, c .loop-test .taken, v .before .before .before .before .before .before .pre .0 .1 (v .loop .h))
+add-to c = let s = c .before .before .before .before .before .before .before in omega (arith, room (c .before) (c .loop-test .taken), s .pre .0 .3)
 
 add-to-2 : tie.Need-add-to-2 Inv-loop μ-loop
-add-to-2 c = let v = c .before in omega (arith, c .loop-test .taken, v .before .before .before .before .before .before .pre .0 .1 (v .loop .h))
+add-to-2 c = let s = c .before .before .before .before .before .before .before in omega (arith, room (c .before) (c .loop-test .taken), s .pre .0 .3)
 
 mul-fill-hour : tie.Need-mul-fill-hour Inv-loop μ-loop
 mul-fill-hour c = search needs
@@ -76,7 +86,7 @@ array-read-fill-hour-5 : tie.Need-array-read-fill-hour-5 Inv-loop μ-loop
 array-read-fill-hour-5 c = search needs
 
 mul-fill-hour-6 : tie.Need-mul-fill-hour-6 Inv-loop μ-loop
-mul-fill-hour-6 c = search needs
+mul-fill-hour-6 c = let s = c .before .before .before .before .before .before .before in omega (arith, room (c .before) (c .loop-test .taken), s .pre .0 .3)
 
 sub-fill-hour : tie.Need-sub-fill-hour Inv-loop μ-loop
 sub-fill-hour c = search needs
@@ -86,12 +96,11 @@ part-fill-hour-start c = search needs
 
 part-fill-hour-end : tie.Need-part-fill-hour-end Inv-loop μ-loop
 part-fill-hour-end c =
-    let v = c .before in
-    let s = v .before .before .before .before .before .before in
-    omega (arith, s .pre .1 .1 .0, c .loop-test .taken, s .pre .0 .1 (v .loop .h))
+    let s = c .before .before .before .before .before .before .before in
+    omega (arith, s .pre .1 .1 .0, room (c .before) (c .loop-test .taken))
 
 mul-fill-hour-7 : tie.Need-mul-fill-hour-7 Inv-loop μ-loop
-mul-fill-hour-7 c = search needs
+mul-fill-hour-7 c = let s = c .before .before .before .before .before .before .before .before in omega (arith, room (c .before .before) (c .before .loop-test .taken), s .pre .0 .3)
 
 sub-fill-hour-2 : tie.Need-sub-fill-hour-2 Inv-loop μ-loop
 sub-fill-hour-2 c = search needs
@@ -100,24 +109,29 @@ part-fill-hour-start-2 : tie.Need-part-fill-hour-start-2 Inv-loop μ-loop
 part-fill-hour-start-2 c = search needs
 
 part-fill-hour-end-2 : tie.Need-part-fill-hour-end-2 Inv-loop μ-loop
-part-fill-hour-end-2 c =
-    let v = c .before .before in
-    let s = v .before .before .before .before .before .before in
-    omega (arith, v .loop .inv .size, c .before .loop-test .taken, s .pre .0 .1 (v .loop .h))
+part-fill-hour-end-2 c = omega (arith, c .before .before .loop .inv .size, room (c .before .before) (c .before .loop-test .taken))
 
 fill-hour-requires : tie.Need-fill-hour-requires Inv-loop μ-loop
 fill-hour-requires c κs =
-    let v = c .before .before .before .loop in
-    let s = c .before .before .before .before .before .before .before .before .before in
+    let a = c .before .before .before in
+    let v = a .loop in
+    let s = a .before .before .before .before .before .before in
     let k = c .before .before .loop-test .taken in
     let q = s .pre .0 in
-    let t = s .pre .1 .1 in (
-      (part-held _ _ _ _ (q .0) (v .h) k, s .pre .1 .0 (v .h) k, q .1 (v .h), q .2 (v .h), part-length (v .gap) (v .h) _ (v .inv .size) k (q .1 (v .h))),
-      (part-length (s .args .unit-prices .now) (v .h) _ (t .0) k (q .1 (v .h)), rw (part-row (s .args .unit-prices .now) (v .h) _) (t .1 (v .h) k)),
+    let t = s .pre .1 .1 in
+    let table = s .args .unit-prices .now in
+    let w = rowWidth (s .args .gap .now) in
+    let inGap : v .h * w + rowPlaces (getD (s .args .t6) (v .h) 0) ≤ length (v .gap) = omega (arith, room a k, v .inv .size) in
+    let inPrices : v .h * w + rowPlaces (getD (s .args .t6) (v .h) 0) ≤ length table = omega (arith, room a k, t .0) in (
+      (part-held _ _ _ _ (q .0) (v .h) k, s .pre .1 .0 (v .h) k, q .1 (v .h), q .2 (v .h), part-length w (v .gap) (v .h) _ inGap),
+      (part-length w table (v .h) _ inPrices, rw (part-row w table (v .h) _) (t .1 (v .h) k)),
     )
 
 cast-first : tie.Need-cast-first Inv-loop μ-loop
-cast-first c = omega (arith, c .before .before .before .before .before .before .loop-test .taken)
+cast-first c =
+    let l = c .before .before .before .before .before .before in
+    let s = l .before .before .before .before .before .before .before in
+    omega (arith, l .loop-test .taken, s .pre .0 .1 (l .before .loop .h), c .before .before .before .fill-hour .ensures .0)
 
 mul-first : tie.Need-mul-first Inv-loop μ-loop
 mul-first c = omega (arith, c .before .before .before .before .before .before .loop-test .taken)
@@ -126,7 +140,10 @@ array-write-first : tie.Need-array-write-first Inv-loop μ-loop
 array-write-first c = omega (arith, c .before .before .before .before .before .before .loop-test .taken)
 
 cast-last : tie.Need-cast-last Inv-loop μ-loop
-cast-last c = omega (arith, c .before .before .before .before .before .before .before .loop-test .taken)
+cast-last c =
+    let l = c .before .before .before .before .before .before .before in
+    let s = l .before .before .before .before .before .before .before in
+    omega (arith, l .loop-test .taken, s .pre .0 .1 (l .before .loop .h), c .before .before .before .before .fill-hour .ensures .0)
 
 mul-last : tie.Need-mul-last Inv-loop μ-loop
 mul-last c = omega (arith, c .before .before .before .before .before .before .before .loop-test .taken)
@@ -135,7 +152,10 @@ array-write-last : tie.Need-array-write-last Inv-loop μ-loop
 array-write-last c = omega (arith, c .before .before .before .before .before .before .before .loop-test .taken)
 
 cast-turn : tie.Need-cast-turn Inv-loop μ-loop
-cast-turn c = omega (arith, c .before .before .before .before .before .before .before .before .loop-test .taken)
+cast-turn c =
+    let l = c .before .before .before .before .before .before .before .before in
+    let s = l .before .before .before .before .before .before .before in
+    omega (arith, l .loop-test .taken, s .pre .0 .1 (l .before .loop .h), c .before .before .before .before .before .fill-hour .ensures .0)
 
 mul-turn : tie.Need-mul-turn Inv-loop μ-loop
 mul-turn c = omega (arith, c .before .before .before .before .before .before .before .before .loop-test .taken)
@@ -158,16 +178,17 @@ loop-again c =
     let v = after-loop .loop in
     let k = after-loop-test .loop-test .taken in
     let f = after-fill-hour .fill-hour in
-    let few = start .pre .0 .1 in
-    ranges-next _ _ _ _ _ _ _ _ few _ _ _ _ _ (v .h) _ _ _ _ (v .inv) k
-    (f .kept .1 .1 .1 .1 .1 .1 .1 .1 .1 .0 ∙ part-length (v .gap) (v .h) _ (v .inv .size) k (few (v .h))) (row-wide (v .h) _)
-    (f .ensures .0 .1) (rw (part-row (start .args .unit-prices .now) (v .h) _) at (f .ensures .1))
+    let w = rowWidth (start .args .gap .now) in
+    let inGap : v .h * w + rowPlaces (getD (start .args .t6) (v .h) 0) ≤ length (v .gap) = omega (arith, room after-loop k, v .inv .size) in
+    ranges-next _ _ _ _ _ _ _ _ _ (start .pre .0 .4) _ _ _ _ _ (v .h) _ _ _ _ (v .inv) k
+    (f .kept .1 .1 .1 .1 .1 .1 .1 .1 .1 .0 ∙ part-length w (v .gap) (v .h) _ inGap) (row-wide w (v .h) _)
+    (f .ensures .0 .1) (rw (part-row w (start .args .unit-prices .now) (v .h) _) at (f .ensures .1))
 
 same-length : tie.Need-same-length Inv-loop μ-loop
-same-length c = c .before .loop .inv .size ∙ sym (c .before .before .before .before .before .before .before .pre .0 .3)
+same-length c = c .before .loop .inv .size
 
 returns : tie.Need-returns Inv-loop μ-loop
-returns c = ranges-all _ _ _ _ _ _ _ _ _ _ _ _ _ (c .before .loop .inv) (c .loop-test .left)
+returns c = ranges-all _ _ _ _ _ _ _ _ _ _ _ _ _ _ (c .before .loop .inv) (c .loop-test .left)
 
 pub fill-ranges-spec : {M : Type 1} → statement M
 fill-ranges-spec =

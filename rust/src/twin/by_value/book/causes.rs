@@ -4,6 +4,7 @@
 use crate::twin::by_value::book::Chain;
 use crate::twin::by_value::book::Surveyed;
 use crate::twin::by_value::book::bounds::FIRST_EDITION;
+use crate::twin::by_value::book::bounds::LAST_EDITION;
 use crate::twin::by_value::book::bounds::MOST_BLOCKS;
 use crate::twin::by_value::book::bounds::MOST_RECORDS;
 use crate::twin::by_value::book::bounds::NORMAL_HOURS;
@@ -33,7 +34,11 @@ pub fn has_wrong_size(book: &[u8]) -> bool
 fn has_wrong_head(book: &[u8]) -> bool
 {
     (day_hours(book) != NORMAL_HOURS)
-        | (edition_of(book) != FIRST_EDITION)
+        | !is_within(
+            FIRST_EDITION as u32,
+            edition_of(book) as u32,
+            LAST_EDITION as u32,
+        )
         | is_nonzero(book, HEAD_REST_OFFSET, HEAD_REST_SIZE)
 }
 

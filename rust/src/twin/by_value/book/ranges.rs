@@ -1,11 +1,14 @@
 // Written by `twin_source` from crates/book/src/ranges.rt.
 // The ranges of a record's fields (document 01, "The book in bytes"): cause 4 at one record, and the limits of an edition. Assumes nothing.
-use crate::twin::by_value::book::bounds::BLOCK_QUANTITY;
-use crate::twin::by_value::book::bounds::BLOCKS_OF_PORTFOLIO;
 use crate::twin::by_value::book::bounds::FEWEST_HOURS;
+use crate::twin::by_value::book::bounds::FIRST_BLOCK_QUANTITY;
+use crate::twin::by_value::book::bounds::FIRST_BLOCKS_OF_PORTFOLIO;
+use crate::twin::by_value::book::bounds::FIRST_EDITION;
 use crate::twin::by_value::book::bounds::LAST_PORTFOLIO;
 use crate::twin::by_value::book::bounds::MAX_PRICE;
 use crate::twin::by_value::book::bounds::MOST_STEP_QUANTITY;
+use crate::twin::by_value::book::bounds::NOTICE_BLOCK_QUANTITY;
+use crate::twin::by_value::book::bounds::NOTICE_BLOCKS_OF_PORTFOLIO;
 use crate::twin::by_value::records::Block;
 use crate::twin::by_value::records::LAST_HOUR;
 use crate::twin::by_value::records::LAST_SIDE;
@@ -23,16 +26,24 @@ pub fn is_within(low: u32, x: u32, high: u32) -> bool
     (low <= x) & (x <= high)
 }
 
-// The largest quantity of a block; every edition has that of edition 1 today.
+// The largest quantity of a block.
 fn most_block_quantity(edition: u8) -> u32
 {
-    BLOCK_QUANTITY
+    if edition <= FIRST_EDITION {
+        FIRST_BLOCK_QUANTITY
+    } else {
+        NOTICE_BLOCK_QUANTITY
+    }
 }
 
-// The most blocks that one portfolio may have; every edition has that of edition 1 today.
+// The most blocks that one portfolio may have.
 pub fn most_blocks_of_portfolio(edition: u8) -> u16
 {
-    BLOCKS_OF_PORTFOLIO
+    if edition <= FIRST_EDITION {
+        FIRST_BLOCKS_OF_PORTFOLIO
+    } else {
+        NOTICE_BLOCKS_OF_PORTFOLIO
+    }
 }
 
 // Whether a step's fields, its side apart, are in their ranges.

@@ -3,7 +3,6 @@
 // place: the price at a place is the middle of two neighbours. An hour that has a buy of 2 at 5000, a sell of 1 at 3000 and no block that buys has the row
 // 5000, 5000, 3000, 1, ..: at place 0 its price is 5000, at place 1 the middle of 5000 and 3000.
 use crate::twin::by_value::places::layout::HOURS;
-use crate::twin::by_value::places::layout::ROW;
 use crate::twin::by_value::places::numbers::larger;
 use crate::twin::by_value::places::numbers::smaller;
 
@@ -16,6 +15,7 @@ pub struct Gaps {
 
 pub fn gaps_at(gap: &[u32], first: &[u32], last: &[u32], places: [u32; HOURS]) -> Gaps
 {
+    let width = gap.len() / HOURS;
     let mut sum: u64 = 0;
     let mut h: usize = 0;
     while h < HOURS {
@@ -26,7 +26,7 @@ pub fn gaps_at(gap: &[u32], first: &[u32], last: &[u32], places: [u32; HOURS]) -
                 sum: 0,
             };
         }
-        let cell = gap[h * ROW + (place as usize)];
+        let cell = gap[h * width + (place as usize)];
         sum += cell as u64;
         h += 1;
     }
@@ -39,10 +39,11 @@ pub fn gaps_at(gap: &[u32], first: &[u32], last: &[u32], places: [u32; HOURS]) -
 // The price of each hour at its place.
 pub fn prices_at(unit_prices: &[u32], places: [u32; HOURS]) -> [u32; HOURS]
 {
+    let width = unit_prices.len() / HOURS;
     let mut prices = [0; HOURS];
     let mut h: usize = 0;
     while h < HOURS {
-        let at = h * ROW + (places[h] as usize);
+        let at = h * width + (places[h] as usize);
         prices[h] = (unit_prices[at] + unit_prices[at + 1]) / 2;
         h += 1;
     }
@@ -52,11 +53,12 @@ pub fn prices_at(unit_prices: &[u32], places: [u32; HOURS]) -> [u32; HOURS]
 // The sum of the hours' least gaps over the places from `from` to `to`.
 pub fn least_gaps(gap: &[u32], turn: &[u32], from: [u32; HOURS], to: [u32; HOURS]) -> u64
 {
+    let width = gap.len() / HOURS;
     let mut sum: u64 = 0;
     let mut h: usize = 0;
     while h < HOURS {
         let place = smaller(larger(turn[h], from[h]), to[h]);
-        sum += gap[h * ROW + (place as usize)] as u64;
+        sum += gap[h * width + (place as usize)] as u64;
         h += 1;
     }
     sum

@@ -2,17 +2,16 @@
 // What the empty set loses at given prices: what the blocks would gain there, and what the hours lose at its places.
 use crate::twin::by_value::places::layout::HOURS;
 use crate::twin::by_value::places::layout::MOST_BLOCKS;
-use crate::twin::by_value::places::layout::ROW;
 use crate::twin::by_value::places::limits::price_sum;
 use crate::twin::by_value::places::numbers::by_side;
 use crate::twin::by_value::places::numbers::less;
 
 // What an hour at the place from loses at a price below its own: how far the prices of the places above stand over it.
-fn gap_up(unit_prices: &[u32], row: usize, from: usize, price: u32) -> u64
+fn gap_up(unit_prices: &[u32], row: usize, width: usize, from: usize, price: u32) -> u64
 {
     let mut sum: u64 = 0;
     let mut i = from + 1;
-    while i < ROW {
+    while i < width {
         let cell = unit_prices[row + i];
         if cell <= price {
             return sum;
@@ -42,12 +41,13 @@ fn gap_down(unit_prices: &[u32], row: usize, from: usize, price: u32) -> u64
 // What the hours at the places off lose at the prices.
 fn gaps_from(unit_prices: &[u32], off: [u32; HOURS], prices: [u32; HOURS]) -> u64
 {
+    let width = unit_prices.len() / HOURS;
     let mut sum: u64 = 0;
     let mut h: usize = 0;
     while h < HOURS {
-        let row = h * ROW;
+        let row = h * width;
         let from = off[h] as usize;
-        let up = gap_up(unit_prices, row, from, prices[h]);
+        let up = gap_up(unit_prices, row, width, from, prices[h]);
         let down = gap_down(unit_prices, row, from, prices[h]);
         sum += up + down;
         h += 1;

@@ -6,6 +6,10 @@ use crate::twin::by_value::places::layout::HOURS;
 use crate::twin::by_value::places::layout::MOST_BLOCKS;
 use crate::twin::by_value::places::limits::price_sum;
 use crate::twin::by_value::places::numbers::choose;
+use crate::twin::by_value::places::numbers::smaller;
+
+// The last place of a row that has one above it stands so far from its end.
+const LAST_AND_ABOVE: usize = 2;
 
 // The moves of a round, after which the prices are tried.
 pub const ROUND: u32 = 7;
@@ -35,13 +39,13 @@ pub fn added_places(
     places
 }
 
-// The places on the average, where n of them are added up.
-fn averaged(sum: [u32; HOURS], n: u32) -> [u32; HOURS]
+// The places on the average, where n of them are added up; none past the last.
+fn averaged(sum: [u32; HOURS], n: u32, last: u32) -> [u32; HOURS]
 {
     let mut r = [0; HOURS];
     let mut h: usize = 0;
     while h < HOURS {
-        r[h] = sum[h] / n;
+        r[h] = smaller(sum[h] / n, last);
         h += 1;
     }
     r
@@ -87,12 +91,13 @@ pub fn moved_on(
     n: u32,
 ) -> Trail
 {
+    let last = (unit_prices.len() / HOURS - LAST_AND_ABOVE) as u32;
     let mut root = trail.prices;
     let mut sum = trail.sum;
     let mut k = n;
     while k < n + ROUND {
         let more = added_places(sum, count, hours, limits, quantities, root);
-        let mean = averaged(more, k + 1);
+        let mean = averaged(more, k + 1, last);
         let there = prices_at(unit_prices, mean);
         let next = closer(root, there);
         sum = more;

@@ -14,11 +14,24 @@ use crate::twin::by_value::places::layout::RUNS;
 use crate::twin::by_value::places::limits::price_sum;
 use crate::twin::by_value::places::numbers::by_side;
 use crate::twin::by_value::places::numbers::choose;
+use crate::twin::by_value::places::numbers::larger;
 use crate::twin::by_value::places::numbers::less;
 use crate::twin::by_value::records::hour_count;
 
 // How much the first six columns hold, those in front of the twins'.
 const SIX_COLUMNS: usize = AHEAD;
+
+// The largest number of a column of hours.
+pub fn largest(column: [u32; HOURS]) -> u32
+{
+    let mut most: u32 = 0;
+    let mut h: usize = 0;
+    while h < HOURS {
+        most = larger(most, column[h]);
+        h += 1;
+    }
+    most
+}
 
 // What the buy blocks buy in each hour; where `all` is true, with what the sell blocks sell.
 pub fn traded_by_hour(

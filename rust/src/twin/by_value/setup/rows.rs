@@ -3,7 +3,6 @@
 use crate::twin::by_value::places::layout::HOUR_LIST;
 use crate::twin::by_value::places::layout::HOURS;
 use crate::twin::by_value::places::layout::LAST;
-use crate::twin::by_value::places::layout::ROW;
 use crate::twin::by_value::places::layout::TURN;
 use crate::twin::by_value::tables::all_totals;
 use crate::twin::by_value::tables::clear_range;
@@ -27,7 +26,7 @@ pub struct Ranges {
 }
 
 // The places of a row that are filled are as many as the last that the hour's blocks can reach, and these: it and the one above it.
-const LAST_AND_ABOVE: usize = 2;
+pub const LAST_AND_ABOVE: usize = 2;
 
 // The price table of an hour, whose steps stand from a up to e.
 fn fill_row(
@@ -54,9 +53,10 @@ pub fn fill_tables(
     unit_prices: &mut [u32],
 )
 {
+    let width = unit_prices.len() / HOURS;
     let mut h: usize = 0;
     while h < HOURS {
-        let from = h * ROW;
+        let from = h * width;
         let to = from + (most[h] as usize) + LAST_AND_ABOVE;
         fill_row(
             sides,
@@ -109,12 +109,13 @@ pub fn fill_ranges(
     gap: &mut [u32],
 ) -> Ranges
 {
+    let width = gap.len() / HOURS;
     let mut first = [0; HOURS];
     let mut last = [0; HOURS];
     let mut turn = [0; HOURS];
     let mut h: usize = 0;
     while h < HOURS {
-        let from = h * ROW;
+        let from = h * width;
         let to = from + (most[h] as usize) + LAST_AND_ABOVE;
         let range = fill_hour(
             sides,
