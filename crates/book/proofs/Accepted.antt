@@ -5,19 +5,21 @@ use mathlib.Core.Path.{_≡_, refl, sym, _∙_}
 use mathlib.Core.List.{List}
 use mathlib.Core.Bool.{Bool, true, false, cond, not, _||_, _&&_, true≢false}
 use native.Mathlib.Omega.{arith}
-use borrow.Author.Tests.{eq-eqb, ne-eqb, eqb-true, leb-true, ltb-false, le-leb, le-ltb, not-false}
+use borrow.Author.Tests.{eq-eqb, ne-eqb, eqb-true, eqb-false, leb-true, ltb-false, le-leb, le-ltb, not-false}
 use lib.Dec.{eqb, leb, ltb}
 use lib.ListN.{length}
 use Rattle.records.specs.Bytes.{nonzero}
 use Rattle.records.specs.Layout.{recordSize, headRestOffset, headRestSize, stepKind, blockKind, lastSide, lastHour}
-use Rattle.book.specs.Bounds.{mostRecords, normalHours, firstEdition, lastEdition, lastPortfolio, portfolioNumbers, mostStepQuantity, fewestHours, mostBlocks}
+use Rattle.book.specs.Bounds.{mostRecords, firstEdition, lastEdition, lastPortfolio, portfolioNumbers, mostStepQuantity, fewestHours, mostBlocks}
 use Rattle.book.specs.Tests.{within, someBelow, countIn, member}
 use Rattle.rules.specs.Orders.{maxPrice, Limits, limits}
+use Rattle.rules.specs.Day.{springHours, autumnHours, isCounted}
+use Rattle.rules.proofs.HourSums.{all-counted}
 use Rattle.records.specs.Records.{recordCount, dayHours, edition, kind, sideByte, hourByte}
 use Rattle.records.specs.Records.{stepAt, blockAt, recordAt, hoursSet}
 use Rattle.book.specs.Chains.{chainFrom, firstOn, chainOf, isOn, countOn, stepOrder, blockOrder, steps, blocks}
 use Rattle.book.specs.Refusals.{wrongSize, wrongHead, brokenChain, wrongFieldOn, wrongField, stray, strayRecord, ownedBy, tooManyOf, tooManyBlocks}
-use Rattle.book.specs.Refusals.{firstCause, ownCauses, refusal, Accepted}
+use Rattle.book.specs.Refusals.{uncounted, uncountedOn, wrongHours, firstCause, ownCauses, refusal, Accepted}
 use Rattle.book.specs.Refusals.{stepFits, blockFits, stepInRange, blockInRange, recordInRange, outOfRange}
 use Rattle.records.specs.declared.Step.{Step}
 use Rattle.records.specs.declared.Block.{Block}
@@ -45,6 +47,7 @@ accepted b e =
     let p4 = passed (wrongField b) 3 _ (p3 .1) in
     let p5 = passed (strayRecord b) 4 _ (p4 .1) in
     let p6 = passed (tooManyBlocks b) 5 _ (p5 .1) in
+    let p9 = passed (wrongHours b) 8 _ (p6 .1) in
     record {
       rightSize = p1 .0;
       rightHead = p2 .0;
@@ -52,12 +55,13 @@ accepted b e =
       inRange = p4 .0;
       noStray = p5 .0;
       notTooMany = p6 .0;
+      rightHours = p9 .0;
     }
 
 -- .. and the number of an accepted book is 0
 pub accepted-zero : (b : List ℕ) → Accepted b → refusal b ≡ 0
 unfolding refusal ownCauses firstCause
-accepted-zero b a = rw (a .rightSize, a .rightHead, a .unbroken, a .inRange, a .noStray, a .notTooMany)
+accepted-zero b a = rw (a .rightSize, a .rightHead, a .unbroken, a .inRange, a .noStray, a .notTooMany, a .rightHours)
 
 -- The length is 16 × R
 pub size : (b : List ℕ) → Accepted b → length b ≡ recordSize * recordCount b
@@ -71,19 +75,19 @@ size b a =
 pub record-count : (b : List ℕ) → Accepted b → (1 ≤ recordCount b) × (recordCount b ≤ mostRecords)
 record-count b a = count-bounds b (a .rightSize)
 
--- The day has 24 hours
-pub day-hours : (b : List ℕ) → Accepted b → dayHours b ≡ normalHours
+-- The day has 23 to 25 hours
+pub day-hours : (b : List ℕ) → Accepted b → (springHours ≤ dayHours b) × (dayHours b ≤ autumnHours)
 unfolding wrongHead
 day-hours b a =
-    let t = not (eqb (dayHours b) normalHours) in
+    let t = not (within springHours (dayHours b) autumnHours) in
     let u = not (within firstEdition (edition b) lastEdition) in
-    eqb-true _ _ (not-false _ (or-left t u (or-left (t || u) (nonzero b headRestOffset headRestSize) (a .rightHead))))
+    bounds _ _ _ (not-false _ (or-left t u (or-left (t || u) (nonzero b headRestOffset headRestSize) (a .rightHead))))
 
 -- The edition is one that there is
 pub edition-known : (b : List ℕ) → Accepted b → within firstEdition (edition b) lastEdition ≡ true
 unfolding wrongHead
 edition-known b a =
-    let t = not (eqb (dayHours b) normalHours) in
+    let t = not (within springHours (dayHours b) autumnHours) in
     let u = not (within firstEdition (edition b) lastEdition) in
     not-false _ (or-right t u (or-left (t || u) (nonzero b headRestOffset headRestSize) (a .rightHead)))
 
@@ -319,3 +323,27 @@ block-kind b a i p h = at (member i (blockOrder b)) refl
         let other : member i (stepOrder b) ≡ true = rw e at (one-chain b a i p h) in
         let k = each-member (StepRecord b) (stepOrder b) i (step-records b a) other .ofKind in
         sym (ne-eqb (kind b i) blockKind (λ w. omega arith))
+
+-- Every step is for an hour that counts
+step-counted : (b : List ℕ) (i : ℕ) → StepRecord b i × (uncounted b (recordAt b i) ≡ false) → isCounted (dayHours b) (stepAt b i .hour) ≡ true
+unfolding uncounted
+step-counted b i h = not-false _ (rw (h .0 .read) at (h .1))
+
+pub step-hours-counted : (b : List ℕ) → Accepted b → Each (λ i. isCounted (dayHours b) (stepAt b i .hour) ≡ true) (stepOrder b)
+unfolding wrongHours uncountedOn stepOrder
+step-hours-counted b a = at (eqb (dayHours b) springHours) refl
+  where
+    l : List ℕ
+    l = chainOf b chain-of.Steps
+
+    at : (spring : Bool) → eqb (dayHours b) springHours ≡ spring → Each (λ i. isCounted (dayHours b) (stepAt b i .hour) ≡ true) l
+    at true e =
+        let none = rw e at (a .rightHours) in
+        each-map (λ i. StepRecord b i × (uncounted b (recordAt b i) ≡ false)) (λ i. isCounted (dayHours b) (stepAt b i .hour) ≡ true) l (step-counted b)
+        (each-both (StepRecord b) (λ i. uncounted b (recordAt b i) ≡ false) l (step-records b a)
+        (none-in l (λ i. uncounted b (recordAt b i)) (on-none (uncountedOn b) none chain-of.Steps)))
+    at false e =
+        let long = day-hours b a .0 in
+        let other : dayHours b ≡ springHours → ⊥ = eqb-false _ _ e in
+        let longer : springHours < dayHours b = omega arith in
+        each-map (StepRecord b) (λ i. isCounted (dayHours b) (stepAt b i .hour) ≡ true) l (λ i r. all-counted (dayHours b) _ longer) (step-records b a)

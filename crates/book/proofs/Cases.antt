@@ -9,7 +9,7 @@ use Rattle.rules.specs.Orders.{limits}
 use Rattle.records.specs.Records.{stepAt, blockAt, recordAt, hoursSet}
 use Rattle.book.specs.Chains.{chainFrom, chains, isOn, stepOrder, blockOrder}
 use Rattle.book.specs.Refusals.{wrongSize, wrongHead, misplaced, broken, brokenOn, brokenChain, stepFits, blockFits, stepInRange, blockInRange}
-use Rattle.book.specs.Refusals.{recordInRange, outOfRange, wrongFieldOn, wrongField, stray, strayRecord, ownedBy, tooManyOf, tooManyBlocks, firstCause, ownCauses, refusal}
+use Rattle.book.specs.Refusals.{recordInRange, outOfRange, wrongFieldOn, wrongField, stray, strayRecord, ownedBy, tooManyOf, tooManyBlocks, wrongHours, firstCause, ownCauses, refusal}
 use Rattle.book.specs.Answers.{reading}
 use Rattle.book.specs.declared.Reading.the-variants as reading-of
 
@@ -60,5 +60,5 @@ pub decided : SmallBooks
 unfolding
     headAlone stepAndBlock ownNext bothCauses leftOver u16At u24At u32At nonzero within someBelow someIn countIn limits stepAt blockAt recordAt hoursSet
     chainFrom chains isOn stepOrder blockOrder wrongSize wrongHead misplaced broken brokenOn brokenChain stepFits blockFits stepInRange blockInRange
-    recordInRange outOfRange wrongFieldOn wrongField stray strayRecord ownedBy tooManyOf tooManyBlocks firstCause ownCauses refusal reading
+    recordInRange outOfRange wrongFieldOn wrongField stray strayRecord ownedBy tooManyOf tooManyBlocks wrongHours firstCause ownCauses refusal reading
 decided = record { head = refl; orders = refl; loop = refl; two = refl; left = refl }

@@ -1,5 +1,6 @@
 -- The laws that the functions' proofs and the layers above cite; each function's own proof stands in its folder.
 pub mod Laws
+pub mod HourLaws
 pub mod Members
 pub mod Distinct
 pub mod Surveys

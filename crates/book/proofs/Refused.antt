@@ -14,7 +14,7 @@ use Rattle.records.specs.Records.{recordCount}
 use Rattle.book.specs.Bounds.{mostRecords, portfolioNumbers, mostBlocks}
 use Rattle.book.specs.Chains.{stepOrder, blockOrder}
 use Rattle.book.specs.Refusals.{wrongSize, wrongHead, brokenOn, brokenChain, wrongFieldOn, wrongField, strayRecord, tooManyOf, tooManyBlocks}
-use Rattle.book.specs.Refusals.{firstCause, ownCauses, refusal}
+use Rattle.book.specs.Refusals.{wrongHours, firstCause, ownCauses, refusal}
 use Rattle.book.specs.Passes.{surveyed, nextFound}
 use Rattle.book.specs.Answers.{reading, numberOf}
 use Rattle.book.specs.declared.Chain.the-variants as chain-of
@@ -82,7 +82,7 @@ refusal-size b e = rw e
 
 -- .. and without it the others are looked for
 pub without-size : (b : List ℕ) → wrongSize b ≡ false
-    → Left b 0 ((wrongHead b, 2) ∷ (brokenChain b, 3) ∷ (wrongField b, 4) ∷ (strayRecord b, 5) ∷ (tooManyBlocks b, 6) ∷ [])
+    → Left b 0 ((wrongHead b, 2) ∷ (brokenChain b, 3) ∷ (wrongField b, 4) ∷ (strayRecord b, 5) ∷ (tooManyBlocks b, 6) ∷ (wrongHours b, 9) ∷ [])
 unfolding refusal ownCauses firstCause Left
 without-size b e = rw e
 
@@ -208,7 +208,7 @@ first-append m (cause ∷ l) n o = at (cause .0) (first-append (cause .1) l n (o
 
 own-ordered : (b : List ℕ) → Ordered 0 (ownCauses b)
 unfolding ownCauses
-own-ordered b = (omega arith, (omega arith, (omega arith, (omega arith, (omega arith, (omega arith, tt))))))
+own-ordered b = (omega arith, (omega arith, (omega arith, (omega arith, (omega arith, (omega arith, (omega arith, tt)))))))
 
 -- None is given without its cause ..
 pub with-cause : (b : List ℕ) → (refusal b ≡ 0 → ⊥) → holds (ownCauses b) (refusal b) ≡ true

@@ -1,14 +1,10 @@
 -- HOW LARGE A BOOK AND ITS FIELDS MAY BE (document 01, "The book in bytes" and "Refused books and calls"), as in src/bounds.rt; the highest price and the
--- limits of an edition stand in the rules, Orders. Definitions only. Assumes nothing.
+-- limits of an edition stand in the rules, Orders, the hours of a day in Day. Definitions only. Assumes nothing.
 use Prim.Native.Nat.{ℕ}
 
 -- The most records of a book, head included: R is 1 to 2,048
 abbrev pub mostRecords : ℕ
 mostRecords = 2048
-
--- The hours of a day, in the head: 24
-abbrev pub normalHours : ℕ
-normalHours = 24
 
 -- The editions that there are, in the head: 1 and 2
 abbrev pub firstEdition : ℕ

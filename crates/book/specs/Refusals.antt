@@ -1,4 +1,4 @@
--- The causes for which a book is refused, 1 to 6, in the words of document 01, "Refused books and calls".
+-- The causes for which a book is refused, 1 to 6 in the words of document 01, "Refused books and calls", and 9 in those of document 02.
 -- The causes of a call (7 a result buffer, 8 an hour or a set) belong to the calls; they are looked for after these. Assumes nothing.
 use Prim.Native.Nat.{ℕ, _*_}
 use mathlib.Core.Path.{_≡_}
@@ -10,8 +10,10 @@ use Rattle.records.specs.Bytes.{nonzero}
 use Rattle.records.specs.Layout.{recordSize, headRestOffset, headRestSize, lastSide, lastHour}
 use Rattle.book.specs.Tests.{within, someBelow, someIn, countIn}
 use Rattle.rules.specs.Orders.{maxPrice, Limits, limits}
+use Rattle.rules.specs.Day.{springHours, autumnHours, isCounted}
 use Rattle.records.specs.Records.{recordCount, dayHours, edition, kind, sideByte, number, hourByte, portfolio, recordAt, hoursSet}
-use Rattle.book.specs.Bounds.{mostRecords, normalHours, firstEdition, lastEdition, lastPortfolio, portfolioNumbers, mostStepQuantity, fewestHours, mostBlocks}
+use Rattle.book.specs.Bounds.{mostRecords, firstEdition, lastEdition, lastPortfolio, portfolioNumbers, mostStepQuantity, fewestHours, mostBlocks}
+use Rattle.book.specs.Hours.{countedHours}
 use Rattle.book.specs.Chains.{chains, kindOn, numbered, chainOf, isOn, countOn}
 use Rattle.records.specs.declared.Step.{Step}
 use Rattle.records.specs.declared.Block.{Block}
@@ -24,9 +26,9 @@ use Rattle.book.specs.declared.Chain.the-variants as chain-of
 unfoldable pub wrongSize : List ℕ → Bool
 wrongSize b = not (eqb (length b) (recordSize * recordCount b)) || ltb (length b) recordSize || not (within 1 (recordCount b) mostRecords)
 
--- 2, the head: hours not 24, an edition that there is not, or bytes 8-15 not all 0
+-- 2, the head: hours not 23, 24 or 25, an edition that there is not, or bytes 8-15 not all 0
 unfoldable pub wrongHead : List ℕ → Bool
-wrongHead b = not (eqb (dayHours b) normalHours) || not (within firstEdition (edition b) lastEdition) || nonzero b headRestOffset headRestSize
+wrongHead b = not (within springHours (dayHours b) autumnHours) || not (within firstEdition (edition b) lastEdition) || nonzero b headRestOffset headRestSize
 
 -- 3, at record i of a chain, after the number `last`: an index of R or more, a kind not the chain's, or, if numbers must rise, one that does not
 unfoldable pub misplaced : List ℕ → Chain → ℕ → ℕ → Bool
@@ -102,6 +104,20 @@ tooManyOf b p = ltb (limits (edition b) .blocksOfPortfolio) (countIn (chainOf b 
 unfoldable pub tooManyBlocks : List ℕ → Bool
 tooManyBlocks b = ltb mostBlocks (countOn b chain-of.Blocks) || someBelow portfolioNumbers (tooManyOf b)
 
+-- 9, at a record: a step for an hour that does not count, or a block with fewer than two counted hours
+unfoldable pub uncounted : List ℕ → Record → Bool
+uncounted b (record-of.Step s) = not (isCounted (dayHours b) (s .hour))
+uncounted b (record-of.Block s) = ltb (countedHours (dayHours b) (s .hours)) fewestHours
+uncounted b record-of.Other = false
+
+-- 9, along a chain: some record is such a one
+unfoldable pub uncountedOn : List ℕ → Chain → Bool
+uncountedOn b c = someIn (chainOf b c) (λ i. uncounted b (recordAt b i))
+
+-- 9: a step for hour 3 or a block with fewer than two counted hours on a 23-hour day
+unfoldable pub wrongHours : List ℕ → Bool
+wrongHours b = eqb (dayHours b) springHours && someIn chains (uncountedOn b)
+
 -- The number of the first cause of a list that holds; 0 where none does
 unfoldable pub firstCause : List (Bool × ℕ) → ℕ
 firstCause [] = 0
@@ -116,6 +132,7 @@ ownCauses b =
     ∷ (wrongField b, 4)
     ∷ (strayRecord b, 5)
     ∷ (tooManyBlocks b, 6)
+    ∷ (wrongHours b, 9)
     ∷ []
 
 -- The number for which a book by itself is refused; 0, which is ours, where it is accepted
@@ -130,3 +147,4 @@ pub record Accepted (b : List ℕ) : Type 0 where
   pub inRange : wrongField b ≡ false
   pub noStray : strayRecord b ≡ false
   pub notTooMany : tooManyBlocks b ≡ false
+  pub rightHours : wrongHours b ≡ false

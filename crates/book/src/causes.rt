@@ -1,4 +1,4 @@
-// The causes for which a book by itself is refused, 1 to 6 (document 01, "Refused books and calls"), and the first of them that holds.
+// The causes for which a book by itself is refused, 1 to 6 (document 01, "Refused books and calls") and 9 (document 02), and the first of them that holds.
 // Assumes nothing.
 ghost use mathlib.Core.Path.{_≡_};
 ghost use mathlib.Core.Bool.{false};
@@ -6,18 +6,20 @@ ghost use Prim.Native.Nat.{_+_};
 ghost use lib.Dec.{ltb};
 ghost use Rattle.book.specs.Bounds.{portfolioNumbers};
 ghost use Rattle.book.specs.Tests.{someBelow};
-ghost use Rattle.book.specs.Refusals.{wrongSize, wrongHead, tooManyOf, refusal};
+ghost use Rattle.book.specs.Refusals.{wrongSize, wrongHead, tooManyOf, wrongHours, refusal};
 ghost use Rattle.book.specs.Passes.{surveyed, nextFound};
 ghost use Rattle.book.specs.declared.Chain.the-variants.{Steps, Blocks};
 use crate::Chain;
 use crate::Surveyed;
+use crate::bounds::AUTUMN_HOURS;
 use crate::bounds::FIRST_EDITION;
 use crate::bounds::LAST_EDITION;
 use crate::bounds::MOST_BLOCKS;
 use crate::bounds::MOST_RECORDS;
-use crate::bounds::NORMAL_HOURS;
 use crate::bounds::PORTFOLIO_NUMBERS;
+use crate::bounds::SPRING_HOURS;
 use crate::chains::counts_by_portfolio;
+use crate::chains::is_uncounted_on;
 use crate::ranges::is_within;
 use crate::ranges::most_blocks_of_portfolio;
 use records::HEAD_REST_OFFSET;
@@ -43,7 +45,11 @@ pub fn has_wrong_size(book: &[u8]) -> bool
 fn has_wrong_head(book: &[u8]) -> bool
     ensures { λ r. ⌜ r ≡ wrongHead (now (book .entry)) ⌝ }
 {
-    (day_hours(book) != NORMAL_HOURS)
+    !is_within(
+        SPRING_HOURS as u32,
+        day_hours(book) as u32,
+        AUTUMN_HOURS as u32,
+    )
         | !is_within(
             FIRST_EDITION as u32,
             edition_of(book) as u32,
@@ -75,6 +81,16 @@ fn has_crowded_portfolio(book: &[u8]) -> bool
     false
 }
 
+// 9: on a 23-hour day a step for hour 3, or a block with fewer than two counted hours.
+fn has_wrong_hours(book: &[u8]) -> bool
+    ensures { λ r. ⌜ r ≡ wrongHours (now (book .entry)) ⌝ }
+{
+    if day_hours(book) != SPRING_HOURS {
+        return false;
+    }
+    is_uncounted_on(book, Chain::Steps) | is_uncounted_on(book, Chain::Blocks)
+}
+
 // One cause more: the number that those before it gave, else, where it holds, its own.
 fn next_found(before: u8, holds: bool, number: u8) -> u8
     ensures { λ r. ⌜ r ≡ nextFound before holds number ⌝ }
@@ -96,5 +112,6 @@ pub fn refusal_of(book: &[u8], steps: Surveyed, blocks: Surveyed) -> u8
     let short = are_short(steps.length, blocks.length, record_count(book));
     let stray = next_found(outside, short, 5);
     let many = (MOST_BLOCKS < blocks.length) | has_crowded_portfolio(book);
-    next_found(stray, many, 6)
+    let crowded = next_found(stray, many, 6);
+    next_found(crowded, has_wrong_hours(book), 9)
 }

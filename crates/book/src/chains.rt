@@ -6,12 +6,13 @@ ghost use lib.ListN.{getD};
 ghost use Rattle.book.specs.Bounds.{portfolioNumbers};
 ghost use Rattle.book.specs.Tests.{countIn};
 ghost use Rattle.book.specs.Chains.{firstOn, kindOn, numbered, chainOf};
-ghost use Rattle.book.specs.Refusals.{misplaced, ownedBy};
+ghost use Rattle.book.specs.Refusals.{misplaced, ownedBy, uncountedOn};
 ghost use Rattle.book.specs.Passes.{surveyed};
 use crate::Chain;
 use crate::Surveyed;
 use crate::bounds::PORTFOLIO_NUMBERS;
 use crate::ranges::is_out_of_range;
+use crate::ranges::is_uncounted;
 use records::BLOCK_KIND;
 use records::STEP_KIND;
 use records::first_block;
@@ -91,6 +92,25 @@ pub fn survey_of(book: &[u8], chain: Chain) -> Surveyed
         outside,
         length,
     }
+}
+
+// Cause 9 along a chain, whatever its day.
+pub fn is_uncounted_on(book: &[u8], chain: Chain) -> bool
+    ensures { λ r. ⌜ r ≡ uncountedOn (now (book .entry)) chain ⌝ }
+{
+    let mut left = record_count(book);
+    let mut i = first_on(book, chain);
+    while 0 < left {
+        if i == 0 {
+            return false;
+        }
+        if is_uncounted(book, i) {
+            return true;
+        }
+        i = next_of(book, i);
+        left -= 1;
+    }
+    false
 }
 
 // How many records of a chain each portfolio has.

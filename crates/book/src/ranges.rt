@@ -1,8 +1,10 @@
-// The ranges of a record's fields (document 01, "The book in bytes"): cause 4 at one record, and the limits of an edition. Assumes nothing.
+// The ranges of a record's fields (document 01, "The book in bytes"): cause 4 at one record, and the limits of an edition; cause 9 at one record
+// (document 02). Assumes nothing.
 ghost use mathlib.Core.Path.{_≡_};
 ghost use Rattle.book.specs.Tests.{within};
 ghost use Rattle.rules.specs.Orders.{limits};
-ghost use Rattle.book.specs.Refusals.{stepFits, blockFits, stepInRange, blockInRange, outOfRange};
+ghost use Rattle.book.specs.Refusals.{stepFits, blockFits, stepInRange, blockInRange, outOfRange, uncounted};
+ghost use Rattle.records.specs.Records.{recordAt};
 use crate::bounds::FEWEST_HOURS;
 use crate::bounds::FIRST_BLOCK_QUANTITY;
 use crate::bounds::FIRST_BLOCKS_OF_PORTFOLIO;
@@ -12,11 +14,14 @@ use crate::bounds::MAX_PRICE;
 use crate::bounds::MOST_STEP_QUANTITY;
 use crate::bounds::NOTICE_BLOCK_QUANTITY;
 use crate::bounds::NOTICE_BLOCKS_OF_PORTFOLIO;
+use crate::hours::counted_hours;
+use crate::hours::is_counted;
 use records::Block;
 use records::LAST_HOUR;
 use records::LAST_SIDE;
 use records::Record;
 use records::Step;
+use records::day_hours;
 use records::edition_of;
 use records::hour_byte;
 use records::hour_count;
@@ -96,6 +101,19 @@ pub fn is_out_of_range(book: &[u8], i: u16) -> bool
     match found {
         Record::Step(step) => !is_step_in_range(book, i, step),
         Record::Block(block) => !is_block_in_range(book, i, block),
+        Record::Other => false,
+    }
+}
+
+// Whether record i is a step for an hour that does not count, or a block with fewer than two counted hours.
+pub fn is_uncounted(book: &[u8], i: u16) -> bool
+    ensures { λ r. ⌜ r ≡ uncounted (now (book .entry)) (recordAt (now (book .entry)) i) ⌝ }
+{
+    let day = day_hours(book);
+    let found = record_at(book, i);
+    match found {
+        Record::Step(step) => !is_counted(day, step.hour as u32),
+        Record::Block(block) => counted_hours(day, block.hours) < FEWEST_HOURS,
         Record::Other => false,
     }
 }

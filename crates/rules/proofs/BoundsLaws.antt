@@ -1,7 +1,7 @@
 -- HOW LARGE THE NUMBERS OF A DAY GET, for the code's number widths: of a day of at most 2,047 steps of at most 99,999 each and 32 blocks of at most
 -- 250 each, at prices up to 300000 and with no hour counted more than twice, value and welfare are below 2 ^ 47, traded quantities below
 -- 10 ^ 9, executed quantities at most 99,999; a price is at most 300000. Assumes nothing.
-use Prim.Native.Nat.{ℕ, zero, suc, _*_, _^_, _≤_, _<_}
+use Prim.Native.Nat.{ℕ, zero, suc, _-_, _*_, _^_, _≤_, _<_}
 use mathlib.Core.Bool.{Bool, true, false, cond}
 use mathlib.Core.List.{List, [], _∷_}
 use native.Mathlib.Omega.{arith}
@@ -13,6 +13,9 @@ use Rattle.rules.specs.Hour.{bySide, when, Pricing, cleared, doesNotClea
 use Rattle.rules.specs.Execution.{bought}
 use Rattle.rules.specs.Day.{
   Day,
+  changeHour,
+  springHours,
+  autumnHours,
   weight,
   sumTo,
   daySum,
@@ -58,10 +61,14 @@ pub record SmallDay (day : Day) : Type 0 where
   pub smallBlocks : EachBlock SmallBlock (day .blocks)
   pub atMostTwice : (h : ℕ) → weight (day .hours) h ≤ 2
 
--- Today every hour counts once.
-pub weight-small : (hours h : ℕ) → weight hours h ≤ 2
+-- No hour counts more than twice on a day of up to 25 hours.
+pub weight-small : (hours h : ℕ) → hours ≤ autumnHours → weight hours h ≤ 2
 unfolding weight
-weight-small hours h = omega arith
+weight-small hours h few = at (eqb h changeHour)
+  where
+    at : (t : Bool) → cond t (hours - springHours) 1 ≤ 2
+    at true = omega (arith, few)
+    at false = omega arith
 
 -- no edition lets a block have more
 pub limits-small : (edition : ℕ) → limits edition .blockQuantity ≤ mostBlockQuantity

@@ -30,6 +30,7 @@ use Rattle.rules.specs.Day.{
   Day,
   dayOf,
   weight,
+  isCounted,
   sumTo,
   daySum,
   allTo,
@@ -161,13 +162,13 @@ prices-tested day set = fun-ext (price-tested day set)
 -- THE DAY COMPUTES: `unfolding computed` opens all that a day's tested prices, limits, executed quantities and welfare compute through
 unfoldable pub computed : Unit {0}
 unfolding tested testedClears testedPrices low high leastOf greatestOf inRange clears buysAbove buysFrom sellsTo sellsBelow
-    dayOf canonical stepsOf weight sumTo daySum allTo everyHour hourCount priceSum keepsLimit keepsLimits allowed
+    dayOf canonical stepsOf weight isCounted sumTo daySum allTo everyHour hourCount priceSum keepsLimit keepsLimits allowed
     execution buyAmount sellAmount shares inStepOrder bought sold stepsValue stepsCost blocksValue blocksCost dayValue dayCost
 computed = tt
 
--- THE LAW OF `weight`, today: every hour of 1 to 24 counts
-pub hour-counts : {hours : ℕ} (h : ℕ) → (leb 1 h && leb h 24) ≡ true → Counts hours h
-unfolding weight
-hour-counts h e =
-    let t = both (leb 1 h) (leb h 24) e in
-    record { first = leb-true 1 h (t .0); last = leb-true h 24 (t .1); counted = omega arith }
+-- THE LAW OF `weight`: every hour of 1 to 24 counts, but for hour 3 on a day of 23 hours
+pub hour-counts : {hours : ℕ} (h : ℕ) → (leb 1 h && (leb h 24 && leb 1 (weight hours h))) ≡ true → Counts hours h
+hour-counts {hours} h e =
+    let t = both (leb 1 h) _ e in
+    let u = both (leb h 24) _ (t .1) in
+    record { first = leb-true 1 h (t .0); last = leb-true h 24 (u .0); counted = leb-true 1 (weight hours h) (u .1) }

@@ -1,6 +1,7 @@
--- Sums and tests over the hours of the day, each hour as often as it counts. They hold whatever `weight` says: only its name is used. Assumes nothing.
-use Prim.Native.Nat.{ℕ, zero, suc, _+_, _*_, _≤_, _<_}
-use mathlib.Core.Bool.{Bool, true, _||_}
+-- Sums and tests over the hours of the day, each hour as often as it counts. They hold whatever `weight` says: only its name is used. What it says of the
+-- hours stands at the end. Assumes nothing.
+use Prim.Native.Nat.{ℕ, zero, suc, _+_, _-_, _*_, _≤_, _<_}
+use mathlib.Core.Bool.{Bool, true, false, cond, not, _||_, false≢true}
 use mathlib.Core.Path.{_≡_, refl}
 use mathlib.Core.Logic.{_⊎_, inl, inr}
 use native.Mathlib.Omega.{arith}
@@ -8,7 +9,7 @@ use native.Mathlib.Nat.{le-suc-iff, mul-le-mul-left, mul-assoc, mul-comm, mul-ze
 use lib.Dec.{eqb}
 use borrow.Author.Tests.{eq-eqb, ne-eqb}
 use Rattle.rules.specs.Hour.{when}
-use Rattle.rules.specs.Day.{weight, sumTo, daySum, allTo, everyHour}
+use Rattle.rules.specs.Day.{changeHour, springHours, weight, isCounted, sumTo, daySum, allTo, everyHour}
 use Rattle.rules.specs.Contender.{Counts}
 use Rattle.rules.proofs.Tests.{both, by-eq}
 
@@ -139,3 +140,32 @@ hour-of (suc n) P a h f l = go (le-suc-iff .0 l) (λ k. hour-of n P (a .0) h f k
 
 pub each-hour : {hours : ℕ} (P : ℕ → Type 0) → HourByHour 24 P → (h : ℕ) → Counts hours h → P h
 each-hour P a h c = hour-of 24 P a h (c .first) (c .last)
+
+-- WHAT `weight` SAYS
+-- each hour counts once, but for the one in which the clocks change
+pub weight-else : (hours h : ℕ) → (h ≡ changeHour → ⊥) → weight hours h ≡ 1
+unfolding weight
+weight-else hours h other = rw (ne-eqb h changeHour other)
+
+-- so a sum over the day is the plain one with that hour as often as it counts
+pub change-apart : (hours : ℕ) (f : ℕ → ℕ) → daySum hours f + f changeHour ≡ sumTo 24 f + weight hours changeHour * f changeHour
+unfolding daySum sumTo weight
+change-apart hours f = omega arith
+
+-- an hour that counts at all
+pub counted : (hours h : ℕ) → isCounted hours h ≡ true → 1 ≤ weight hours h
+unfolding isCounted
+counted hours h e = at (weight hours h) e
+  where
+    at : (w : ℕ) → not (eqb w 0) ≡ true → 1 ≤ w
+    at zero e = absurd (false≢true e)
+    at (suc w) e = omega arith
+
+-- hours of 24 and more lack none
+pub all-counted : (hours h : ℕ) → springHours < hours → isCounted hours h ≡ true
+unfolding isCounted weight
+all-counted hours h long = at (eqb h changeHour)
+  where
+    at : (t : Bool) → not (eqb (cond t (hours - springHours) 1) 0) ≡ true
+    at true = rw (ne-eqb (hours - springHours) 0 (omega arith))
+    at false = refl

@@ -6,7 +6,7 @@ use mathlib.Core.List.{List, [], _∷_}
 use Rattle.rules.specs.Orders.{Block, Orders, executedOf}
 use Rattle.rules.specs.Day.{Day, dayOf, taken, hourOf, keepsLimits, lawful, executed, welfare, traded}
 use Rattle.rules.specs.Outcome.{allSets, bestOf, outcome, forHours, PublishedOutcome, published}
-use Rattle.rules.specs.WorkedDays.{PriceFact, WorkedDay, workedDays, furtherDays, Answered, Hold}
+use Rattle.rules.specs.WorkedDays.{PriceFact, WorkedDay, workedDays, furtherDays, changeDays, Answered, Hold}
 use Rattle.rules.proofs.CertifiedHours.{tested, tested-is, clears-tested, price-tested, prices-tested, computed}
 
 -- A VALUE THAT COMPUTES, with the proof that it is the one asked for
@@ -127,3 +127,9 @@ further-days-hold =
         ),
       ),
     )
+
+-- THE DAYS OF 23 AND 25 HOURS
+pub change-days-hold : Hold changeDays
+unfolding rowsCompute changeDays
+change-days-hold =
+    hold changeDays (refl, refl, tt, (refl, refl, (refl, tt), (refl, refl, tt, (refl, refl, tt, tt))))

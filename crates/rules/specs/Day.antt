@@ -1,7 +1,7 @@
 -- THE DAY (document 01, "The day"): the hours under a set of blocks, a block's limit, lawful sets, welfare. Definitions only. Assumes nothing.
 -- A set of the day's blocks is a list of decisions, the lowest-numbered block's first: true if it is taken.
 use Prim.Native.Nat.{ℕ, zero, suc, _+_, _-_, _*_, _/_, _%_}
-use mathlib.Core.Bool.{Bool, true, false, _&&_, _||_}
+use mathlib.Core.Bool.{Bool, true, false, cond, not, _&&_, _||_}
 use mathlib.Core.List.{List, [], _∷_}
 use lib.Dec.{leb, eqb}
 use lib.ListN.{drop, getD}
@@ -25,9 +25,23 @@ dayOf orders =
     }
 
 -- HOURS
--- How often hour h counts on a day of so many hours. Today every hour counts once.
+-- The hour in which the clocks change, and the hours of the day in spring that lacks it and of the day in autumn that has it twice.
+abbrev pub changeHour : ℕ
+changeHour = 3
+
+abbrev pub springHours : ℕ
+springHours = 23
+
+abbrev pub autumnHours : ℕ
+autumnHours = 25
+
+-- How often hour h counts on a day of so many hours: hour 3 not at all on 23 hours, once on 24, twice on 25; every other hour once.
 unfoldable pub weight : ℕ → ℕ → ℕ
-weight hours h = 1
+weight hours h = cond (eqb h changeHour) (hours - springHours) 1
+
+-- Whether an hour counts at all.
+unfoldable pub isCounted : ℕ → ℕ → Bool
+isCounted hours h = not (eqb (weight hours h) 0)
 
 -- The sum of a number of each of the hours 1 to n.
 unfoldable pub sumTo : ℕ → (ℕ → ℕ) → ℕ
@@ -95,7 +109,7 @@ hourClears day set h = isCleared (pricing (hourOf day set h))
 unfoldable pub setPrices : Day → List Block → ℕ → ℕ
 setPrices day set h = answeredPrice (pricing (hourOf day set h))
 
--- How many hours a block runs in, and the sum of prices over them.
+-- How many hours a block runs in, and the sum of prices over them, each hour as often as it counts.
 unfoldable pub hourCount : ℕ → Block → ℕ
 hourCount hours b = daySum hours (λ h. when (b .runs h) 1)
 

@@ -6,7 +6,8 @@ use mathlib.Core.List.{List, [], _∷_, _++_, map}
 use lib.Dec.{leb}
 use lib.ListN.{length, replicate}
 use Rattle.rules.specs.Orders.{Orders, canonical, executedOf}
-use Rattle.rules.specs.Day.{Day, dayOf, taken, lawful, welfare, setPrices, traded, executed}
+use Rattle.rules.specs.Hour.{when}
+use Rattle.rules.specs.Day.{Day, dayOf, isCounted, taken, lawful, welfare, setPrices, traded, executed}
 
 -- Every set of n blocks. Of two sets, the one that holds the lowest-numbered block in which they differ is listed first.
 unfoldable pub allSets : ℕ → List (List Bool)
@@ -31,7 +32,7 @@ unfoldable pub forHours : ℕ → (ℕ → ℕ) → List ℕ
 forHours zero f = []
 forHours (suc n) f = forHours n f ++ (f (suc n) ∷ [])
 
--- What is published of a book's orders.
+-- What is published of a book's orders. An hour that does not count has the price 0 and the traded quantity 0.
 pub record PublishedOutcome : Type 0 where
   pub welfare : ℕ
   pub prices : List ℕ
@@ -45,8 +46,8 @@ published orders =
     let set = taken (day .blocks) (outcome day) in
     record {
       welfare = welfare day (outcome day);
-      prices = forHours 24 (setPrices day set);
-      traded = forHours 24 (traded day set);
+      prices = forHours 24 (λ h. when (isCounted (day .hours) h) (setPrices day set h));
+      traded = forHours 24 (λ h. when (isCounted (day .hours) h) (traded day set h));
       chosen = outcome day;
       executed = executedOf (canonical orders .steps) (executed day set);
     }

@@ -194,6 +194,72 @@ furtherDays =
     }
     ∷ []
 
+-- DAYS OF 23 AND 25 HOURS: the first of hour 2, then the rest of the 24.
+-- A number for each of hours 2, 3 and 4, the other for the rest.
+abbrev pub hours234 : ℕ → (two three four : ℕ) → List ℕ
+hours234 other two three four = other ∷ two ∷ three ∷ four ∷ replicate 20 other
+
+-- A sell block of 50 over hours 2 and 3 (bits 6), and over hours 2, 3 and 4 (bits 14): price.
+abbrev pub block23 : ℕ → Block
+block23 price = block 1 sell 6 50 price
+
+abbrev pub block234 : ℕ → Block
+block234 price = block 1 sell 14 50 price
+
+-- A day of 25 hours: in hour 2 buy 100 at 5000 and sell 50 at 3000, in hour 3 buy 100 at 5000 and sell 100 at 3000, with a block over both. With it the
+-- prices are 4000 and 3000, counted 4000 + 2 × 3000.
+abbrev pub autumnDay : (limit : ℕ) (prices traded : List ℕ) → List Bool → List ℕ → ℕ → WorkedDay
+autumnDay limit prices traded chosen rows welfare =
+    record {
+      orders = record {
+        hours = 25;
+        steps = step 1 buy 2 100 5000 ∷ step 2 sell 2 50 3000 ∷ step 3 buy 3 100 5000 ∷ step 4 sell 3 100 3000 ∷ [];
+        blocks = block23 limit ∷ [];
+      };
+      publishes = record { welfare = welfare; prices = prices; traded = traded; chosen = chosen; executed = rows };
+      prices = [];
+    }
+
+unfoldable pub changeDays : List WorkedDay
+changeDays =
+    -- S5 moved to hours 2 and 3 of a day of 25: hour 3 counts twice in the welfare, its row has the hour's own figures
+    record {
+      orders = record {
+        hours = 25;
+        steps = step 1 buy 2 100 5000 ∷ step 2 sell 2 100 3000 ∷ step 3 buy 3 100 5000 ∷ step 4 sell 3 100 3000 ∷ [];
+        blocks = block23 2900 ∷ [];
+      };
+      publishes = record {
+        welfare = 615000;
+        prices = hours234 150000 3000 3000 150000;
+        traded = hours234 0 100 100 0;
+        chosen = true ∷ [];
+        executed = 100 ∷ 50 ∷ 100 ∷ 50 ∷ [];
+      };
+      prices = [];
+    }
+    -- S5 on a day of 23 with its steps in hours 2 and 4, its block over 2, 3 and 4: hour 3 needs no balance, its row is 0 and 0
+    ∷ record {
+      orders = record {
+        hours = 23;
+        steps = step 1 buy 2 100 5000 ∷ step 2 sell 2 100 3000 ∷ step 3 buy 4 100 5000 ∷ step 4 sell 4 100 3000 ∷ [];
+        blocks = block234 2900 ∷ [];
+      };
+      publishes = record {
+        welfare = 410000;
+        prices = hours234 150000 3000 0 3000;
+        traded = hours234 0 100 0 100;
+        chosen = true ∷ [];
+        executed = 100 ∷ 50 ∷ 100 ∷ 50 ∷ [];
+      };
+      prices = noAnswer (true ∷ []) 3 ∷ [];
+    }
+    -- a block whose price times three is the counted sum of 10000, rounded down, is taken
+    ∷ autumnDay 3333 (hours234 150000 4000 3000 150000) (hours234 0 100 100 0) (true ∷ []) (100 ∷ 50 ∷ 100 ∷ 50 ∷ []) 550050
+    -- one cent more, and it is left out, though the plain sum of 7000 would do for two hours
+    ∷ autumnDay 3334 (hours234 150000 5000 4000 150000) (hours234 0 50 100 0) (false ∷ []) (50 ∷ 50 ∷ 100 ∷ 100 ∷ []) 500000
+    ∷ []
+
 -- The hour is answered so.
 abbrev pub Answered : Orders → List PriceFact → Type 0
 Answered orders [] = Unit {0}

@@ -4,14 +4,11 @@ use borrow.Author.Needs.{needs}
 use Rattle.book.proofs.causes.has_wrong_head.Statement.{statement}
 use Rattle.book.proofs.causes.has_wrong_head.Tie as tie
 
-day-hours-requires : tie.Need-day-hours-requires
-day-hours-requires c κs = search needs
-
 cast-is-within : tie.Need-cast-is-within
 cast-is-within c = search needs
 
-edition-of-requires : tie.Need-edition-of-requires
-edition-of-requires c κs = search needs
+day-hours-requires : tie.Need-day-hours-requires
+day-hours-requires c κs = search needs
 
 cast-is-within-2 : tie.Need-cast-is-within-2
 cast-is-within-2 c = search needs
@@ -22,25 +19,51 @@ cast-is-within-3 c = search needs
 is-within-requires : tie.Need-is-within-requires
 is-within-requires c κs = search needs
 
+cast-is-within-4 : tie.Need-cast-is-within-4
+cast-is-within-4 c = search needs
+
+edition-of-requires : tie.Need-edition-of-requires
+edition-of-requires c κs = search needs
+
+cast-is-within-5 : tie.Need-cast-is-within-5
+cast-is-within-5 c = search needs
+
+cast-is-within-6 : tie.Need-cast-is-within-6
+cast-is-within-6 c = search needs
+
+is-within-requires-2 : tie.Need-is-within-requires-2
+is-within-requires-2 c κs = search needs
+
 is-nonzero-requires : tie.Need-is-nonzero-requires
 is-nonzero-requires c κs = search needs
 
 returns : tie.Need-returns
 unfolding wrongHead
 returns c =
-    let within = c .before in
-    let edition = within .before in
-    rw (c .is-nonzero .ensures, within .is-within .ensures, edition .edition-of .ensures, edition .before .day-hours .ensures)
+    let editions = c .before in
+    let edition = editions .before in
+    let days = edition .before in
+    rw (
+      c .is-nonzero .ensures,
+      editions .is-within2 .ensures,
+      edition .edition-of .ensures,
+      days .is-within .ensures,
+      days .before .day-hours .ensures,
+    )
 
 pub has-wrong-head-spec : {M : Type 1} → statement M
 has-wrong-head-spec =
     tie.close
     (tie.spec
-    day-hours-requires
     cast-is-within
-    edition-of-requires
+    day-hours-requires
     cast-is-within-2
     cast-is-within-3
     is-within-requires
+    cast-is-within-4
+    edition-of-requires
+    cast-is-within-5
+    cast-is-within-6
+    is-within-requires-2
     is-nonzero-requires
     returns)

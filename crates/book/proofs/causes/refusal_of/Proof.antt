@@ -33,9 +33,17 @@ has-crowded-portfolio-requires c κs = search needs
 next-found-requires-5 : tie.Need-next-found-requires-5
 next-found-requires-5 c κs = search needs
 
+has-wrong-hours-requires : tie.Need-has-wrong-hours-requires
+has-wrong-hours-requires c κs = search needs
+
+next-found-requires-6 : tie.Need-next-found-requires-6
+next-found-requires-6 c κs = search needs
+
 returns : tie.Need-returns
 returns c =
-    let crowded = c .before in
+    let hours = c .before in
+    let many = hours .before in
+    let crowded = many .before in
     let stray = crowded .before .before in
     let short = stray .before in
     let outside = short .before .before in
@@ -56,8 +64,9 @@ returns c =
     stray-found b _ _ _ _ (pre .1) (pre .2) (short .before .record-count .ensures) (short .are-short .ensures) (pre .0) (sym is-broken ∙ unbroken .1))
     (stray .next-found4 .ensures)
     in
-    let six = one-cause b _ _ 6 _ _ _ (omega arith) five (λ z. many-found b _ _ (pre .2) (crowded .has-crowded-portfolio .ensures)) (c .next-found5 .ensures) in
-    after-all b _ six
+    let six = one-cause b _ _ 6 _ _ _ (omega arith) five (λ z. many-found b _ _ (pre .2) (crowded .has-crowded-portfolio .ensures)) (many .next-found5 .ensures) in
+    let nine = one-cause b _ _ 9 _ _ _ (omega arith) six (λ z. hours .has-wrong-hours .ensures) (c .next-found6 .ensures) in
+    after-all b _ nine
 
 pub refusal-of-spec : {M : Type 1} → statement M
 refusal-of-spec =
@@ -72,4 +81,6 @@ refusal-of-spec =
     next-found-requires-4
     has-crowded-portfolio-requires
     next-found-requires-5
+    has-wrong-hours-requires
+    next-found-requires-6
     returns)
