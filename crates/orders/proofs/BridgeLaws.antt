@@ -1,24 +1,26 @@
--- THE BRIDGE HOLDS: an accepted book's orders are a day of the rules, of 24 hours, with every price, hour and quantity in its range; and its blocks are
--- those of the block columns. Assumes nothing.
-use Prim.Native.Nat.{ℕ, zero, suc, _+_, _*_, _≤_}
-use mathlib.Core.Bool.{Bool, true, false, cond}
-use mathlib.Core.Path.{_≡_, refl, ap, sym, _∙_}
+-- THE BRIDGE HOLDS: an accepted book's orders are a day of the rules, with every price, hour and quantity in its range and nothing offered in an hour that
+-- does not count; and its blocks are those of the block columns. Assumes nothing.
+use Prim.Native.Nat.{ℕ, _≤_}
+use mathlib.Core.Bool.{true}
+use mathlib.Core.Path.{_≡_, refl, ap, sym, _∙_, fun-ext}
 use mathlib.Core.List.{List, [], _∷_, map}
 use lib.ListN.{length, take, length-map}
 use Rattle.rules.specs.Orders.{mostBlockQuantity}
 use Rattle.rules.proofs.BoundsLaws.{limits-small}
 use native.Mathlib.Nat.{le-trans}
-use Rattle.records.specs.Records.{edition, number, sideByte, blockAt, holdsHour, hoursSet}
+use Rattle.records.specs.Records.{dayHours, edition, number, sideByte, stepAt, blockAt}
+use Rattle.book.specs.Hours.{countedHours}
 use Rattle.book.specs.Chains.{stepOrder, blockOrder}
 use Rattle.book.specs.Refusals.{Accepted}
 use Rattle.book.proofs.Members.{Each, each-map, each-image}
-use Rattle.book.proofs.Accepted.{StepRecord, BlockRecord, step-records, block-records, day-hours}
+use Rattle.book.proofs.Accepted.{StepRecord, BlockRecord, step-records, block-records, step-hours-counted, day-hours}
+use Rattle.book.proofs.HourLaws.{running-holds}
 use Rattle.rules.specs.Orders.{Step, Block, stepsOf, canonical}
-use Rattle.rules.specs.Day.{dayOf, weight, sumTo, daySum}
+use Rattle.rules.specs.Day.{autumnHours, isCounted, eachOnDay, dayOf}
 use Rattle.rules.specs.Day as day
-use Rattle.rules.specs.Hour.{when}
+use Rattle.rules.proofs.QuietHours.{StepsCount, Quiet, on-day-counts}
 use Rattle.rules.specs.Contender.{PricesInRange, HoursInRange}
-use Rattle.orders.specs.Bridge.{stepFrom, orderFrom, blockFrom, ordersOf, dayFrom}
+use Rattle.orders.specs.Bridge.{stepFrom, orderFrom, blockFrom, blockOn, ordersOf, dayFrom}
 use Rattle.orders.specs.Columns.{blockRecords, blockSideAt, blockHoursAt, blockPriceAt, blockQuantityAt, BlockColumns}
 use Rattle.orders.specs.Columns.{blockOf, blocksFrom}
 use Rattle.orders.proofs.FrontLaws.{block-records-front, block-sides-front, block-hours-front, block-prices-front, block-quantities-front}
@@ -36,14 +38,22 @@ pub day-steps : (b : List ℕ) → dayFrom b .steps ≡ map (stepFrom b) (stepOr
 unfolding dayFrom dayOf ordersOf canonical
 day-steps b = steps-from b (stepOrder b)
 
-pub day-blocks : (b : List ℕ) → dayFrom b .blocks ≡ map (blockFrom b) (blockOrder b)
-unfolding dayFrom dayOf ordersOf canonical
-day-blocks b = refl
+blocks-on : (b : List ℕ) (l : List ℕ) → eachOnDay (dayHours b) (map (blockFrom b) l) ≡ map (blockOn b) l
+unfolding eachOnDay
+blocks-on b [] = refl
+blocks-on b (k ∷ l) = ap (λ (m : List Block). blockOn b k ∷ m) (blocks-on b l)
 
--- The day has 24 hours
-pub day-has-24 : (b : List ℕ) → Accepted b → dayFrom b .hours ≡ 24
+pub day-blocks : (b : List ℕ) → dayFrom b .blocks ≡ map (blockOn b) (blockOrder b)
 unfolding dayFrom dayOf ordersOf canonical
-day-has-24 b a = day-hours b a
+day-blocks b = blocks-on b (blockOrder b)
+
+-- The day has as many hours as the head says, 23 to 25
+pub day-hours-read : (b : List ℕ) → dayFrom b .hours ≡ dayHours b
+unfolding dayFrom dayOf ordersOf canonical
+day-hours-read b = refl
+
+pub day-short : (b : List ℕ) → Accepted b → dayFrom b .hours ≤ autumnHours
+day-short b a = rw (day-hours-read b) (day-hours b a .1)
 
 -- RANGES
 -- A step of the rules within the ranges of document 01
@@ -61,7 +71,7 @@ step-in-range : (b : List ℕ) (k : ℕ) → StepRecord b k → StepInRange (ste
 unfolding stepFrom
 step-in-range b k r = record { hour = r .fields .hour; price = r .fields .price; quantity = r .fields .quantity }
 
-block-in-range : (b : List ℕ) (k : ℕ) → BlockRecord b k → BlockInRange (blockFrom b k)
+block-in-range : (b : List ℕ) (k : ℕ) → BlockRecord b k → BlockInRange (blockOn b k)
 unfolding blockFrom
 block-in-range b k r =
     record { price = r .fields .price; quantity = (r .fields .quantity .0, le-trans (r .fields .quantity .1) (limits-small (edition b))) }
@@ -76,8 +86,8 @@ steps-in-range b a =
 pub blocks-in-range : (b : List ℕ) → Accepted b → Each BlockInRange (dayFrom b .blocks)
 blocks-in-range b a =
     rw (day-blocks b)
-    (each-image BlockInRange (blockFrom b) (blockOrder b)
-    (each-map (BlockRecord b) (λ k. BlockInRange (blockFrom b k)) (blockOrder b) (block-in-range b) (block-records b a)))
+    (each-image BlockInRange (blockOn b) (blockOrder b)
+    (each-map (BlockRecord b) (λ k. BlockInRange (blockOn b k)) (blockOrder b) (block-in-range b) (block-records b a)))
 
 -- What the rules ask of a day's steps
 prices-of : (l : List Step) → Each StepInRange l → PricesInRange l
@@ -94,13 +104,30 @@ prices-in-range b a = prices-of (dayFrom b .steps) (steps-in-range b a)
 pub hours-in-range : (b : List ℕ) → Accepted b → HoursInRange (dayFrom b .steps)
 hours-in-range b a = hours-of (dayFrom b .steps) (steps-in-range b a)
 
+-- Nothing is offered in an hour that does not count
+steps-quiet : (hours : ℕ) (b : List ℕ) (l : List ℕ) → Each (λ k. isCounted hours (stepAt b k .hour) ≡ true) l → StepsCount hours (map (stepFrom b) l)
+unfolding stepFrom
+steps-quiet hours b [] c = tt
+steps-quiet hours b (k ∷ l) c = (c .0, steps-quiet hours b l (c .1))
+
+pub day-quiet : (b : List ℕ) → Accepted b → Quiet (dayFrom b)
+unfolding dayFrom dayOf ordersOf canonical
+day-quiet b a =
+    record {
+      steps = rw (steps-from b (stepOrder b)) (steps-quiet (dayHours b) b (stepOrder b) (step-hours-counted b a));
+      blocks = on-day-counts (dayHours b) (map (blockFrom b) (blockOrder b));
+    }
+
 -- BLOCKS OUT OF THEIR COLUMNS
 block-same : (b : List ℕ) (k : ℕ) → BlockRecord b k
-    → blockFrom b k ≡ blockOf (number b k) (blockSideAt b k) (blockHoursAt b k) (blockPriceAt b k) (blockQuantityAt b k)
+    → blockOn b k ≡ blockOf (number b k) (blockSideAt b k) (blockHoursAt b k) (blockPriceAt b k) (blockQuantityAt b k)
 unfolding blockFrom blockAt
-block-same b k r = let n = block-as-read b k r in rw (n .side, n .hours, n .price, n .quantity, side-same (sideByte b k))
+block-same b k r =
+    let n = block-as-read b k r in
+    let runs = fun-ext (λ h. running-holds (dayHours b) (blockAt b k .hours) h) in
+    rw (n .side, n .hours, n .price, n .quantity, runs, side-same (sideByte b k))
 
-blocks-from : (b : List ℕ) (l : List ℕ) → Each (BlockRecord b) l → map (blockFrom b) l
+blocks-from : (b : List ℕ) (l : List ℕ) → Each (BlockRecord b) l → map (blockOn b) l
     ≡ blocksFrom b l (map (blockSideAt b) l) (map (blockHoursAt b) l) (map (blockPriceAt b) l) (map (blockQuantityAt b) l)
 unfolding blocksFrom
 blocks-from b [] r = refl
@@ -129,17 +156,8 @@ block-count b count records sides hours prices quantities c a =
     rw (day-blocks b, length-map, ← blocks-all b a) (sym (c .counted))
 
 -- HOURS OF A BLOCK
-hours-counted : (n hours x : ℕ) → sumTo n (λ h. weight hours h * when (holdsHour x h) 1) ≡ hoursSet n x
-unfolding sumTo weight hoursSet
-hours-counted zero hours x = refl
-hours-counted (suc n) hours x = rw (hours-counted n hours x) (at (holdsHour x (suc n)))
-  where
-    at : (t : Bool) → hoursSet n x + 1 * when t 1 ≡ hoursSet n x + cond t 1 0
-    at true = refl
-    at false = refl
-
--- A block of the rules runs in as many hours as its 24 bits say
+-- A block of the rules has as many hours as its 24 bits say, each as often as it counts
 pub hour-count : (day-hours number side hours price quantity : ℕ)
-    → day.hourCount day-hours (blockOf number side hours price quantity) ≡ hoursSet 24 hours
-unfolding day.hourCount daySum
-hour-count day-hours number side hours price quantity = hours-counted 24 day-hours hours
+    → day.hourCount day-hours (blockOf number side hours price quantity) ≡ countedHours day-hours hours
+unfolding day.hourCount countedHours
+hour-count day-hours number side hours price quantity = refl

@@ -6,7 +6,8 @@ use native.Mathlib.Omega.{arith}
 use lib.ListN.{length, take, getD}
 use lib.Seq.{getD-take}
 use native.Mathlib.Nat.{le-trans}
-use Rattle.records.specs.Records.{edition, sideByte, stepAt, blockAt, hoursSet}
+use Rattle.records.specs.Records.{dayHours, edition, sideByte, stepAt, blockAt}
+use Rattle.book.specs.Hours.{runningHours}
 use Rattle.rules.specs.Orders.{mostBlockQuantity}
 use Rattle.rules.proofs.BoundsLaws.{limits-small}
 use Rattle.book.specs.Refusals.{Accepted}
@@ -69,11 +70,10 @@ step-place b ends records sides prices quantities c a i h =
 pub record BlockPlace (b : List ℕ) (k side hours price quantity : ℕ) : Type 0 where
   pub known : BlockRecord b k
   pub sideIs : side ≡ sideByte b k
-  pub hoursIs : hours ≡ blockAt b k .hours
+  pub hoursIs : hours ≡ runningHours (dayHours b) (blockAt b k .hours)
   pub priceIs : price ≡ blockAt b k .price
   pub quantityIs : quantity ≡ blockAt b k .quantity
   pub sideRange : side ≤ 1
-  pub hoursCount : 2 ≤ hoursSet 24 hours
   pub priceRange : (1 ≤ price) × (price ≤ 300000)
   pub quantityRange : (1 ≤ quantity) × (quantity ≤ mostBlockQuantity)
 
@@ -88,7 +88,6 @@ block-placed b k side hours price quantity r s x p q =
       priceIs = p ∙ n .price;
       quantityIs = q ∙ n .quantity;
       sideRange = rw (s ∙ n .side) (r .side);
-      hoursCount = rw (x ∙ n .hours) (r .fields .hours);
       priceRange = rw (p ∙ n .price) (r .fields .price);
       quantityRange = rw (q ∙ n .quantity) (r .fields .quantity .0, le-trans (r .fields .quantity .1) (limits-small (edition b)));
     }

@@ -1,4 +1,4 @@
--- S1 TO S10 FROM BOOK BYTES: each book is accepted, its orders are those of the rules' table, and so what is published of it is what the table says.
+-- S1 TO S10, AND THE DAYS OF 23 AND 25 HOURS, FROM BOOK BYTES: each book is accepted, its orders are those of the rules' table, and so what is published of it is what the table says.
 -- Reading computes; the rules are not computed again. Assumes nothing.
 use Prim.Native.Nat.{ℕ}
 use mathlib.Core.Path.{_≡_, refl, ap, _∙_}
@@ -28,15 +28,20 @@ use Rattle.book.specs.Refusals.{
   ownedBy,
   tooManyOf,
   tooManyBlocks,
+  wrongHours,
+  uncounted,
+  uncountedOn,
   firstCause,
   ownCauses,
   refusal,
 }
+use Rattle.book.specs.Hours.{countedHours}
+use Rattle.rules.specs.Day.{weight, isCounted, sumTo, daySum}
 use Rattle.rules.specs.Outcome.{published}
-use Rattle.rules.specs.WorkedDays.{WorkedDay, workedDays, Hold}
-use Rattle.rules.proofs.WorkedDayLaws.{worked-days-hold}
+use Rattle.rules.specs.WorkedDays.{WorkedDay, workedDays, changeDays, Hold}
+use Rattle.rules.proofs.WorkedDayLaws.{worked-days-hold, change-days-hold}
 use Rattle.orders.specs.Bridge.{stepFrom, orderFrom, blockFrom, ordersOf}
-use Rattle.orders.specs.WorkedBooks.{chained, bookOf, workedBooks, EachWorked}
+use Rattle.orders.specs.WorkedBooks.{chained, bookOn, workedBooks, changeBooks, EachWorked}
 
 -- Every book of a list is accepted
 AllAccepted : List (List ℕ) → Type 0
@@ -62,15 +67,30 @@ worked (b ∷ books) (d ∷ days) a r h = (
 )
 
 books-accepted : AllAccepted workedBooks
-unfolding AllAccepted workedBooks bookOf chained refusal ownCauses firstCause wrongSize wrongHead brokenChain brokenOn broken misplaced wrongField wrongFieldOn
+unfolding AllAccepted workedBooks bookOn chained refusal ownCauses firstCause wrongSize wrongHead brokenChain brokenOn broken misplaced wrongField wrongFieldOn
     outOfRange recordInRange stepInRange blockInRange stepFits blockFits strayRecord stray tooManyBlocks tooManyOf ownedBy within someBelow someIn countIn
-    nonzero limits hoursSet recordAt stepAt blockAt chainFrom chains isOn u16At u24At u32At
+    nonzero limits hoursSet recordAt stepAt blockAt chainFrom chains isOn u16At u24At u32At wrongHours
 books-accepted = (refl, (refl, (refl, (refl, (refl, (refl, (refl, (refl, (refl, (refl, tt))))))))))
 
 books-read : AllRead workedBooks workedDays
-unfolding AllRead workedBooks workedDays bookOf chained ordersOf orderFrom stepFrom blockFrom stepAt blockAt stepOrder blockOrder chainFrom u16At u24At u32At
+unfolding AllRead workedBooks workedDays bookOn chained ordersOf orderFrom stepFrom blockFrom stepAt blockAt stepOrder blockOrder chainFrom u16At u24At u32At
 books-read = (refl, (refl, (refl, (refl, (refl, (refl, (refl, (refl, (refl, (refl, tt))))))))))
 
 -- S1 TO S10
 pub worked-books-hold : EachWorked workedBooks workedDays
 worked-books-hold = worked workedBooks workedDays books-accepted books-read worked-days-hold
+
+-- THE DAYS OF 23 AND 25 HOURS
+change-books-accepted : AllAccepted changeBooks
+unfolding AllAccepted changeBooks bookOn chained refusal ownCauses firstCause wrongSize wrongHead brokenChain brokenOn broken misplaced wrongField wrongFieldOn
+    outOfRange recordInRange stepInRange blockInRange stepFits blockFits strayRecord stray tooManyBlocks tooManyOf ownedBy within someBelow someIn countIn
+    nonzero limits hoursSet recordAt stepAt blockAt chainFrom chains isOn u16At u24At u32At
+    wrongHours uncountedOn uncounted countedHours isCounted weight daySum sumTo
+change-books-accepted = (refl, (refl, (refl, (refl, tt))))
+
+change-books-read : AllRead changeBooks changeDays
+unfolding AllRead changeBooks changeDays bookOn chained ordersOf orderFrom stepFrom blockFrom stepAt blockAt stepOrder blockOrder chainFrom u16At u24At u32At
+change-books-read = (refl, (refl, (refl, (refl, tt))))
+
+pub change-books-hold : EachWorked changeBooks changeDays
+change-books-hold = worked changeBooks changeDays change-books-accepted change-books-read change-days-hold

@@ -7,7 +7,7 @@ use Rattle.book.specs.Chains.{stepOrder, blockOrder}
 use Rattle.records.specs.declared.Side as read
 use Rattle.records.specs.declared.Side.the-variants as read-side
 use Rattle.rules.specs.Orders.{Side, buy, sell, Step, Order, Block, Orders}
-use Rattle.rules.specs.Day.{Day, dayOf}
+use Rattle.rules.specs.Day.{Day, onDay, dayOf}
 
 -- Buy or sell.
 abbrev pub sideFrom : read.Side → Side
@@ -38,6 +38,10 @@ blockFrom b k =
       quantity = blockAt b k .quantity;
       runs = holdsHour (blockAt b k .hours);
     }
+
+-- The same on the book's day: it runs in those of its hours that count.
+abbrev pub blockOn : List ℕ → ℕ → Block
+blockOn b k = onDay (dayHours b) (blockFrom b k)
 
 -- The orders of a book: the steps and the blocks, each in their order.
 unfoldable pub ordersOf : List ℕ → Orders

@@ -1,11 +1,13 @@
--- THE WORKED DAYS S1 TO S10 AS BOOKS (document 01, "Days to check by hand", "The book in bytes"): each day of the rules' table written out in bytes.
+-- THE WORKED DAYS S1 TO S10 AS BOOKS (document 01, "Days to check by hand", "The book in bytes"), and those of 23 and 25 hours: each day of the rules' tables
+-- written out in bytes.
 -- The numbers and portfolios of the base book are decision 23's. `proofs/WorkedBookLaws.antt` proves the whole table. Definitions only. Assumes nothing.
 use Prim.Native.Nat.{ℕ, suc, _+_, _/_, _%_}
 use mathlib.Core.Path.{_≡_}
 use mathlib.Core.List.{List, [], _∷_, _++_}
 use lib.ListN.{length, replicate}
 use Rattle.records.specs.Layout.{stepKind, blockKind, headRestSize}
-use Rattle.book.specs.Bounds.{normalHours, firstEdition}
+use Rattle.book.specs.Bounds.{firstEdition}
+use Rattle.rules.specs.Day.{normalHours, springHours, autumnHours}
 use Rattle.book.specs.Refusals.{refusal}
 use Rattle.rules.specs.Outcome.{published}
 use Rattle.rules.specs.WorkedDays.{WorkedDay, Answered}
@@ -42,12 +44,16 @@ abbrev pub firstAt : ℕ → List (ℕ → List ℕ) → ℕ
 firstAt k [] = 0
 firstAt k (r ∷ l) = k
 
--- A book: the head, the steps from record 1 on, the blocks after them.
-unfoldable pub bookOf : List (ℕ → List ℕ) → List (ℕ → List ℕ) → List ℕ
-bookOf steps blocks =
-    two (1 + length steps + length blocks) ++ two (firstAt 1 steps) ++ two (firstAt (1 + length steps) blocks) ++ normalHours ∷ firstEdition
+-- A book of a day of so many hours: the head, the steps from record 1 on, the blocks after them.
+unfoldable pub bookOn : ℕ → List (ℕ → List ℕ) → List (ℕ → List ℕ) → List ℕ
+bookOn hours steps blocks =
+    two (1 + length steps + length blocks) ++ two (firstAt 1 steps) ++ two (firstAt (1 + length steps) blocks) ++ hours ∷ firstEdition
     ∷ replicate headRestSize 0
     ++ chained 1 steps ++ chained (1 + length steps) blocks
+
+-- A book of a day of 24.
+abbrev pub bookOf : List (ℕ → List ℕ) → List (ℕ → List ℕ) → List ℕ
+bookOf = bookOn normalHours
 
 -- THE BOOKS
 -- A step of portfolio 1, which buys, and of portfolio 2, which sells: number, hour, quantity, price.
@@ -78,6 +84,25 @@ workedBooks =
     ∷ bookOf (buyStep 1 1 100 300000 ∷ sellStep 2 1 60 2000 ∷ []) []
     ∷ bookOf (sellStep 1 1 100 1 ∷ []) []
     ∷ bookOf (sellStep 1 1 60 3000 ∷ sellStep 2 1 60 3000 ∷ buyStep 3 1 100 5000 ∷ []) []
+    ∷ []
+
+-- A sell block of 50 of portfolio 3: hours as bits, price.
+abbrev pub sellBlockOver : ℕ → ℕ → ℕ → List ℕ
+sellBlockOver hours = blockRecord 1 1 3 hours 50
+
+-- A book of a day of 25 hours with 50 or 100 to sell in hour 2: its block over hours 2 and 3 (bits 6).
+abbrev pub autumnBook : (soldFirst limit : ℕ) → List ℕ
+autumnBook soldFirst limit =
+    bookOn autumnHours (buyStep 1 2 100 5000 ∷ sellStep 2 2 soldFirst 3000 ∷ buyStep 3 3 100 5000 ∷ sellStep 4 3 100 3000 ∷ [])
+    (sellBlockOver 6 limit ∷ [])
+
+-- The books of the days of 23 and 25 hours, in the order of the rules' table; on 23 hours the block runs over hours 2, 3 and 4 (bits 14).
+unfoldable pub changeBooks : List (List ℕ)
+changeBooks =
+    autumnBook 100 2900
+    ∷ bookOn springHours (buyStep 1 2 100 5000 ∷ sellStep 2 2 100 3000 ∷ buyStep 3 4 100 5000 ∷ sellStep 4 4 100 3000 ∷ []) (sellBlockOver 14 2900 ∷ [])
+    ∷ autumnBook 50 3333
+    ∷ autumnBook 50 3334
     ∷ []
 
 -- A book is accepted, all that is published of it is what a worked day says, and so are the prices told of it.

@@ -22,6 +22,7 @@ pub mod LossLaws
 pub mod LossSearchLaws
 pub mod SetBits
 pub mod PlaceLaws
+pub mod QuietHours
 pub mod LawCutLaws
 pub mod TwinLaws
 pub mod OutcomeRulesLaws

@@ -11,7 +11,7 @@ use lib.Dec.{leb}
 use borrow.Author.Tests.{lt-ltb}
 use Rattle.rules.specs.Orders.{buy, sell, maxPrice, canonical}
 use Rattle.rules.specs.Hour.{Hour, clears, least, doesNotClear, pricing, isCleared, answeredPrice}
-use Rattle.rules.specs.Day.{dayOf, weight, everyHour, taken, hourOf}
+use Rattle.rules.specs.Day.{dayOf, eachOnDay, weight, everyHour, taken, hourOf}
 use Rattle.rules.specs.Contender.{Counts}
 use Rattle.rules.specs.Cases.{
   Case,
@@ -122,7 +122,7 @@ unfolding pricing
 no-price = rw (no-least (least (clears nothingHour) maxPrice) (least-is (clears nothingHour) maxPrice))
 
 pub sold-at-nothing : Breaks soldAtNothing (λ o. o .clearsAll)
-unfolding dayOf canonical weight nothingHour
+unfolding dayOf eachOnDay canonical weight nothingHour
 sold-at-nothing all = false≢true (rw no-price at (all 24 (hour-counts 24 refl)))
 
 -- ALL RULES KEPT

@@ -54,7 +54,7 @@ published-as orders chosen best asked e =
 -- THE TABLE, as it computes
 abbrev AnsweredTested : Orders → List PriceFact → Type 0
 AnsweredTested orders [] = Unit {0}
-AnsweredTested orders (f ∷ l) = (tested (hourOf (dayOf orders) (taken (orders .blocks) (f .set)) (f .hour)) ≡ f .answer) × AnsweredTested orders l
+AnsweredTested orders (f ∷ l) = (tested (hourOf (dayOf orders) (taken (dayOf orders .blocks) (f .set)) (f .hour)) ≡ f .answer) × AnsweredTested orders l
 
 abbrev HoldTested : List WorkedDay → Type 0
 HoldTested [] = Unit {0}
@@ -132,4 +132,4 @@ further-days-hold =
 pub change-days-hold : Hold changeDays
 unfolding rowsCompute changeDays
 change-days-hold =
-    hold changeDays (refl, refl, tt, (refl, refl, (refl, tt), (refl, refl, tt, (refl, refl, tt, tt))))
+    hold changeDays (refl, refl, tt, (refl, refl, tt, (refl, refl, tt, (refl, refl, tt, tt))))

@@ -15,19 +15,13 @@ pub record Day : Type 0 where
   pub steps : List Step
   pub blocks : List Block
 
--- The day that a book's orders make.
-unfoldable pub dayOf : Orders → Day
-dayOf orders =
-    record {
-      hours = canonical orders .hours;
-      steps = stepsOf (canonical orders .steps);
-      blocks = canonical orders .blocks;
-    }
-
 -- HOURS
--- The hour in which the clocks change, and the hours of the day in spring that lacks it and of the day in autumn that has it twice.
+-- The hour in which the clocks change; the hours of a day, of the one in spring that lacks it, and of the one in autumn that has it twice.
 abbrev pub changeHour : ℕ
 changeHour = 3
+
+abbrev pub normalHours : ℕ
+normalHours = 24
 
 abbrev pub springHours : ℕ
 springHours = 23
@@ -42,6 +36,25 @@ weight hours h = cond (eqb h changeHour) (hours - springHours) 1
 -- Whether an hour counts at all.
 unfoldable pub isCounted : ℕ → ℕ → Bool
 isCounted hours h = not (eqb (weight hours h) 0)
+
+-- THE DAY of a book's orders
+-- A block on a day of so many hours: it runs in those of its hours that count.
+abbrev pub onDay : ℕ → Block → Block
+onDay hours b =
+    record { number = b .number; side = b .side; price = b .price; quantity = b .quantity; runs = λ h. b .runs h && isCounted hours h }
+
+unfoldable pub eachOnDay : ℕ → List Block → List Block
+eachOnDay hours [] = []
+eachOnDay hours (b ∷ l) = onDay hours b ∷ eachOnDay hours l
+
+-- The day that a book's orders make.
+unfoldable pub dayOf : Orders → Day
+dayOf orders =
+    record {
+      hours = canonical orders .hours;
+      steps = stepsOf (canonical orders .steps);
+      blocks = eachOnDay (canonical orders .hours) (canonical orders .blocks);
+    }
 
 -- The sum of a number of each of the hours 1 to n.
 unfoldable pub sumTo : ℕ → (ℕ → ℕ) → ℕ

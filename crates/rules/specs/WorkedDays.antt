@@ -252,7 +252,7 @@ changeDays =
         chosen = true ∷ [];
         executed = 100 ∷ 50 ∷ 100 ∷ 50 ∷ [];
       };
-      prices = noAnswer (true ∷ []) 3 ∷ [];
+      prices = [];
     }
     -- a block whose price times three is the counted sum of 10000, rounded down, is taken
     ∷ autumnDay 3333 (hours234 150000 4000 3000 150000) (hours234 0 100 100 0) (true ∷ []) (100 ∷ 50 ∷ 100 ∷ 50 ∷ []) 550050
@@ -264,7 +264,7 @@ changeDays =
 abbrev pub Answered : Orders → List PriceFact → Type 0
 Answered orders [] = Unit {0}
 Answered orders (f ∷ l) =
-    (pricing (hourOf (dayOf orders) (taken (orders .blocks) (f .set)) (f .hour)) ≡ f .answer) × Answered orders l
+    (pricing (hourOf (dayOf orders) (taken (dayOf orders .blocks) (f .set)) (f .hour)) ≡ f .answer) × Answered orders l
 
 -- Every day of a table is published as the table says, and its hours answered so.
 abbrev pub Hold : List WorkedDay → Type 0
