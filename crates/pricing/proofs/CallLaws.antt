@@ -2,14 +2,14 @@
 use Prim.Native.Nat.{ℕ, zero, suc, _+_, _-_, _/_, _^_, _≤_, _<_}
 use mathlib.Core.Path.{_≡_, refl, sym, ap, subst, _∙_}
 use mathlib.Core.List.{List, [], _∷_, _++_}
-use mathlib.Core.Bool.{Bool, true, false, cond, not, _&&_, _||_, true≢false}
+use mathlib.Core.Bool.{Bool, true, false, cond, not, _&&_, _||_}
 use native.Mathlib.Omega.{arith}
 use native.Mathlib.Nat.{le-div-iff-mul-le, div-lt-iff-lt-mul}
 use lib.Pow.{pow-pos, pow-mono}
 use lib.Dec.{eqb, leb, ltb}
 use lib.ListN.{length, take, drop, getD, length-drop}
 use lib.Seq.{slice, length-take-le, getD-take}
-use borrow.Author.Tests.{eq-eqb, ne-eqb, le-leb, lt-leb}
+use borrow.Author.Tests.{eq-eqb, ne-eqb, lt-leb, not-false}
 use Rattle.book.specs.Tests.{within}
 use Rattle.book.specs.Chains.{blockOrder}
 use Rattle.book.specs.Refusals.{Accepted, refusal, firstCause, ownCauses}
@@ -18,9 +18,11 @@ use Rattle.book.proofs.Refused.{bounds, refusal-then}
 use Rattle.rules.specs.Orders.{Block, mostBlockQuantity}
 use Rattle.orders.specs.Layout.{blockPlaces}
 use Rattle.rules.specs.Hour.{Pricing, cleared, doesNotClear, pricing}
-use Rattle.rules.specs.Day.{stepsIn, taken, decisions, overBlocks, sells, buys}
+use Rattle.records.specs.Records.{dayHours}
+use Rattle.book.proofs.Laws.{or-left, and-left}
+use Rattle.rules.specs.Day.{isCounted, stepsIn, taken, decisions, overBlocks, sells, buys}
 use Rattle.rules.specs.Contender.{PricesInRange}
-use Rattle.rules.proofs.Tests.{by-le, by-lt, by-eq}
+use Rattle.rules.proofs.Tests.{by-le, by-eq}
 use Rattle.rules.proofs.PricingLaws.{pricing-net}
 use Rattle.rules.proofs.ChainLaws.{prices-in}
 use Rattle.orders.specs.Bridge.{dayFrom}
@@ -30,7 +32,7 @@ use Rattle.orders.proofs.BridgeLaws.{prices-in-range, blocks-from-columns, bloc
 use Rattle.orders.proofs.PlaceLaws.{block-place}
 use Rattle.pricing.proofs.TraderLaws.{traders-same, traders-within}
 use Rattle.pricing.specs.Curves.{bias, mostTraded, tradersFrom, TradesOf}
-use Rattle.pricing.specs.Answers.{answerFor, AnswerOf, blocksOf, NetOf, hourAnswered, wrongCall, priceCauses, hourAnswer, numberOf}
+use Rattle.pricing.specs.Answers.{answerFor, AnswerOf, blocksOf, NetOf, hourAnswered, hasHour, wrongCall, priceCauses, hourAnswer, numberOf}
 use Rattle.pricing.specs.declared.HourAnswer.{HourAnswer}
 use Rattle.pricing.specs.declared.HourAnswer.the-variants.{Refused}
 
@@ -147,23 +149,15 @@ module _ (b : List ℕ) (a : Accepted b) (set hour : ℕ) where
   call-answered e = rw (causes-are, e)
 
   pub call-bounds : wrongCall b set hour ≡ false → (1 ≤ hour) × (hour ≤ 24)
-  unfolding wrongCall
-  call-bounds e = bounds 1 hour 24 (inside (within 1 hour 24) refl)
-    where
-      inside : (t : Bool) → within 1 hour 24 ≡ t → t ≡ true
-      inside true k = refl
-      inside false k = absurd (true≢false (ap (λ t. not t || leb (2 ^ length (blockOrder b)) set) (sym k) ∙ e))
+  unfolding wrongCall hasHour
+  call-bounds e =
+      let t = within 1 hour 24 in
+      bounds 1 hour 24 (and-left t _ (not-false _ (or-left (not (t && isCounted (dayHours b) hour)) _ e)))
 
   -- the code's test for 8
-  pub wrong-is : (absent : Bool) → absent ≡ leb (2 ^ length (blockOrder b)) set → ((ltb hour 1 || ltb 24 hour) || absent) ≡ wrongCall b set hour
-  unfolding wrongCall within
-  wrong-is absent e =
-      rw e (by-lt (λ t. ((t || ltb 24 hour) || x) ≡ (not (leb 1 hour && leb hour 24) || x)) hour 1
-      (λ k. rw (lt-leb 1 hour k))
-      (λ k. rw (le-leb 1 hour k) (by-lt (λ t. (t || x) ≡ (not (leb hour 24) || x)) 24 hour (λ j. rw (lt-leb hour 24 j)) (λ j. rw (le-leb hour 24 j)))))
-    where
-      x : Bool
-      x = leb (2 ^ length (blockOrder b)) set
+  pub wrong-is : (has absent : Bool) → has ≡ hasHour (dayHours b) hour → absent ≡ leb (2 ^ length (blockOrder b)) set → (not has || absent) ≡ wrongCall b set hour
+  unfolding wrongCall
+  wrong-is has absent h e = rw (h, e)
 
 -- THE NUMBER of an answer is that of the first cause that holds, 0 where the hour is answered
 pub number-answered : (b : List ℕ) (set hour : ℕ) → numberOf (hourAnswer b set hour) ≡ firstCause (priceCauses b set hour)

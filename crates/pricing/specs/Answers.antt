@@ -2,17 +2,18 @@
 -- Assumes nothing.
 use Prim.Native.Nat.{ℕ, _+_, _^_, _<_}
 use mathlib.Core.List.{List, [], _∷_, _++_}
-use mathlib.Core.Bool.{Bool, cond, not, _||_}
+use mathlib.Core.Bool.{Bool, cond, not, _&&_, _||_}
 use mathlib.Core.Path.{_≡_}
 use lib.Dec.{eqb, leb}
 use lib.ListN.{length}
 use Rattle.records.specs.Layout.{lastHour}
+use Rattle.records.specs.Records.{dayHours}
 use Rattle.book.specs.Tests.{within}
 use Rattle.book.specs.Chains.{blockOrder}
 use Rattle.book.specs.Refusals.{ownCauses, firstCause}
 use Rattle.rules.specs.Hour.{Pricing, cleared, doesNotClear, pricing}
 use Rattle.rules.specs.Orders.{Block}
-use Rattle.rules.specs.Day.{taken, decisions, overBlocks, sells, buys, hourOf}
+use Rattle.rules.specs.Day.{isCounted, taken, decisions, overBlocks, sells, buys, hourOf}
 use Rattle.rules.specs.Contender.{PricesInRange}
 use Rattle.orders.specs.Bridge.{dayFrom}
 use Rattle.orders.specs.Columns.{stepsFrom}
@@ -31,9 +32,13 @@ numberOf (Cleared low high price) = 0
 numberOf NotClearing = 0
 numberOf (Refused n) = n
 
--- 8: hour outside 1 to 24, or a set that names a block position not there.
+-- A day of so many hours has hour h: it is from 1 to 24, and counts.
+unfoldable pub hasHour : ℕ → ℕ → Bool
+hasHour hours h = within 1 h lastHour && isCounted hours h
+
+-- 8: an hour that the day has not, or a set that names a block position not there.
 unfoldable pub wrongCall : List ℕ → ℕ → ℕ → Bool
-wrongCall b set hour = not (within 1 hour lastHour) || leb (2 ^ length (blockOrder b)) set
+wrongCall b set hour = not (hasHour (dayHours b) hour) || leb (2 ^ length (blockOrder b)) set
 
 -- The causes of a pricing call in the order in which they are looked for: the book's own, then 8.
 unfoldable pub priceCauses : List ℕ → ℕ → ℕ → List (Bool × ℕ)

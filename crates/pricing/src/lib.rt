@@ -9,15 +9,17 @@ ghost use Rattle.records.specs.Layout.{lastHour};
 ghost use Rattle.orders.specs.Layout.{blockPlaces};
 ghost use Rattle.orders.specs.Bridge.{dayFrom};
 ghost use Rattle.pricing.specs.Curves.{bias};
-ghost use Rattle.pricing.specs.Answers.{answerFor, NetOf, hourAnswer};
+ghost use Rattle.pricing.specs.Answers.{answerFor, NetOf, hasHour, hourAnswer};
 use crate::blocks::trades_of;
 use crate::hour::answer_of;
 use book::Reading;
+use book::hours::is_counted;
 use book::read;
 use orders::blocks_of;
 use orders::layout::BLOCK_PLACES;
 use orders::steps_of;
 use records::LAST_HOUR;
+use records::day_hours;
 
 pub mod blocks;
 pub mod execution;
@@ -37,6 +39,13 @@ pub enum HourAnswer {
     Cleared { low: u32, high: u32, price: u32 },
     NotClearing,
     Refused(u8),
+}
+
+// Whether a day of so many hours has the hour.
+fn has_hour(day: u8, hour: u32) -> bool
+    ensures { λ r. ⌜ r ≡ hasHour day hour ⌝ }
+{
+    (1 <= hour) & (hour <= LAST_HOUR) & is_counted(day, hour)
 }
 
 // Whether the set names a block position that is not there: a bit at or past the count.
@@ -99,7 +108,7 @@ pub fn price(book: &[u8], set: u32, hour: u32) -> HourAnswer
     match reading {
         Reading::Refused(number) => HourAnswer::Refused(number),
         Reading::Accepted { steps: _, blocks } => {
-            if (hour < 1) | (LAST_HOUR < hour) | names_absent(set, blocks as u32) {
+            if !has_hour(day_hours(book), hour) | names_absent(set, blocks as u32) {
                 HourAnswer::Refused(WRONG_CALL)
             } else {
                 answer_in(book, hour, net_in(book, set, hour))

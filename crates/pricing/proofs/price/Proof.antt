@@ -2,13 +2,13 @@
 use native.Mathlib.Omega.{arith}
 use Prim.Native.Nat.{_^_}
 use mathlib.Core.Path.{_≡_, sym, ap, _∙_}
-use mathlib.Core.Bool.{_||_}
-use lib.Dec.{leb, ltb}
+use mathlib.Core.Bool.{not, _||_}
+use lib.Dec.{leb}
 use borrow.Author.Needs.{needs}
 use Rattle.book.specs.Refusals.{Accepted}
 use Rattle.book.proofs.Accepted.{accepted, blocks-few}
 use Rattle.book.proofs.Refused.{answer-accepted, answer-refused}
-use Rattle.pricing.specs.Answers.{wrongCall}
+use Rattle.pricing.specs.Answers.{hasHour, wrongCall}
 use Rattle.pricing.proofs.CallLaws.{call-refused, call-wrong, call-answered, hour-answered, wrong-is, call-bounds}
 use Rattle.pricing.proofs.price.Statement.{statement}
 use Rattle.pricing.proofs.price.Tie as tie
@@ -22,9 +22,15 @@ enum-known-reading c = search needs
 enum-known-reading-2 : tie.Need-enum-known-reading-2
 enum-known-reading-2 c = search needs
 
+day-hours-requires : tie.Need-day-hours-requires
+day-hours-requires c κs = search needs
+
+has-hour-requires : tie.Need-has-hour-requires
+has-hour-requires c κs = search needs
+
 cast-names-absent : tie.Need-cast-names-absent
 cast-names-absent c =
-    let k = c .before in
+    let k = c .before .before .before in
     let e = answer-accepted _ _ _ (sym (k .before .before .read .ensures) ∙ k .reading2 .given .1) in
     omega (arith, e .2, blocks-few _ (accepted _ (e .0)))
 
@@ -35,23 +41,27 @@ names-absent-requires c κs = search needs
 book-accepted : (k : tie.After-reading2) → Accepted (k .before .before .before .before .args .book .now)
 book-accepted k = accepted _ (answer-accepted _ _ _ (sym (k .before .before .read .ensures) ∙ k .reading2 .given .1) .0)
 
+-- the reader's answer, on the way to the test
+abbrev reading-of : tie.After-names-absent → tie.After-reading2
+reading-of n = n .before .before .before .before
+
 -- the test for 8
-tested : (n : tie.After-names-absent) →
-    ((ltb (n .before .before .before .before .before .before .args .hour) 1 || ltb 24 (n .before .before .before .before .before .before .args .hour))
-    || n .names-absent .result)
-    ≡ wrongCall (n .before .before .before .before .before .before .args .book .now) (n .before .before .before .before .before .before .args .set) (n .before .before .before .before .before .before .args .hour)
+tested : (n : tie.After-names-absent) → (not (n .before .has-hour .result) || n .names-absent .result)
+    ≡ wrongCall (reading-of n .before .before .before .before .args .book .now) (reading-of n .before .before .before .before .args .set)
+    (reading-of n .before .before .before .before .args .hour)
 tested n =
-    let k = n .before .before in
+    let k = reading-of n in
     let a = book-accepted k in
     let e = answer-accepted _ _ _ (sym (k .before .before .read .ensures) ∙ k .reading2 .given .1) in
     let start = k .before .before .before .before in
-    wrong-is _ a (start .args .set) (start .args .hour) _
+    wrong-is _ a (start .args .set) (start .args .hour) _ _
+    (n .before .has-hour .ensures ∙ ap (λ day. hasHour day (start .args .hour)) (n .before .before .day-hours .ensures))
     (n .names-absent .ensures (omega (arith, e .2, blocks-few _ a)) ∙ ap (λ m. leb (2 ^ m) (start .args .set)) (e .2))
 
 net-in-requires : tie.Need-net-in-requires
 net-in-requires c κs =
     let n = c .before in
-    let a = book-accepted (n .before .before) in
+    let a = book-accepted (reading-of n) in
     let e = call-bounds _ a _ _ (sym (tested n) ∙ c .if1 .left) in (a, e .0, e .1)
 
 answer-in-requires : tie.Need-answer-in-requires
@@ -66,13 +76,13 @@ returns c =
 returns-2 : tie.Need-returns-2
 returns-2 c =
     let n = c .before in
-    sym (call-wrong _ (book-accepted (n .before .before)) _ _ (sym (tested n) ∙ c .if1 .taken))
+    sym (call-wrong _ (book-accepted (reading-of n)) _ _ (sym (tested n) ∙ c .if1 .taken))
 
 returns-3 : tie.Need-returns-3
 returns-3 c =
     let n = c .before .before .before in
     let wrong = sym (tested n) ∙ c .before .before .if1 .left in
-    c .answer-in .ensures ∙ hour-answered _ _ _ _ (c .before .net-in .ensures) ∙ sym (call-answered _ (book-accepted (n .before .before)) _ _ wrong)
+    c .answer-in .ensures ∙ hour-answered _ _ _ _ (c .before .net-in .ensures) ∙ sym (call-answered _ (book-accepted (reading-of n)) _ _ wrong)
 
 pub price-spec : {M : Type 1} → statement M
 price-spec =
@@ -81,6 +91,8 @@ price-spec =
     read-requires
     enum-known-reading
     enum-known-reading-2
+    day-hours-requires
+    has-hour-requires
     cast-names-absent
     names-absent-requires
     net-in-requires
