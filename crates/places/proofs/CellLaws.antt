@@ -15,7 +15,7 @@ use Rattle.rules.specs.Day.{sumTo}
 use Rattle.rules.proofs.Tests.{clash}
 use Rattle.book.proofs.Laws.{or-left, or-right}
 use Rattle.places.specs.Layout.{hourPlaces, lastPlace, mostGaps}
-use Rattle.places.specs.Hours.{Small, rowWidth, lastIn, HasRows, cell, ofHour, PlacesClear, GapsOf, PricesOf, nearest, leastGaps}
+use Rattle.places.specs.Hours.{Small, rowWidth, lastIn, HasRows, cell, ofHour, PlacesClear, GapsOf, PricesOf, nearest, leastGap}
 use Rattle.places.proofs.NumberLaws.{below-next, zeros}
 
 -- ROWS: a place of a row is within the table
@@ -70,7 +70,7 @@ module _ (gap first last places : List ℕ) where
   passed-fits m h small t = omega (arith, ltb-false (getD last h 0) (getD places h 0) (or-right (ltb (getD places h 0) (getD first h 0)) _ t), small h)
 
   pub gaps-out : (h : ℕ) → h < hourPlaces → (ltb (getD places h 0) (getD first h 0) || ltb (getD last h 0) (getD places h 0)) ≡ true →
-      GapsOf gap first last places false 0
+      GapsOf (sumTo hourPlaces) mostGaps gap first last places false 0
   gaps-out h k t = record {
     inRange = λ e. let z : _≡_ {A = ℕ} 0 1 = cc in absurd (omega arith);
     notInRange = λ _ r.
@@ -80,7 +80,7 @@ module _ (gap first last places : List ℕ) where
     fits = omega arith;
   }
 
-  pub gaps-all : (h sum : ℕ) → GapsTo h sum → hourPlaces ≤ h → GapsOf gap first last places true sum
+  pub gaps-all : (h sum : ℕ) → GapsTo h sum → hourPlaces ≤ h → GapsOf (sumTo hourPlaces) mostGaps gap first last places true sum
   gaps-all h sum g k =
       let e : h ≡ hourPlaces = omega (arith, g .inside) in
       record {
@@ -148,7 +148,7 @@ places-small m first last places r small e i = at (native.Mathlib.Decide.decLe h
 module _ (gap turn from to : List ℕ) where
   pub record LeastTo (h sum : ℕ) : Type 0 where
     pub inside : h ≤ hourPlaces
-    pub is : sum ≡ sumTo h (λ k. cell gap k (nearest (ofHour turn k) (ofHour from k) (ofHour to k)))
+    pub is : sum ≡ sumTo h (leastGap gap turn from to)
     pub fits : sum ≤ h * 2 ^ 32
 
   pub least-start : LeastTo 0 0
@@ -160,8 +160,7 @@ module _ (gap turn from to : List ℕ) where
   unfolding sumTo
   least-next h sum near g k e small = record { inside = omega arith; is = rw (g .is, e, add-one, sub-one); fits = omega (arith, g .fits) }
 
-  pub least-all : (h sum : ℕ) → LeastTo h sum → hourPlaces ≤ h → (sum ≡ leastGaps gap turn from to) × (sum ≤ mostGaps)
-  unfolding leastGaps
+  pub least-all : (h sum : ℕ) → LeastTo h sum → hourPlaces ≤ h → (sum ≡ sumTo hourPlaces (leastGap gap turn from to)) × (sum ≤ mostGaps)
   least-all h sum g k =
       let e : h ≡ hourPlaces = omega (arith, g .inside) in
       (rw (g .is, e), omega (arith, g .fits))

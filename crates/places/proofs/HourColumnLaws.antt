@@ -10,13 +10,12 @@ use lib.Dec.{eqb}
 use lib.ListN.{length, getD, set, length-set}
 use lib.Seq.{getD-set-same, getD-set-other}
 use lib.Pow.{shr-shr}
-use Rattle.rules.specs.Orders.{maxPrice}
 use Rattle.rules.specs.Hour.{when}
 use Rattle.rules.specs.Day.{sumTo}
 use Rattle.rules.proofs.Tests.{by-eq}
 use Rattle.rules.proofs.CurveLaws.{when-le}
 use Rattle.records.specs.Records.{holdsHour}
-use Rattle.places.specs.Layout.{hourPlaces, mostLimit}
+use Rattle.places.specs.Layout.{hourPlaces, mostCounted, mostLimit}
 use Rattle.places.specs.Hours.{Small, sumOfHours}
 
 -- a bit times a number
@@ -79,13 +78,13 @@ pub record SummedTo (column : List ℕ) (hours h rest sum : ℕ) : Type 0 where
   pub bits : rest ≡ hours / 2 ^ h
   pub inside : h ≤ hourPlaces
   pub is : sum ≡ sumTo h (λ k. when (holdsHour hours k) (getD column (k - 1) 0))
-  pub fits : sum ≤ h * maxPrice
+  pub fits : sum ≤ h * mostCounted
 
 pub sum-start : (column : List ℕ) (hours : ℕ) → SummedTo column hours 0 hours 0
 unfolding sumTo
 sum-start column hours = record { bits = sym (div-one hours); inside = omega arith; is = refl; fits = omega arith }
 
-pub sum-next : (column : List ℕ) (hours h rest sum : ℕ) → Small maxPrice column → SummedTo column hours h rest sum → h < hourPlaces →
+pub sum-next : (column : List ℕ) (hours h rest sum : ℕ) → Small mostCounted column → SummedTo column hours h rest sum → h < hourPlaces →
     SummedTo column hours (h + 1) (rest / 2) (sum + rest % 2 * getD column h 0)
 unfolding sumTo
 sum-next column hours h rest sum small m k =

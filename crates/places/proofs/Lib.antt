@@ -3,6 +3,7 @@ pub mod NumberLaws
 pub mod HourColumnLaws
 pub mod StepLaws
 pub mod CellLaws
+pub mod CountedLaws
 pub mod LimitLaws
 pub mod AddedLaws
 pub mod TradeLaws

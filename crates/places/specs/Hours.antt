@@ -3,21 +3,21 @@ use Prim.Native.Nat.{ℕ, _+_, _-_, _*_, _/_, _≤_, _<_}
 use mathlib.Core.Bool.{Bool, true, false, cond}
 use mathlib.Core.List.{List}
 use mathlib.Core.Path.{_≡_}
-use lib.Dec.{leb}
-use lib.ListN.{length, take, drop, getD}
+use lib.Dec.{leb, eqb}
+use lib.ListN.{length, take, drop, getD, set}
 use Rattle.rules.specs.Orders.{maxPrice}
 use Rattle.rules.specs.Hour.{when}
-use Rattle.rules.specs.Day.{sumTo}
+use Rattle.rules.specs.Day.{changeHour, sumTo}
 use Rattle.records.specs.Records.{holdsHour}
-use Rattle.places.specs.Layout.{hourPlaces, lastPlace, mostGaps, turnColumn}
+use Rattle.places.specs.Layout.{hourPlaces, lastPlace, mostCounted, turnColumn, changePlace, changeRow}
 
 -- Every number of a list is at most m.
 abbrev pub Small : ℕ → List ℕ → Type 0
 Small m l = (i : ℕ) → getD l i 0 ≤ m
 
--- A price of at most the greatest for each hour.
+-- A price for each hour, as it counts.
 abbrev pub DayPrices : List ℕ → Type 0
-DayPrices l = (length l ≡ hourPlaces) × Small maxPrice l
+DayPrices l = (length l ≡ hourPlaces) × Small mostCounted l
 
 -- Every one of the first n numbers of a list is at most m.
 abbrev pub FirstSmall : ℕ → ℕ → List ℕ → Type 0
@@ -26,6 +26,18 @@ FirstSmall n m l = (i : ℕ) → i < n → getD l i 0 ≤ m
 -- The sum of a column of hours over the hours of a block, given as bits.
 unfoldable pub sumOfHours : List ℕ → ℕ → ℕ
 sumOfHours column hours = sumTo hourPlaces (λ h. when (holdsHour hours h) (getD column (h - 1) 0))
+
+-- THE HOURS AS THEY COUNT: hour 3 so often, the others once.
+abbrev pub timesIn : ℕ → ℕ → ℕ
+timesIn often h = cond (eqb h changeHour) often 1
+
+-- The sum of a number of each hour.
+unfoldable pub sumOver : ℕ → (ℕ → ℕ) → ℕ
+sumOver often f = sumTo hourPlaces (λ h. timesIn often h * f h)
+
+-- A column of prices with each as it counts.
+abbrev pub countedColumn : ℕ → List ℕ → List ℕ
+countedColumn often column = set column changeRow (often * getD column changeRow 0)
 
 -- THE TABLES: a row of places for each hour, hour 1 first, as wide as the table has room for.
 abbrev pub rowWidth : List ℕ → ℕ
@@ -47,7 +59,8 @@ cell table h i = getD table ((h - 1) * rowWidth table + i) 0
 abbrev pub ofHour : List ℕ → ℕ → ℕ
 ofHour column h = getD column (h - 1) 0
 
--- THE HOURS: three columns: the first and the last place at which each clears, and the place of its least gap, where its gaps turn.
+-- THE HOURS: three columns: the first and the last place at which each clears, and the place of its least gap, where its gaps turn; and how often hour 3
+-- counts.
 abbrev pub clearsFirst : List ℕ → List ℕ
 clearsFirst hours = take hourPlaces hours
 
@@ -57,16 +70,19 @@ clearsLast hours = take hourPlaces (drop hourPlaces hours)
 abbrev pub gapsTurn : List ℕ → List ℕ
 gapsTurn hours = take hourPlaces (drop turnColumn hours)
 
+abbrev pub changeOften : List ℕ → ℕ
+changeOften hours = getD hours changePlace 0
+
 -- Each hour clears at its place, the place lying from the hour's first to its last.
 abbrev pub PlacesClear : List ℕ → List ℕ → List ℕ → Type 0
 PlacesClear first last places = (h : ℕ) → 1 ≤ h → h ≤ hourPlaces → (ofHour first h ≤ ofHour places h) × (ofHour places h ≤ ofHour last h)
 
--- The gaps at the places: their sum where every place is in range.
-pub record GapsOf (gap first last places : List ℕ) (clears : Bool) (sum : ℕ) : Type 0 where
+-- The gaps at the places: their sum, by one way to add up or another, where every place is in range.
+pub record GapsOf (sumOf : (ℕ → ℕ) → ℕ) (most : ℕ) (gap first last places : List ℕ) (clears : Bool) (sum : ℕ) : Type 0 where
   pub inRange : clears ≡ true → PlacesClear first last places
   pub notInRange : clears ≡ false → PlacesClear first last places → ⊥
-  pub sumIs : clears ≡ true → sum ≡ sumTo hourPlaces (λ h. cell gap h (ofHour places h))
-  pub fits : sum ≤ mostGaps
+  pub sumIs : clears ≡ true → sum ≡ sumOf (λ h. cell gap h (ofHour places h))
+  pub fits : sum ≤ most
 
 -- The prices at the places: the middle of the two neighbouring entries.
 pub record PricesOf (unitPrices places prices : List ℕ) : Type 0 where
@@ -83,6 +99,6 @@ smaller a b = cond (leb a b) a b
 abbrev pub nearest : ℕ → ℕ → ℕ → ℕ
 nearest n a b = smaller (larger n a) b
 
--- The sum of the hours' gaps at the places from `from` to `to` that are nearest to where the gaps turn.
-unfoldable pub leastGaps : (gap turn from to : List ℕ) → ℕ
-leastGaps gap turn from to = sumTo hourPlaces (λ h. cell gap h (nearest (ofHour turn h) (ofHour from h) (ofHour to h)))
+-- The gap of each hour at the place from `from` to `to` that is nearest to where its gaps turn.
+abbrev pub leastGap : (gap turn from to : List ℕ) → ℕ → ℕ
+leastGap gap turn from to h = cell gap h (nearest (ofHour turn h) (ofHour from h) (ofHour to h))

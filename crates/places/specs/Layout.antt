@@ -8,6 +8,10 @@ use Rattle.rules.specs.Orders.{maxPrice, mostBlockQuantity}
 abbrev pub hourPlaces : ℕ
 hourPlaces = lastHour
 
+-- The row of hour 3, in which the clocks change.
+abbrev pub changeRow : ℕ
+changeRow = 2
+
 -- The most that a block trades in an hour, in any edition.
 abbrev pub mostQuantity : ℕ
 mostQuantity = mostBlockQuantity
@@ -16,9 +20,12 @@ mostQuantity = mostBlockQuantity
 abbrev pub lastPlace : ℕ
 lastPlace = mostBlocks * mostQuantity
 
--- The most that a block asks for over its hours: the highest price in each of 24.
+-- The most that an hour's price comes to as it counts, once or twice, and the most that a block asks for over 24 such hours.
+abbrev pub mostCounted : ℕ
+mostCounted = 2 * maxPrice
+
 abbrev pub mostLimit : ℕ
-mostLimit = hourPlaces * maxPrice
+mostLimit = hourPlaces * mostCounted
 
 -- ROOM, for safe arithmetic: what the search lets a block trade in an hour, and a place come to. Far above what a book's blocks do, and far from the end of
 -- 32 bits.
@@ -28,26 +35,32 @@ mostAdded = 50000
 abbrev pub mostPlace : ℕ
 mostPlace = mostBlocks * mostAdded
 
--- What all blocks lose, and what the gaps of all hours come to: each of them a number of 32 bits.
+-- What all blocks lose, what the gaps of all hours come to, and what they come to as they count: each of them a number of 32 bits, one of them twice.
 abbrev pub mostLoss : ℕ
 mostLoss = mostBlocks * 2 ^ 32
 
 abbrev pub mostGaps : ℕ
 mostGaps = hourPlaces * 2 ^ 32
 
+abbrev pub mostCountedGaps : ℕ
+mostCountedGaps = mostGaps + 2 ^ 32
+
 -- The threshold of the last pass, 2 to the power of 39: every lawful set loses less than the two together.
 abbrev pub lastLimit : ℕ
 lastLimit = 549755813888
 
--- THE HOURS: the columns first, last and turn in one list.
+-- THE HOURS: the columns first, last and turn in one list, and how often hour 3 counts.
 abbrev pub lastColumn : ℕ
 lastColumn = hourPlaces
 
 abbrev pub turnColumn : ℕ
 turnColumn = lastColumn + hourPlaces
 
+abbrev pub changePlace : ℕ
+changePlace = turnColumn + hourPlaces
+
 abbrev pub hourListSize : ℕ
-hourListSize = turnColumn + hourPlaces
+hourListSize = changePlace + 1
 
 -- THE BLOCKS: eight columns in one list, from sides (at 0) to twins, then a row of 24 hours for each block.
 abbrev pub hoursColumn : ℕ

@@ -2,24 +2,27 @@
 // place: the price at a place is the middle of two neighbours. An hour that has a buy of 2 at 5000, a sell of 1 at 3000 and no block that buys has the row
 // 5000, 5000, 3000, 1, ..: at place 0 its price is 5000, at place 1 the middle of 5000 and 3000.
 ghost use mathlib.Core.Path.{_≡_};
-ghost use Prim.Native.Nat.{ℕ, _≤_, _<_};
+ghost use Prim.Native.Nat.{ℕ, _+_, _*_, _≤_, _<_};
 ghost use lib.ListN.{length, getD};
 ghost use Rattle.rules.specs.Orders.{maxPrice};
-ghost use Rattle.places.specs.Layout.{hourPlaces, mostGaps};
-ghost use Rattle.places.specs.Hours.{Small, HasRows, lastIn, GapsOf, PricesOf, leastGaps};
+ghost use Rattle.rules.specs.Day.{sumTo};
+ghost use Rattle.places.specs.Layout.{hourPlaces, mostGaps, mostCountedGaps};
+ghost use Rattle.places.specs.Hours.{Small, DayPrices, sumOver, countedColumn, HasRows, lastIn, GapsOf, PricesOf, leastGap};
+use crate::layout::CHANGE_ROW;
 use crate::layout::HOURS;
 use crate::numbers::larger;
 use crate::numbers::smaller;
 
-// The gaps of all hours at their places, where each hour clears at its place.
+// Whether each hour clears at its place, and the sum of the gaps there.
 pub struct Gaps {
     pub clears: bool,
     pub sum: u64,
 }
 
-pub fn gaps_at(gap: &[u32], first: &[u32], last: &[u32], places: [u32; HOURS]) -> Gaps
+// The gaps of all hours at their places, each hour once.
+fn gaps_at(gap: &[u32], first: &[u32], last: &[u32], places: [u32; HOURS]) -> Gaps
     requires { ⌜ HasRows (now gap) × (length (now first) ≡ hourPlaces) × (length (now last) ≡ hourPlaces) × Small (lastIn (now gap)) (now last) ⌝ }
-    ensures { λ r. ⌜ GapsOf (now (gap .entry)) (now (first .entry)) (now (last .entry)) places (r .clears) (r .sum) ⌝ }
+    ensures { λ r. ⌜ GapsOf (sumTo hourPlaces) mostGaps (now (gap .entry)) (now (first .entry)) (now (last .entry)) places (r .clears) (r .sum) ⌝ }
 {
     let width = gap.len() / HOURS;
     let mut sum: u64 = 0;
@@ -58,10 +61,20 @@ pub fn prices_at(unit_prices: &[u32], places: [u32; HOURS]) -> [u32; HOURS]
     prices
 }
 
-// The sum of the hours' least gaps over the places from `from` to `to`.
-pub fn least_gaps(gap: &[u32], turn: &[u32], from: [u32; HOURS], to: [u32; HOURS]) -> u64
+// The prices as they count, hour 3's so often.
+pub fn counted_prices(prices: [u32; HOURS], often: u32) -> [u32; HOURS]
+    requires { ⌜ Small maxPrice prices × (often ≤ 2) ⌝ }
+    ensures { λ r. ⌜ (r ≡ countedColumn often prices) × DayPrices r ⌝ }
+{
+    let mut counted = prices;
+    counted[CHANGE_ROW] = often * prices[CHANGE_ROW];
+    counted
+}
+
+// The sum of the hours' least gaps over the places from `from` to `to`, each hour once.
+fn least_gaps(gap: &[u32], turn: &[u32], from: [u32; HOURS], to: [u32; HOURS]) -> u64
     requires { ⌜ HasRows (now gap) × (length (now turn) ≡ hourPlaces) × ((h : ℕ) → h < hourPlaces → getD to h 0 ≤ lastIn (now gap)) ⌝ }
-    ensures { λ r. ⌜ (r ≡ leastGaps (now (gap .entry)) (now (turn .entry)) from to) × (r ≤ mostGaps) ⌝ }
+    ensures { λ r. ⌜ (r ≡ sumTo hourPlaces (leastGap (now (gap .entry)) (now (turn .entry)) from to)) × (r ≤ mostGaps) ⌝ }
 {
     let width = gap.len() / HOURS;
     let mut sum: u64 = 0;
@@ -72,4 +85,53 @@ pub fn least_gaps(gap: &[u32], turn: &[u32], from: [u32; HOURS], to: [u32; HOURS
         h += 1;
     }
     sum
+}
+
+// A sum over the hours with hour 3's own number so often.
+fn counted_sum(sum: u64, own: u32, often: u32) -> u64
+    requires { ⌜ (own ≤ sum) × (sum ≤ mostGaps) × (often ≤ 2) ⌝ }
+    ensures { λ r. ⌜ (r + own ≡ sum + often * own) × (r ≤ mostCountedGaps) ⌝ }
+{
+    sum - (own as u64) + (often as u64) * (own as u64)
+}
+
+// The gaps of all hours at their places, hour 3's so often.
+pub fn counted_gaps(
+    gap: &[u32],
+    first: &[u32],
+    last: &[u32],
+    places: [u32; HOURS],
+    often: u32,
+) -> Gaps
+    requires { ⌜ HasRows (now gap) × (length (now first) ≡ hourPlaces) × (length (now last) ≡ hourPlaces) × Small (lastIn (now gap)) (now last) × (often ≤ 2) ⌝ }
+    ensures { λ r. ⌜ GapsOf (sumOver often) mostCountedGaps (now (gap .entry)) (now (first .entry)) (now (last .entry)) places (r .clears) (r .sum) ⌝ }
+{
+    let width = gap.len() / HOURS;
+    let once = gaps_at(gap, first, last, places);
+    if !once.clears {
+        return once;
+    }
+    let own = gap[CHANGE_ROW * width + (places[CHANGE_ROW] as usize)];
+    Gaps {
+        clears: true,
+        sum: counted_sum(once.sum, own, often),
+    }
+}
+
+// The sum of the hours' least gaps over the places from `from` to `to`, hour 3's so often.
+pub fn counted_least_gaps(
+    gap: &[u32],
+    turn: &[u32],
+    from: [u32; HOURS],
+    to: [u32; HOURS],
+    often: u32,
+) -> u64
+    requires { ⌜ HasRows (now gap) × (length (now turn) ≡ hourPlaces) × ((h : ℕ) → h < hourPlaces → getD to h 0 ≤ lastIn (now gap)) × (often ≤ 2) ⌝ }
+    ensures { λ r. ⌜ (r ≡ sumOver often (leastGap (now (gap .entry)) (now (turn .entry)) from to)) × (r ≤ mostCountedGaps) ⌝ }
+{
+    let width = gap.len() / HOURS;
+    let once = least_gaps(gap, turn, from, to);
+    let place = smaller(larger(turn[CHANGE_ROW], from[CHANGE_ROW]), to[CHANGE_ROW]);
+    let own = gap[CHANGE_ROW * width + (place as usize)];
+    counted_sum(once, own, often)
 }

@@ -24,6 +24,11 @@ unfolding sumTo
 sumTo-same zero f g k = refl
 sumTo-same (suc n) f g k = omega (arith, sumTo-same n f g k, k (suc n))
 
+pub sumTo-in : (n : ℕ) (f g : ℕ → ℕ) → ((h : ℕ) → 1 ≤ h → h ≤ n → f h ≡ g h) → sumTo n f ≡ sumTo n g
+unfolding sumTo
+sumTo-in zero f g k = refl
+sumTo-in (suc n) f g k = omega (arith, sumTo-in n f g (λ h a b. k h a (omega arith)), k (suc n) (omega arith) (omega arith))
+
 pub sumTo-add : (n : ℕ) (f g : ℕ → ℕ) → sumTo n (λ h. f h + g h) ≡ sumTo n f + sumTo n g
 unfolding sumTo
 sumTo-add zero f g = omega arith
@@ -148,9 +153,13 @@ unfolding weight
 weight-else hours h other = rw (ne-eqb h changeHour other)
 
 -- so a sum over the day is the plain one with that hour as often as it counts
+pub times-apart : (often : ℕ) (f : ℕ → ℕ) → sumTo 24 (λ h. cond (eqb h changeHour) often 1 * f h) + f changeHour ≡ sumTo 24 f + often * f changeHour
+unfolding sumTo
+times-apart often f = omega arith
+
 pub change-apart : (hours : ℕ) (f : ℕ → ℕ) → daySum hours f + f changeHour ≡ sumTo 24 f + weight hours changeHour * f changeHour
-unfolding daySum sumTo weight
-change-apart hours f = omega arith
+unfolding daySum weight
+change-apart hours f = times-apart (hours - springHours) f
 
 -- an hour that counts at all
 pub counted : (hours h : ℕ) → isCounted hours h ≡ true → 1 ≤ weight hours h
