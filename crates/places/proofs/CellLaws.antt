@@ -121,6 +121,7 @@ module _ (unitPrices places : List ℕ) where
         are = λ j a b.
             let at : (j - 1) * rowWidth unitPrices + (ofHour places j + 1) ≡ (j - 1) * rowWidth unitPrices + ofHour places j + 1 = omega arith in
             rw at (g .done (j - 1) (omega arith));
+        size = g .size;
         small = λ i. fits i (native.Mathlib.Decide.decLe hourPlaces i);
       }
     where

@@ -87,6 +87,7 @@ pub record GapsOf (sumOf : (ℕ → ℕ) → ℕ) (most : ℕ) (gap first last p
 -- The prices at the places: the middle of the two neighbouring entries.
 pub record PricesOf (unitPrices places prices : List ℕ) : Type 0 where
   pub are : (h : ℕ) → 1 ≤ h → h ≤ hourPlaces → ofHour prices h ≡ (cell unitPrices h (ofHour places h) + cell unitPrices h (ofHour places h + 1)) / 2
+  pub size : length prices ≡ hourPlaces
   pub small : Small maxPrice prices
 
 -- The larger and the smaller of two numbers; the number from a to b that is nearest to n.

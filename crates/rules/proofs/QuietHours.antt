@@ -10,7 +10,8 @@ use lib.ListN.{length}
 use borrow.Author.Tests.{ne-eqb}
 use Rattle.rules.specs.Orders.{Step, Block}
 use Rattle.rules.specs.Day.{Day, isCounted, onDay, eachOnDay, stepsIn, taken, overBlocks, sells, buys, hourOf, setPrices, lawful}
-use Rattle.rules.specs.Contender.{Counts, PricesInRange, HoursInRange}
+use Rattle.rules.specs.Hour.{buysAbove, buysFrom, sellsTo, sellsBelow}
+use Rattle.rules.specs.Contender.{PricesInRange, HoursInRange}
 use Rattle.rules.specs.OutcomeRules.{EachBlock}
 use Rattle.rules.proofs.PricingLaws.{Clearable, Clears, clearable}
 use Rattle.rules.proofs.HourSums.{counted}
@@ -53,7 +54,7 @@ module _ (hours h : ℕ) (quiet : isCounted hours h ≡ false) where
   no-buys [] c = refl
   no-buys (b ∷ l) c = rw (c .0 h quiet, no-buys l (c .1))
 
--- so it clears under any set
+-- so any price clears it under any set
 module _ (day : Day) (quiet : Quiet day) (set : List Bool) where
   abbrev T : List Block
   T = taken (day .blocks) set
@@ -61,25 +62,25 @@ module _ (day : Day) (quiet : Quiet day) (set : List Bool) where
   T-counts : BlocksCount (day .hours) T
   T-counts = each-taken _ (day .blocks) set (quiet .blocks)
 
-  pub quiet-clears : (h : ℕ) → isCounted (day .hours) h ≡ false → Clearable (hourOf day (taken (day .blocks) set) h)
-  quiet-clears h e =
-      record {
-        buysSuffice = rw (no-sales (day .hours) h e T T-counts) (omega arith);
-        sellsSuffice = rw (no-buys (day .hours) h e T T-counts) (omega arith);
-      }
+  pub quiet-clears : (h p : ℕ) → isCounted (day .hours) h ≡ false → Clears (hourOf day (taken (day .blocks) set) h) p
+  unfolding buysAbove sellsTo sellsBelow buysFrom
+  quiet-clears h p e =
+      let none = no-steps (day .hours) h e (day .steps) (quiet .steps) in
+      let sold = no-sales (day .hours) h e T T-counts in
+      let bought = no-buys (day .hours) h e T T-counts in
+      record { demandMet = rw (none, sold, bought) (omega arith); supplyMet = rw (none, sold, bought) (omega arith) }
 
-  -- EVERY HOUR CLEARS where each that counts does
-  pub each-clears : ((h : ℕ) → Counts (day .hours) h → Clearable (hourOf day (taken (day .blocks) set) h)) →
-      (h : ℕ) → 1 ≤ h → h ≤ 24 → Clearable (hourOf day (taken (day .blocks) set) h)
-  each-clears f h first last = at (isCounted (day .hours) h) refl
-    where
-      at : (t : Bool) → isCounted (day .hours) h ≡ t → Clearable (hourOf day T h)
-      at true e = f h record { first = first; last = last; counted = counted (day .hours) h e }
-      at false e = quiet-clears h e
+  -- EVERY HOUR CLEARS under a lawful set
+  module _ (prices : PricesInRange (day .steps)) (hours : HoursInRange (day .steps)) (law : lawful day set ≡ true) where
+    pub each-clears : (h : ℕ) → 1 ≤ h → h ≤ 24 → Clears (hourOf day (taken (day .blocks) set) h) (setPrices day (taken (day .blocks) set) h)
+    each-clears h first last = at (isCounted (day .hours) h) refl
+      where
+        at : (t : Bool) → isCounted (day .hours) h ≡ t → Clears (hourOf day T h) (setPrices day T h)
+        at true e = all-clear day prices hours set law h record { first = first; last = last; counted = counted (day .hours) h e }
+        at false e = quiet-clears h (setPrices day T h) e
 
-  module _ (size : length set ≡ length (day .blocks)) (prices : PricesInRange (day .steps)) (hours : HoursInRange (day .steps)) (law : lawful day set ≡ true) where
-    pub clears-each : (h : ℕ) → 1 ≤ h → h ≤ 24 → Clearable (hourOf day (taken (day .blocks) set) h)
-    clears-each = each-clears (λ h k. clearable (hourOf day T h) (setPrices day T h) (all-clear day prices hours set law h k))
+    pub each-clearable : (h : ℕ) → 1 ≤ h → h ≤ 24 → Clearable (hourOf day (taken (day .blocks) set) h)
+    each-clearable h first last = clearable (hourOf day T h) (setPrices day T h) (each-clears h first last)
 
-    pub clears-in-place : (h : ℕ) → 1 ≤ h → h ≤ 24 → Clearable (hourAt day h (place (day .blocks) set h))
-    clears-in-place h first last = clearable-at-place day set size h (clears-each h first last)
+    pub each-in-place : length set ≡ length (day .blocks) → (h : ℕ) → 1 ≤ h → h ≤ 24 → Clearable (hourAt day h (place (day .blocks) set h))
+    each-in-place size h first last = clearable-at-place day set size h (each-clearable h first last)

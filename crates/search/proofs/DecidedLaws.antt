@@ -11,7 +11,7 @@ use Rattle.records.specs.Records.{holdsHour}
 use Rattle.rules.specs.Orders.{Side, buy, Step, Block}
 use Rattle.rules.specs.Hour.{when}
 use Rattle.rules.specs.Execution.{testSide}
-use Rattle.rules.specs.Day.{Day, sumTo, daySum, taken, decisions, overBlocks, sells, buys, hourOf, stepsIn, priceSum, setPrices, keepsLimit, lawful}
+use Rattle.rules.specs.Day.{Day, daySum, taken, decisions, overBlocks, sells, buys, hourOf, stepsIn, priceSum, setPrices, keepsLimit, lawful}
 use Rattle.rules.specs.Contender.{Counts}
 use Rattle.rules.proofs.HourSums.{daySum-le, daySum-add}
 use Rattle.rules.proofs.Tests.{clash}
@@ -30,20 +30,20 @@ use Rattle.rules.proofs.PlaceLaws.{
   gaps-by-place,
   price-at-place,
   lawful-by-places,
-  lawful-clears,
   lawful-limits,
   slack-at-place,
 }
+use Rattle.rules.proofs.QuietHours.{each-in-place}
 use Rattle.rules.proofs.LawCutLaws.{taken-passes}
 use Rattle.rules.proofs.LossSearchLaws as by-loss
-use Rattle.places.specs.Layout.{hourPlaces}
-use Rattle.places.specs.Hours.{sumOfHours, cell, ofHour, PlacesClear, GapsOf, PricesOf}
+use Rattle.places.specs.Layout.{mostCountedGaps}
+use Rattle.places.specs.Hours.{sumOfHours, sumOver, countedColumn, cell, ofHour, PlacesClear, GapsOf, PricesOf}
 use Rattle.places.specs.Blocks.{hoursAt, keepsAt, allKeep, SetTrades}
 use Rattle.places.specs.Steps.{HoursTraded}
-use Rattle.search.specs.Meaning.{Shown, Known, Branch, lossAbove, bestAs, DayOf, Outcome, Decided, lastReached}
+use Rattle.search.specs.Meaning.{AnHour, Shown, Known, Branch, lossAbove, bestAs, DayOf, Outcome, Decided, lastReached}
 use Rattle.search.specs.Tables.{Tables}
 use Rattle.places.proofs.LimitLaws.{keepsHere, all-keep-at, all-keep}
-use Rattle.search.proofs.CountsOnce.{in-each, daySum-plain, block-sum}
+use Rattle.places.proofs.CountedLaws.{day-sum, block-sum}
 use Rattle.search.proofs.AllowedSets.{set-allowed}
 use Rattle.search.proofs.TradedLaws.{traded-are}
 use Rattle.search.specs.declared.Best.{Best}
@@ -52,6 +52,10 @@ use Rattle.search.specs.declared.Node.{Node}
 -- A SUM OVER THE DAY of what is the same in each hour that counts
 pub daySum-in : (hours : ℕ) (f g : ℕ → ℕ) → ((h : ℕ) → Counts hours h → f h ≡ g h) → daySum hours f ≡ daySum hours g
 daySum-in hours f g k = omega (arith, daySum-le hours f g (λ h c. omega (arith, k h c)), daySum-le hours g f (λ h c. omega (arith, k h c)))
+
+-- an hour that counts is one of the 24
+pub an-hour : {hours h : ℕ} → Counts hours h → AnHour h
+an-hour c = record { first = c .first; last = c .last }
 
 -- A SET'S BLOCKS
 taken-le : (f : Block → ℕ) (l : List Block) (s : List Bool) → overBlocks f (taken l s) ≤ overBlocks f l
@@ -75,7 +79,7 @@ same-test side side′ sum sum′ limit limit′ a b c = rw (a, b, c)
 -- THE DAY AT ITS TABLES
 -- the price at a place, by the price table
 pub price-at-table : {day : Day} {p rest : ℕ → ℕ} {tables : Tables} → Known day p rest tables →
-    {places prices : List ℕ} → PricesOf (tables .unitPrices) places prices → (h : ℕ) → Counts (day .hours) h → ofHour places h ≤ lastReached day h →
+    {places prices : List ℕ} → PricesOf (tables .unitPrices) places prices → (h : ℕ) → AnHour h → ofHour places h ≤ lastReached day h →
     ofHour prices h ≡ pricesAt day (ofHour places) h
 unfolding pricesAt tablePrice
 price-at-table {day} known {places} priced h c fits =
@@ -94,30 +98,32 @@ module _ {day : Day} {p rest : ℕ → ℕ} {tables : Tables} (known : Known day
   size : length d ≡ length (day .blocks)
   size = whole ∙ sym (known .counted)
 
-  place-fits : (h : ℕ) → Counts (day .hours) h → place (day .blocks) d h ≤ lastReached day h
+  place-fits : (h : ℕ) → AnHour h → place (day .blocks) d h ≤ lastReached day h
   place-fits h c = place-within (day .blocks) d h size
 
   -- a lawful set's places are in range
   lawful-in-range : lawful day d ≡ true → PlacesClear (tables .first) (tables .last) (node .places)
   lawful-in-range law =
-      in-each (λ h. (ofHour (tables .first) h ≤ ofHour (node .places) h) × (ofHour (node .places) h ≤ ofHour (tables .last) h)) (λ h c.
+      λ h a b.
+      let c : AnHour h = record { first = a; last = b } in
       rw (branch .placesAre h c)
-      (known .clearsOnly h (place (day .blocks) d h) c (place-within (day .blocks) d h size) (lawful-clears day d size (known .prices) (known .hours) law h c)))
+      (known .clearsOnly h (place (day .blocks) d h) c (place-within (day .blocks) d h size)
+      (each-in-place day (known .quiet) d (known .prices) (known .hours) law size h a b))
 
   module _ (inside : PlacesClear (tables .first) (tables .last) (node .places)) where
-    clear-at : (h : ℕ) → Counts (day .hours) h → Clearable (hourAt day h (place (day .blocks) d h))
+    clear-at : (h : ℕ) → AnHour h → Clearable (hourAt day h (place (day .blocks) d h))
     clear-at h c =
         let r = inside h (c .first) (c .last) in
         let e = branch .placesAre h c in
         known .clears h (place (day .blocks) d h) c (rw e at (r .0)) (rw e at (r .1))
 
     -- the loss by the gap table
-    pub loss-is : (sum : ℕ) → sum ≡ sumTo hourPlaces (λ h. cell (tables .gaps) h (ofHour (node .places) h)) →
+    pub loss-is : (sum : ℕ) → sum ≡ sumOver (tables .change) (λ h. cell (tables .gaps) h (ofHour (node .places) h)) →
         lossOf day p d ≡ node .loss + sum + daySum (day .hours) rest
     unfolding lossOf gapsAt
     loss-is sum e =
         let at : ℕ → ℕ = λ h. cell (tables .gaps) h (ofHour (node .places) h) in
-        let gap-at : (h : ℕ) → Counts (day .hours) h → gapsAt day p (place (day .blocks) d) h ≡ at h + rest h = λ h c.
+        let gap-at : (h : ℕ) → AnHour h → gapsAt day p (place (day .blocks) d) h ≡ at h + rest h = λ h c.
         let r = inside h (c .first) (c .last) in
         let is = branch .placesAre h c in
         rw is (known .gapIs h (place (day .blocks) d h) c (rw is at (r .0)) (rw is at (r .1))) in
@@ -125,49 +131,53 @@ module _ {day : Day} {p rest : ℕ → ℕ} {tables : Tables} (known : Known day
           arith,
           branch .lossIs,
           gaps-by-place day d size p,
-          daySum-in (day .hours) (gapsAt day p (place (day .blocks) d)) (λ h. at h + rest h) gap-at,
+          daySum-in (day .hours) (gapsAt day p (place (day .blocks) d)) (λ h. at h + rest h) (λ h c. gap-at h (an-hour c)),
           daySum-add (day .hours) at rest,
-          daySum-plain (day .hours) at,
+          rw (known .changeIs) at (day-sum (day .hours) at),
         )
 
     -- the prices by the price table
     module _ {prices : List ℕ} (priced : PricesOf (tables .unitPrices) (node .places) prices) where
-      price-at : (h : ℕ) → Counts (day .hours) h → ofHour prices h ≡ pricesAt day (place (day .blocks) d) h
+      price-at : (h : ℕ) → AnHour h → ofHour prices h ≡ pricesAt day (place (day .blocks) d) h
       unfolding pricesAt
       price-at h c =
           let e = branch .placesAre h c in
           let fits : ofHour (node .places) h ≤ lastReached day h = omega (arith, place-fits h c) in
           rw e at (price-at-table known priced h c fits)
 
-      pub prices-are : (h : ℕ) → Counts (day .hours) h → ofHour prices h ≡ setPrices day (taken (day .blocks) d) h
+      pub prices-are : (h : ℕ) → AnHour h → ofHour prices h ≡ setPrices day (taken (day .blocks) d) h
       prices-are h c = price-at h c ∙ sym (price-at-place day d size (known .prices) (known .hours) h (clear-at h c))
 
-      -- a block's limit by the columns
+      -- a block's limit by the columns, at the prices as they count
+      abbrev counted : List ℕ
+      counted = countedColumn (tables .change) prices
+
       keeps-same : (j : ℕ) (s : Shown day p (tables .blocks) j) →
-          keepsLimit (day .hours) (pricesAt day (place (day .blocks) d)) (s .block) ≡ keepsHere (tables .blocks) (node .set) prices prices j
+          keepsLimit (day .hours) (pricesAt day (place (day .blocks) d)) (s .block) ≡ keepsHere (tables .blocks) (node .set) counted counted j
       unfolding keepsLimit keepsAt priceSum
       keeps-same j s =
-          let sum : daySum (day .hours) (λ h. when (s .block .runs h) (pricesAt day (place (day .blocks) d) h)) ≡ sumOfHours prices
+          let sum : daySum (day .hours) (λ h. when (s .block .runs h) (pricesAt day (place (day .blocks) d) h)) ≡ sumOfHours counted
           (hoursAt (tables .blocks) j) =
-          daySum-in (day .hours) _ _ (λ h c. rw (s .runsIs h, ← (price-at h c))) ∙ block-sum (day .hours) prices (hoursAt (tables .blocks) j) in
+          daySum-in (day .hours) _ _ (λ h c. rw (s .runsIs h, ← (price-at h (an-hour c))))
+          ∙ rw (known .changeIs) at (block-sum (day .hours) prices (hoursAt (tables .blocks) j) (priced .size)) in
           same-test _ _ _ _ _ _ (s .sideIs) sum (s .limitIs)
 
       bit-is : (j : ℕ) → j < tables .count → getD d j false ≡ eqb (node .set / 2 ^ j % 2) 1
       bit-is j k = rw (← (branch .setIs)) (bits-at (length d) (node .set) j (omega arith))
 
-      pub limits-kept : allKeep (tables .blocks) (node .set) prices prices (tables .count) ≡ true → lawful day d ≡ true
+      pub limits-kept : allKeep (tables .blocks) (node .set) (countedColumn (tables .change) prices) (countedColumn (tables .change) prices) (tables .count) ≡ true → lawful day d ≡ true
       limits-kept e =
-          lawful-by-places day d size (known .prices) (known .hours) (set-allowed day d) clear-at
+          lawful-by-places day d size (known .prices) (known .hours) (set-allowed day d) (λ h c. clear-at h (an-hour c))
           (passes-taken noBlock _ (day .blocks) d (λ j k t.
           let kc : j < tables .count = omega (arith, known .counted) in
           let s = known .shown j kc in
           rw (block-at (day .blocks) j (s .block) _ noBlock (s .next))
-          (keeps-same j s ∙ all-keep-at (tables .blocks) (node .set) prices prices (tables .count) j e kc
+          (keeps-same j s ∙ all-keep-at (tables .blocks) (node .set) counted counted (tables .count) j e kc
           (borrow.Author.Tests.eqb-true _ _ (sym (bit-is j kc) ∙ t)))))
 
-      pub limits-broken : allKeep (tables .blocks) (node .set) prices prices (tables .count) ≡ false → lawful day d ≡ true → ⊥
+      pub limits-broken : allKeep (tables .blocks) (node .set) (countedColumn (tables .change) prices) (countedColumn (tables .change) prices) (tables .count) ≡ false → lawful day d ≡ true → ⊥
       limits-broken e law =
-          clash (all-keep (tables .blocks) (node .set) prices prices (tables .count) (λ j k c.
+          clash (all-keep (tables .blocks) (node .set) counted counted (tables .count) (λ j k c.
           let s = known .shown j k in
           let t = taken-passes _ (day .blocks) d (lawful-limits day d size (known .prices) (known .hours) law) j noBlock
           (omega (arith, known .counted)) (bit-is j k ∙ eq-eqb _ 1 c) in
@@ -206,7 +216,7 @@ leaf-as-it-was {day} {p} {rest} {count} {d} {best} f = record {
 }
 
 module _ {tables : Tables} {node : Node} {clears : Bool} {sum : ℕ}
-    (gapped : GapsOf (tables .gaps) (tables .first) (tables .last) (node .places) clears sum) where
+    (gapped : GapsOf (sumOver (tables .change)) mostCountedGaps (tables .gaps) (tables .first) (tables .last) (node .places) clears sum) where
   -- some hour does not clear
   pub decided-unclear : {steps : ℕ → List Step} {best : Best} → clears ≡ false → Decided tables steps node best best
   decided-unclear e day p rest d same known branch whole room =
@@ -224,12 +234,12 @@ module _ {tables : Tables} {node : Node} {clears : Bool} {sum : ℕ}
 
     module _ {prices : List ℕ} (priced : PricesOf (tables .unitPrices) (node .places) prices) {steps : ℕ → List Step} {best : Best} where
       -- a block misses its limit
-      pub decided-broken : allKeep (tables .blocks) (node .set) prices prices (tables .count) ≡ false → Decided tables steps node best best
+      pub decided-broken : allKeep (tables .blocks) (node .set) (countedColumn (tables .change) prices) (countedColumn (tables .change) prices) (tables .count) ≡ false → Decided tables steps node best best
       decided-broken k day p rest d same known branch whole room =
           leaf-as-it-was (λ law. absurd (limits-broken known branch whole (gapped .inRange e) priced k law))
 
       -- it is lawful and loses less
-      pub decided-better : allKeep (tables .blocks) (node .set) prices prices (tables .count) ≡ true → node .loss + sum < best .limit →
+      pub decided-better : allKeep (tables .blocks) (node .set) (countedColumn (tables .change) prices) (countedColumn (tables .change) prices) (tables .count) ≡ true → node .loss + sum < best .limit →
           {sales purchases quantities : List ℕ} → SetTrades (tables .blocks) (tables .count) (node .set) sales purchases →
           HoursTraded steps sales purchases prices quantities →
           Decided tables steps node best
@@ -245,16 +255,16 @@ module _ {tables : Tables} {node : Node} {clears : Bool} {sum : ℕ}
 module _ {day : Day} {p rest : ℕ → ℕ} {tables : Tables} (known : Known day p rest tables) where
   -- a lawful set's places are in range
   pub lawful-place : (s : List Bool) → length s ≡ tables .count →
-      lawful day s ≡ true → (h : ℕ) → Counts (day .hours) h → (ofHour (tables .first) h ≤ place (day .blocks) s h) ×
+      lawful day s ≡ true → (h : ℕ) → AnHour h → (ofHour (tables .first) h ≤ place (day .blocks) s h) ×
       (place (day .blocks) s h ≤ ofHour (tables .last) h)
   lawful-place s size law h c =
       let n : length s ≡ length (day .blocks) = size ∙ sym (known .counted) in
       let i = place (day .blocks) s h in
-      known .clearsOnly h i c (place-within (day .blocks) s h n) (lawful-clears day s n (known .prices) (known .hours) law h c)
+      known .clearsOnly h i c (place-within (day .blocks) s h n) (each-in-place day (known .quiet) s (known .prices) (known .hours) law n h (c .first) (c .last))
 
   -- and its gaps by the table
   pub gap-of-lawful : (s : List Bool) → length s ≡ tables .count →
-      lawful day s ≡ true → (h : ℕ) → Counts (day .hours) h →
+      lawful day s ≡ true → (h : ℕ) → AnHour h →
       slack (p h) (hourOf day (taken (day .blocks) s) h) ≡ cell (tables .gaps) h (place (day .blocks) s h) + rest h
   gap-of-lawful s size law h c =
       let r = lawful-place s size law h c in
@@ -263,5 +273,5 @@ module _ {day : Day} {p rest : ℕ → ℕ} {tables : Tables} (known : Known day
 
   -- what the tables leave off is no more
   pub rest-below : (s : List Bool) → length s ≡ tables .count →
-      lawful day s ≡ true → (h : ℕ) → Counts (day .hours) h → rest h ≤ slack (p h) (hourOf day (taken (day .blocks) s) h)
+      lawful day s ≡ true → (h : ℕ) → AnHour h → rest h ≤ slack (p h) (hourOf day (taken (day .blocks) s) h)
   rest-below s size law h c = omega (arith, gap-of-lawful s size law h c)

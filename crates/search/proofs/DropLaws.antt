@@ -13,7 +13,6 @@ use borrow.Author.Tests.{eq-eqb}
 use Rattle.rules.specs.Orders.{Side}
 use Rattle.rules.specs.Execution.{testSide}
 use Rattle.rules.specs.Day.{Day, taken, hourOf, priceSum, lawful}
-use Rattle.rules.specs.Contender.{Counts}
 use Rattle.rules.proofs.HourSums.{daySum-add}
 use Rattle.rules.proofs.Tests.{by-test, clash}
 use Rattle.rules.proofs.NeighbourLaws.{slack}
@@ -24,23 +23,23 @@ use Rattle.rules.proofs.PlaceLaws.{place, place-none, place-split, pricesAt}
 use Rattle.rules.proofs.TwinLaws.{block-at}
 use Rattle.rules.proofs.LawCutLaws.{couldKeep, taken-could}
 use Rattle.places.specs.Layout.{hourPlaces}
-use Rattle.places.specs.Hours.{Small, sumOfHours, cell, ofHour, PricesOf, nearest, leastGaps}
+use Rattle.places.specs.Hours.{Small, sumOfHours, sumOver, countedColumn, cell, ofHour, PricesOf, nearest, leastGap}
 use Rattle.places.specs.Blocks.{sideAt, hoursAt, limitAt, rowQuantity, keepsAt, allKeep, addedIn}
 use Rattle.places.specs.Reach.{isOut, mustFrom, mayFrom, RestOf, ReachOf}
 use Rattle.search.specs.Decisions.{isRuledOut}
-use Rattle.search.specs.Meaning.{Shown, Known, Branch, lossAbove, At, DroppedFrom, JudgedFrom, lastReached}
+use Rattle.search.specs.Meaning.{AnHour, Shown, Known, Branch, lossAbove, At, DroppedFrom, JudgedFrom, lastReached}
 use Rattle.search.specs.Tables.{Tables}
 use Rattle.places.proofs.NumberLaws.{larger-least, larger-above, smaller-most, smaller-below, nearest-least}
 use Rattle.places.proofs.LimitLaws.{all-keep}
 use Rattle.places.proofs.ReachLaws.{taken-adds, left-adds, to-fits}
-use Rattle.search.proofs.CountsOnce.{in-each, daySum-plain, block-sum}
+use Rattle.places.proofs.CountedLaws.{day-sum, block-sum}
 use Rattle.search.proofs.TradedLaws.{sells-at, buys-at}
-use Rattle.search.proofs.DecidedLaws.{daySum-in, noBlock, price-at-table, lawful-place, gap-of-lawful, rest-below}
+use Rattle.search.proofs.DecidedLaws.{daySum-in, an-hour, noBlock, price-at-table, lawful-place, gap-of-lawful, rest-below}
 use Rattle.search.specs.declared.Node.{Node}
 
 -- THE PLACE OF THE REST at a loss below the limit, where it takes no block that is out
 module _ {day : Day} {p rest : ℕ → ℕ} {tables : Tables} (known : Known day p rest tables)
-    (at out loss limit h : ℕ) (c : Counts (day .hours) h) where
+    (at out loss limit h : ℕ) (c : AnHour h) where
   abbrev must : ℕ → ℕ → ℕ
   must = addedIn (tables .blocks) (mustFrom (tables .blocks) at out loss limit) h
 
@@ -91,17 +90,17 @@ same-could side side′ floor floor′ cap cap′ limit limit′ a b c d = rw (a
 
 module _ {day : Day} {p rest : ℕ → ℕ} {tables : Tables} (known : Known day p rest tables)
     {from to high lowest : List ℕ} (priced-high : PricesOf (tables .unitPrices) from high) (priced-low : PricesOf (tables .unitPrices) to lowest)
-    (from-fits : (h : ℕ) → Counts (day .hours) h → ofHour from h ≤ lastReached day h) (to-fits : (h : ℕ) → Counts (day .hours) h → ofHour to h ≤ lastReached day h)
+    (from-fits : (h : ℕ) → AnHour h → ofHour from h ≤ lastReached day h) (to-fits : (h : ℕ) → AnHour h → ofHour to h ≤ lastReached day h)
     {j : ℕ} (s : Shown day p (tables .blocks) j) where
   -- the sum of prices at places, by the table
-  sum-same : (at prices : List ℕ) → PricesOf (tables .unitPrices) at prices → ((h : ℕ) → Counts (day .hours) h → ofHour at h ≤ lastReached day h) →
-      priceSum (day .hours) (pricesAt day (ofHour at)) (s .block) ≡ sumOfHours prices (hoursAt (tables .blocks) j)
+  sum-same : (at prices : List ℕ) → PricesOf (tables .unitPrices) at prices → ((h : ℕ) → AnHour h → ofHour at h ≤ lastReached day h) →
+      priceSum (day .hours) (pricesAt day (ofHour at)) (s .block) ≡ sumOfHours (countedColumn (tables .change) prices) (hoursAt (tables .blocks) j)
   unfolding priceSum
   sum-same at prices priced fits =
-      daySum-in (day .hours) _ _ (λ h c. rw (s .runsIs h, ← (price-at-table known priced h c (fits h c))))
-      ∙ block-sum (day .hours) prices (hoursAt (tables .blocks) j)
+      daySum-in (day .hours) _ _ (λ h c. rw (s .runsIs h, ← (price-at-table known priced h (an-hour c) (fits h (an-hour c)))))
+      ∙ rw (known .changeIs) at (block-sum (day .hours) prices (hoursAt (tables .blocks) j) (priced .size))
 
-  could-same : keepsAt (sideAt (tables .blocks) j) (hoursAt (tables .blocks) j) (limitAt (tables .blocks) j) high lowest
+  could-same : keepsAt (sideAt (tables .blocks) j) (hoursAt (tables .blocks) j) (limitAt (tables .blocks) j) (countedColumn (tables .change) high) (countedColumn (tables .change) lowest)
       ≡ couldKeep (day .hours) (pricesAt day (ofHour from)) (pricesAt day (ofHour to)) (s .block)
   unfolding keepsAt couldKeep
   could-same =
@@ -132,7 +131,7 @@ module _ {tables : Tables} {left out : ℕ} {node : Node} {limit : ℕ} where
       omega (
         arith,
         at .branch .lossIs,
-        bound-with day p d t 0 rest (omega arith) (rest-below (at .known) (d ++ t) (length-append d t ∙ rw l (at .size)) law),
+        bound-with day p d t 0 rest (omega arith) (λ h c. rest-below (at .known) (d ++ t) (length-append d t ∙ rw l (at .size)) law h (an-hour c)),
       )
 
   -- a branch that is dropped, and one that is not looked into
@@ -167,10 +166,10 @@ module _ {tables : Tables} {left out : ℕ} {node : Node} {limit : ℕ} where
             arith,
             branch .lossIs,
             bound-with day p d t (losses (day .hours) p (drop (length d) (day .blocks)) t) rest (omega arith)
-                (rest-below known (d ++ t) whole law),
+                (λ h c. rest-below known (d ++ t) whole law h (an-hour c)),
           )
 
-      in-reach : lossAbove day p rest (d ++ t) < limit → (h : ℕ) → Counts (day .hours) h →
+      in-reach : lossAbove day p rest (d ++ t) < limit → (h : ℕ) → AnHour h →
           (ofHour from h ≤ place (day .blocks) (d ++ t) h) × (place (day .blocks) (d ++ t) h ≤ ofHour to h)
       in-reach k h c =
           let a = c .first in
@@ -191,20 +190,20 @@ module _ {tables : Tables} {left out : ℕ} {node : Node} {limit : ℕ} where
           )
 
       -- its gaps are at least the least gaps there
-      gaps-least : lossAbove day p rest (d ++ t) < limit → node .loss + leastGaps (tables .gaps) (tables .turn) from to ≤ lossAbove day p rest (d ++ t)
-      unfolding lossAbove leastGaps
+      gaps-least : lossAbove day p rest (d ++ t) < limit → node .loss + sumOver (tables .change) (leastGap (tables .gaps) (tables .turn) from to) ≤ lossAbove day p rest (d ++ t)
+      unfolding lossAbove
       gaps-least k =
-          let g : ℕ → ℕ = λ h. cell (tables .gaps) h (nearest (ofHour (tables .turn) h) (ofHour from h) (ofHour to h)) in
+          let g = leastGap (tables .gaps) (tables .turn) from to in
           omega (
             arith,
             branch .lossIs,
-            bound-with day p d t 0 (λ h. g h + rest h) (omega arith) gap-least,
+            bound-with day p d t 0 (λ h. g h + rest h) (omega arith) (λ h c. gap-least h (an-hour c)),
             daySum-add (day .hours) g rest,
-            daySum-plain (day .hours) g,
+            rw (known .changeIs) at (day-sum (day .hours) g),
           )
         where
-          gap-least : (h : ℕ) → Counts (day .hours) h →
-              cell (tables .gaps) h (nearest (ofHour (tables .turn) h) (ofHour from h) (ofHour to h)) + rest h ≤ slack (p h)
+          gap-least : (h : ℕ) → AnHour h →
+              leastGap (tables .gaps) (tables .turn) from to h + rest h ≤ slack (p h)
               (hourOf day (taken (day .blocks) (d ++ t)) h)
           gap-least h c =
               let a = c .first in
@@ -226,16 +225,16 @@ module _ {tables : Tables} {left out : ℕ} {node : Node} {limit : ℕ} where
       -- each of its blocks keeps its limit at the best prices there
       block-could : {high lowest : List ℕ} → PricesOf (tables .unitPrices) from high → PricesOf (tables .unitPrices) to lowest → balances ≡ true →
           lossAbove day p rest (d ++ t) < limit → (j : ℕ) → j < tables .count → getD (d ++ t) j false ≡ true →
-          keepsAt (sideAt (tables .blocks) j) (hoursAt (tables .blocks) j) (limitAt (tables .blocks) j) high lowest ≡ true
+          keepsAt (sideAt (tables .blocks) j) (hoursAt (tables .blocks) j) (limitAt (tables .blocks) j) (countedColumn (tables .change) high) (countedColumn (tables .change) lowest) ≡ true
       block-could ph pl e k j inside set-bit =
           let s = known .shown j inside in
           let could = taken-could day (known .prices) (known .hours) (d ++ t) (whole ∙ sym (known .counted)) law (ofHour from) (ofHour to)
-          record { from = λ h c. in-reach k h c .0; to = λ h c. in-reach k h c .1 }
+          record { from = λ h c. in-reach k h (an-hour c) .0; to = λ h c. in-reach k h (an-hour c) .1 }
           j noBlock (omega (arith, known .counted)) set-bit in
           could-same known ph pl (fits-in .0) (fits-in .1) s
           ∙ rw (block-at (day .blocks) j (s .block) _ noBlock (s .next)) at could
         where
-          fits-in : ((h : ℕ) → Counts (day .hours) h → ofHour from h ≤ lastReached day h) × ((h : ℕ) → Counts (day .hours) h → ofHour to h ≤ lastReached day h)
+          fits-in : ((h : ℕ) → AnHour h → ofHour from h ≤ lastReached day h) × ((h : ℕ) → AnHour h → ofHour to h ≤ lastReached day h)
           fits-in = (
             λ h c.
                 let below = smaller-below (ofHour least h + ofHour free h) (ofHour (tables .last) h) .1 in
@@ -247,16 +246,16 @@ module _ {tables : Tables} {left out : ℕ} {node : Node} {limit : ℕ} where
 
       -- the decided ones, and one of the rest
       decided-could : {high lowest : List ℕ} → PricesOf (tables .unitPrices) from high → PricesOf (tables .unitPrices) to lowest → balances ≡ true →
-          lossAbove day p rest (d ++ t) < limit → allKeep (tables .blocks) (node .set) high lowest (tables .count - left) ≡ true
+          lossAbove day p rest (d ++ t) < limit → allKeep (tables .blocks) (node .set) (countedColumn (tables .change) high) (countedColumn (tables .change) lowest) (tables .count - left) ≡ true
       decided-could {high} {lowest} ph pl e k =
-          all-keep (tables .blocks) (node .set) high lowest (tables .count - left) (λ j m bit.
+          all-keep (tables .blocks) (node .set) (countedColumn (tables .change) high) (countedColumn (tables .change) lowest) (tables .count - left) (λ j m bit.
           let here : j < length d = omega (arith, size) in
           block-could ph pl e k j (omega arith)
           (List·getD-append d t false j here ∙ rw (← (branch .setIs)) (bits-at (length d) (node .set) j here ∙ eq-eqb _ 1 bit)))
 
       rest-could : {high lowest : List ℕ} → PricesOf (tables .unitPrices) from high → PricesOf (tables .unitPrices) to lowest → balances ≡ true →
           lossAbove day p rest (d ++ t) < limit → (j : ℕ) → j < left → getD t j false ≡ true →
-          keepsAt (sideAt (tables .blocks) (tables .count - left + j)) (hoursAt (tables .blocks) (tables .count - left + j)) (limitAt (tables .blocks) (tables .count - left + j)) high lowest ≡ true
+          keepsAt (sideAt (tables .blocks) (tables .count - left + j)) (hoursAt (tables .blocks) (tables .count - left + j)) (limitAt (tables .blocks) (tables .count - left + j)) (countedColumn (tables .change) high) (countedColumn (tables .change) lowest) ≡ true
       rest-could ph pl e k j inside bit =
           let here : tables .count - left ≡ length d = omega (arith, size) in
           block-could ph pl e k (tables .count - left + j) (omega (arith, size)) (rw here (getD-behind d t j ∙ bit))
@@ -264,30 +263,32 @@ module _ {tables : Tables} {left out : ℕ} {node : Node} {limit : ℕ} where
     -- some hour can no longer balance
     pub dropped-unbalanced : balances ≡ false → DroppedFrom tables left out node limit
     dropped-unbalanced e day p rest d t at l law =
-        unless _ _ (λ k. absurd (reach .unbalanced e (in-each (λ h. ofHour from h ≤ ofHour to h) (λ h c.
-        let r = in-reach t at l law k h c in omega arith))))
+        unless _ _ (λ k. absurd (reach .unbalanced e (λ h a b.
+        let r = in-reach t at l law k h record { first = a; last = b } in omega arith)))
 
     -- the least gaps within reach come to as much
-    pub dropped-by-gaps : limit ≤ node .loss + leastGaps (tables .gaps) (tables .turn) from to → DroppedFrom tables left out node limit
+    pub dropped-by-gaps : limit ≤ node .loss + sumOver (tables .change) (leastGap (tables .gaps) (tables .turn) from to) → DroppedFrom tables left out node limit
     dropped-by-gaps z day p rest d t at l law = unless _ _ (λ k. absurd (omega (arith, gaps-least t at l law k)))
 
     -- a taken block misses its limit at the best prices within reach
-    pub dropped-by-limit : {high lowest : List ℕ} → PricesOf (tables .unitPrices) from high → PricesOf (tables .unitPrices) to lowest → balances ≡ true →
-        allKeep (tables .blocks) (node .set) high lowest (tables .count - left) ≡ false → DroppedFrom tables left out node limit
-    dropped-by-limit ph pl e misses day p rest d t at l law =
-        unless _ _ (λ k. clash (decided-could t at l law ph pl e k) misses)
+    module _ {high lowest : List ℕ} (ph : PricesOf (tables .unitPrices) from high) (pl : PricesOf (tables .unitPrices) to lowest) (e : balances ≡ true)
+        {high-counted low-counted : List ℕ} (hc : high-counted ≡ countedColumn (tables .change) high) (lc : low-counted ≡ countedColumn (tables .change) lowest) where
+      pub dropped-by-limit : allKeep (tables .blocks) (node .set) high-counted low-counted (tables .count - left) ≡ false → DroppedFrom tables left out node limit
+      dropped-by-limit misses day p rest d t at l law =
+          unless _ _ (λ k. clash (rw (hc, lc) (decided-could t at l law ph pl e k)) misses)
 
-    -- WHAT IS OUT: what was before, and an undecided block that misses its limit at the best prices within reach
-    pub judged-open : {high lowest : List ℕ} → PricesOf (tables .unitPrices) from high → PricesOf (tables .unitPrices) to lowest → balances ≡ true → left ≤ tables .count → {r : ℕ} →
-        ((k : ℕ) → k < tables .count - (tables .count - left) → isOut r k ≡ isRuledOut (tables .blocks) (tables .count - left + k) (isOut out k) high lowest) →
-        JudgedFrom tables left out node limit false r
-    unfolding isRuledOut
-    judged-open ph pl e le is = record {
-      dropped = λ z. clash z refl;
-      outOf = λ _ day p rest d at t k l law less inside ruled.
-          by-test (λ u. getD t k false ≡ u → u ≡ false) (getD t k false)
-          (λ bit _.
-          let keeps = rest-could t at l law ph pl e less k inside bit in
-          clash (sym (at .outOf t k l law less inside (either-out (isOut out k) _ keeps (sym (is k (omega arith)) ∙ ruled))) ∙ bit) refl)
-          (λ _ _. refl) refl;
-    }
+      -- WHAT IS OUT: what was before, and an undecided block that misses its limit at the best prices within reach
+      pub judged-open : left ≤ tables .count → {r : ℕ} →
+          ((k : ℕ) → k < tables .count - (tables .count - left) → isOut r k ≡ isRuledOut (tables .blocks) (tables .count - left + k) (isOut out k) high-counted low-counted) →
+          JudgedFrom tables left out node limit false r
+      unfolding isRuledOut
+      judged-open le is = record {
+        dropped = λ z. clash z refl;
+        outOf = λ _ day p rest d at t k l law less inside ruled.
+            by-test (λ u. getD t k false ≡ u → u ≡ false) (getD t k false)
+            (λ bit _.
+            let keeps = rest-could t at l law ph pl e less k inside bit in
+            let was = rw (hc, lc) at (sym (is k (omega arith)) ∙ ruled) in
+            clash (sym (at .outOf t k l law less inside (either-out (isOut out k) _ keeps was)) ∙ bit) refl)
+            (λ _ _. refl) refl;
+      }

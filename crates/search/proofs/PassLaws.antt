@@ -4,10 +4,11 @@ use mathlib.Core.Path.{_≡_, refl, sym, subst, _∙_}
 use mathlib.Core.List.{List, []}
 use mathlib.Core.Bool.{false}
 use native.Mathlib.Omega.{arith}
+use native.Mathlib.Nat.{mul-le-mul-right}
 use lib.ListN.{length, drop, getD, replicate, length-replicate}
 use lib.Pow.{shr-le, pow-pos}
 use Rattle.rules.specs.Orders.{Step, Block}
-use Rattle.rules.specs.Day.{Day, daySum, sumTo, taken, decisions, overBlocks, hourOf}
+use Rattle.rules.specs.Day.{Day, changeHour, daySum, sumTo, taken, decisions, overBlocks, hourOf}
 use Rattle.rules.specs.Outcome.{outcome}
 use Rattle.rules.proofs.HourSums.{daySum-add}
 use Rattle.rules.proofs.Tests.{clash}
@@ -25,8 +26,8 @@ use Rattle.places.specs.Reach.{isOut}
 use Rattle.search.specs.Meaning.{Fits, Known, Turning, Branch, lossAbove, bestAs, DayOf, Outcome, StepsAre, ExploredFrom}
 use Rattle.search.specs.Tables.{Tables}
 use Rattle.places.proofs.NumberLaws.{zeros}
-use Rattle.search.proofs.CountsOnce.{daySum-plain}
-use Rattle.search.proofs.DecidedLaws.{daySum-in, gap-of-lawful, rest-below}
+use Rattle.places.proofs.CountedLaws.{change-apart, day-sum}
+use Rattle.search.proofs.DecidedLaws.{daySum-in, an-hour, gap-of-lawful, rest-below}
 use Rattle.search.specs.declared.Best.{Best}
 use Rattle.search.specs.declared.Node.{Node}
 
@@ -76,21 +77,25 @@ module _ {tables : Tables} (few : tables .count ≤ mostBlocks) (small : (i : �
       let law = empty-lawful day (known .prices) (known .hours) in
       let at : ℕ → ℕ = λ h. cell (tables .gaps) h (place (day .blocks) none h) in
       let g : ℕ → ℕ = λ h. slack (p h) (hourOf day (taken (day .blocks) none) h) in
+      let small-at : (h : ℕ) → at h ≤ 2 ^ 32 = λ h. omega (arith, smallGap ((h - 1) * rowWidth (tables .gaps) + place (day .blocks) none h)) in
       omega (
         arith,
         losses-empty (day .hours) p (day .blocks),
         gains-fit (tables .count) 0 (omega arith),
-        daySum-in (day .hours) g (λ h. at h + rest h) (λ h c. gap-of-lawful known none size law h c),
+        daySum-in (day .hours) g (λ h. at h + rest h) (λ h c. gap-of-lawful known none size law h (an-hour c)),
         daySum-add (day .hours) at rest,
-        daySum-plain (day .hours) at,
-        sum-fits hourPlaces (2 ^ 32) at (λ h. omega (arith, smallGap ((h - 1) * rowWidth (tables .gaps) + place (day .blocks) none h))),
+        rw (known .changeIs) at (day-sum (day .hours) at),
+        change-apart (tables .change) at,
+        mul-le-mul-right (at changeHour) (known .changeFew),
+        small-at changeHour,
+        sum-fits hourPlaces (2 ^ 32) at small-at,
       )
 
   adds : by-loss.Adds day (lossAbove day p rest) (wholeOf day p - daySum (day .hours) rest)
   unfolding lossAbove
   adds =
       by-loss.adds-less day (lossOf day p) (lossAbove day p rest) _ (daySum (day .hours) rest) (by-loss.loss-adds day (known .prices) (known .hours) p)
-      (λ set size law. omega (arith, bound-with day p [] set 0 rest (omega arith) (rest-below known set (size ∙ known .counted) law)))
+      (λ set size law. omega (arith, bound-with day p [] set 0 rest (omega arith) (λ h c. rest-below known set (size ∙ known .counted) law h (an-hour c))))
 
   module _ {steps : ℕ → List Step} (turning : Turning tables) (same : StepsAre day steps) {best r : Best}
       (pass : ExploredFrom tables steps (tables .count) 0 root best r) where

@@ -12,17 +12,17 @@ use Rattle.orders.specs.Columns.{sideFor}
 use Rattle.rules.specs.Orders.{Step, Block}
 use Rattle.rules.specs.Hour.{bySide, when, Pricing, cleared, doesNotClear, pricing, answeredPrice}
 use Rattle.rules.specs.Day.{Day, taken, decisions, overBlocks, sells, buys, hourOf, setPrices, lawful, traded}
-use Rattle.rules.specs.Contender.{Counts, PricesInRange, HoursInRange}
+use Rattle.rules.specs.Contender.{PricesInRange, HoursInRange}
 use Rattle.rules.proofs.CurveLaws.{when-zero}
-use Rattle.rules.proofs.PricingLaws.{Clearable, Priced, clearable, pricing-is}
+use Rattle.rules.proofs.PricingLaws.{Clearable, Priced, pricing-is}
 use Rattle.rules.proofs.ExecutionLaws.{traded-lesser}
 use Rattle.rules.proofs.ChainLaws.{prices-in}
-use Rattle.rules.proofs.DayLaws.{all-clear}
+use Rattle.rules.proofs.QuietHours.{Quiet, each-clears, each-clearable}
 use Rattle.rules.proofs.SetBits.{bits-at}
 use Rattle.places.specs.Hours.{ofHour}
 use Rattle.places.specs.Blocks.{sideAt, rowQuantity, addedIn, sellsIn, buysIn, SetTrades}
 use Rattle.places.specs.Steps.{HoursTraded}
-use Rattle.search.specs.Meaning.{Shown, Known, StepsAre}
+use Rattle.search.specs.Meaning.{AnHour, Shown, Known, StepsAre}
 use Rattle.search.specs.Tables.{Tables}
 
 -- what a block sells and buys in an hour, by its row
@@ -34,7 +34,7 @@ buys-row : (side : ℕ) (t : Bool) (q : ℕ) → when t (bySide (sideFor side) q
 buys-row zero t q = refl
 buys-row (suc side) t q = rw (ne-eqb (suc side) 0 (omega arith)) (when-zero t)
 
-module _ {day : Day} {p : ℕ → ℕ} {blocks : List ℕ} {j : ℕ} (s : Shown day p blocks j) (h : ℕ) (c : Counts (day .hours) h) where
+module _ {day : Day} {p : ℕ → ℕ} {blocks : List ℕ} {j : ℕ} (s : Shown day p blocks j) (h : ℕ) (c : AnHour h) where
   pub sells-at : sells h (s .block) ≡ when (not (eqb (sideAt blocks j) 0)) (rowQuantity blocks j h)
   sells-at = rw (s .sideIs, s .rowIs h c) (sells-row (sideAt blocks j) (s .block .runs h) (s .block .quantity))
 
@@ -43,7 +43,7 @@ module _ {day : Day} {p : ℕ → ℕ} {blocks : List ℕ} {j : ℕ} (s : Shown 
 
 -- A SET'S BLOCKS in an hour, by their rows
 module _ {day : Day} {p rest : ℕ → ℕ} {tables : Tables} (known : Known day p rest tables)
-    (chosen h : ℕ) (c : Counts (day .hours) h) where
+    (chosen h : ℕ) (c : AnHour h) where
   -- the decisions t are those of the set for the blocks from number i on
   abbrev Holds : ℕ → ℕ → List Bool → Type 0
   Holds n i t = (k : ℕ) → k < n → getD t k false ≡ eqb (chosen / 2 ^ (i + k) % 2) 1
@@ -84,13 +84,13 @@ module _ {day : Day} {p rest : ℕ → ℕ} {tables : Tables} (known : Known day
       rw e (rw is at (bits-at (length d) chosen k (omega arith))))
 
 -- every hour of a lawful set has a price
-pub price-positive : (day : Day) → PricesInRange (day .steps) → HoursInRange (day .steps) → (chosen : List Bool) → lawful day chosen ≡ true →
-    (h : ℕ) → Counts (day .hours) h → 1 ≤ setPrices day (taken (day .blocks) chosen) h
+pub price-positive : (day : Day) → Quiet day → PricesInRange (day .steps) → HoursInRange (day .steps) → (chosen : List Bool) → lawful day chosen ≡ true →
+    (h : ℕ) → AnHour h → 1 ≤ setPrices day (taken (day .blocks) chosen) h
 unfolding setPrices
-price-positive day prices hours chosen law h c =
+price-positive day quiet prices hours chosen law h c =
     let hour = hourOf day (taken (day .blocks) chosen) h in
     go (pricing hour) (pricing-is hour (prices-in h (day .steps) prices))
-    (clearable hour (setPrices day (taken (day .blocks) chosen) h) (all-clear day prices hours chosen law h c))
+    (each-clearable day quiet chosen prices hours law h (c .first) (c .last))
   where
     go : (p : Pricing) → Priced (hourOf day (taken (day .blocks) chosen) h) p → Clearable (hourOf day (taken (day .blocks) chosen) h) → 1 ≤ answeredPrice p
     go (cleared l u p) s k = omega (arith, s .isMiddle, s .positive, s .ordered)
@@ -100,15 +100,15 @@ price-positive day prices hours chosen law h c =
 pub traded-are : {day : Day} {p rest : ℕ → ℕ} {tables : Tables} → Known day p rest tables →
     {steps : ℕ → List Step} → StepsAre day steps → {chosen : ℕ} {d : List Bool} → length d ≡ tables .count → decisions (length d) chosen ≡ d →
     lawful day d ≡ true → {sales purchases : List ℕ} (prices quantities : List ℕ) → SetTrades (tables .blocks) (tables .count) chosen sales purchases →
-    ((h : ℕ) → Counts (day .hours) h → ofHour prices h ≡ setPrices day (taken (day .blocks) d) h) → HoursTraded steps sales purchases prices quantities →
-    (h : ℕ) → Counts (day .hours) h → ofHour quantities h ≡ traded day (taken (day .blocks) d) h
+    ((h : ℕ) → AnHour h → ofHour prices h ≡ setPrices day (taken (day .blocks) d) h) → HoursTraded steps sales purchases prices quantities →
+    (h : ℕ) → AnHour h → ofHour quantities h ≡ traded day (taken (day .blocks) d) h
 unfolding traded
 traded-are {day} known same {chosen} {d} size is law prices quantities sets priced trades h c =
     let a = c .first in
     let b = c .last in
     let t = set-trades known chosen h c d size is in
-    let positive : 1 ≤ ofHour prices h = rw (priced h c) (price-positive day (known .prices) (known .hours) d law h c) in
+    let positive : 1 ≤ ofHour prices h = rw (priced h c) (price-positive day (known .quiet) (known .prices) (known .hours) d law h c) in
     trades h a b positive
     ∙ rw (sets .salesAre h a b, sets .purchasesAre h a b, t .0, t .1, same h a b, priced h c)
     (sym (traded-lesser (hourOf day (taken (day .blocks) d) h) (setPrices day (taken (day .blocks) d) h)
-    (all-clear day (known .prices) (known .hours) d law h c)))
+    (each-clears day (known .quiet) d (known .prices) (known .hours) law h a b)))

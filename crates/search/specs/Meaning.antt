@@ -11,9 +11,9 @@ use Rattle.places.specs.Layout.{hourPlaces, mostAdded}
 use Rattle.records.specs.Records.{holdsHour}
 use Rattle.orders.specs.Columns.{sideFor}
 use Rattle.rules.specs.Orders.{Step, Block, maxPrice}
-use Rattle.rules.specs.Day.{Day, daySum, taken, decisions, overBlocks, sells, buys, stepsIn, setPrices, hourCount, lawful, traded}
+use Rattle.rules.specs.Day.{Day, changeHour, weight, daySum, taken, decisions, overBlocks, sells, buys, stepsIn, setPrices, hourCount, lawful, traded}
 use Rattle.rules.specs.Outcome.{outcome}
-use Rattle.rules.specs.Contender.{Counts, PricesInRange, HoursInRange}
+use Rattle.rules.specs.Contender.{PricesInRange, HoursInRange}
 use Rattle.rules.proofs.PricingLaws.{Clearable, net}
 use Rattle.rules.proofs.TableLaws.{unitPrice}
 use Rattle.rules.proofs.NeighbourLaws.{slack}
@@ -21,6 +21,7 @@ use Rattle.rules.proofs.BoundLaws.{gain}
 use Rattle.rules.proofs.LossLaws.{against, losses, lossOf}
 use Rattle.rules.proofs.LossSearchLaws as by-loss
 use Rattle.rules.proofs.PlaceLaws.{place, hourAt}
+use Rattle.rules.proofs.QuietHours.{Quiet}
 use Rattle.rules.proofs.TwinLaws.{Ahead, InTurn}
 use Rattle.places.specs.Hours.{Small, cell, ofHour, HasRows, lastIn}
 use Rattle.places.specs.Blocks.{BlocksSized, sideAt, hoursAt, limitAt, againstAt, gainAt, aheadAt, behindAt, rowQuantity}
@@ -41,6 +42,7 @@ pub record Sized (t : Tables) : Type 0 where
   pub lastInGaps : Small (lastIn (t .gaps)) (t .last)
   pub pricesFit : Small maxPrice (t .unitPrices)
   pub blocksFit : BlocksSized (t .blocks)
+  pub changeFew : t .change ≤ 2
   pub few : t .count ≤ mostBlocks
 
 -- A node with so many blocks decided.
@@ -50,6 +52,11 @@ pub record Fits (decided : ℕ) (node : Node) : Type 0 where
   pub placesSize : length (node .places) ≡ hourPlaces
   pub placesFit : Small (decided * mostAdded) (node .places)
 
+-- ONE OF THE 24 HOURS, whether it counts or not: nothing is offered in one that does not
+pub record AnHour (h : ℕ) : Type 0 where
+  pub first : 1 ≤ h
+  pub last : h ≤ hourPlaces
+
 -- THE DAY behind the tables, at hourly prices p; `rest` is what the tables leave off each hour's gaps
 -- Block j of the day and its columns.
 pub record Shown (day : Day) (p : ℕ → ℕ) (blocks : List ℕ) (j : ℕ) : Type 0 where
@@ -57,7 +64,7 @@ pub record Shown (day : Day) (p : ℕ → ℕ) (blocks : List ℕ) (j : ℕ) : T
   pub next : drop j (day .blocks) ≡ block ∷ drop (suc j) (day .blocks)
   pub sideIs : block .side ≡ sideFor (sideAt blocks j)
   pub runsIs : (h : ℕ) → block .runs h ≡ holdsHour (hoursAt blocks j) h
-  pub rowIs : (h : ℕ) → Counts (day .hours) h → rowQuantity blocks j h ≡ when (block .runs h) (block .quantity)
+  pub rowIs : (h : ℕ) → AnHour h → rowQuantity blocks j h ≡ when (block .runs h) (block .quantity)
   pub limitIs : block .price * hourCount (day .hours) block ≡ limitAt blocks j
   pub againstIs : against (day .hours) p block ≡ againstAt blocks j
   pub gainIs : gain (day .hours) p block ≡ gainAt blocks j
@@ -69,17 +76,20 @@ lastReached day h = overBlocks (sells h) (day .blocks) + overBlocks (buys h) (da
 pub record Known (day : Day) (p rest : ℕ → ℕ) (t : Tables) : Type 0 where
   pub prices : PricesInRange (day .steps)
   pub hours : HoursInRange (day .steps)
+  pub quiet : Quiet day
+  pub changeIs : weight (day .hours) changeHour ≡ t .change
+  pub changeFew : t .change ≤ 2
   pub counted : length (day .blocks) ≡ t .count
   -- the price table: the least price that meets the demand, one unit of N below the place
-  pub unitPriceIs : (h i : ℕ) → Counts (day .hours) h → i ≤ lastReached day h + 1 →
+  pub unitPriceIs : (h i : ℕ) → AnHour h → i ≤ lastReached day h + 1 →
       cell (t .unitPrices) h i ≡ unitPrice (net (stepsIn h (day .steps)) i (suc (overBlocks (buys h) (day .blocks))))
   -- the places at which an hour clears, of those that its blocks can reach
-  pub lastIs : (h : ℕ) → Counts (day .hours) h → ofHour (t .last) h ≤ lastReached day h
-  pub clears : (h i : ℕ) → Counts (day .hours) h → ofHour (t .first) h ≤ i → i ≤ ofHour (t .last) h → Clearable (hourAt day h i)
-  pub clearsOnly : (h i : ℕ) → Counts (day .hours) h → i ≤ lastReached day h → Clearable (hourAt day h i) →
+  pub lastIs : (h : ℕ) → AnHour h → ofHour (t .last) h ≤ lastReached day h
+  pub clears : (h i : ℕ) → AnHour h → ofHour (t .first) h ≤ i → i ≤ ofHour (t .last) h → Clearable (hourAt day h i)
+  pub clearsOnly : (h i : ℕ) → AnHour h → i ≤ lastReached day h → Clearable (hourAt day h i) →
       (ofHour (t .first) h ≤ i) × (i ≤ ofHour (t .last) h)
   -- the gap table
-  pub gapIs : (h i : ℕ) → Counts (day .hours) h → ofHour (t .first) h ≤ i → i ≤ ofHour (t .last) h →
+  pub gapIs : (h i : ℕ) → AnHour h → ofHour (t .first) h ≤ i → i ≤ ofHour (t .last) h →
       slack (p h) (hourAt day h i) ≡ cell (t .gaps) h i + rest h
   pub shown : (j : ℕ) → j < t .count → Shown day p (t .blocks) j
   -- the twins
@@ -97,7 +107,7 @@ pub record Turning (t : Tables) : Type 0 where
 pub record Branch (day : Day) (p : ℕ → ℕ) (d : List Bool) (node : Node) : Type 0 where
   pub setIs : decisions (length d) (node .set) ≡ d
   pub lossIs : node .loss ≡ losses (day .hours) p (day .blocks) d
-  pub placesAre : (h : ℕ) → Counts (day .hours) h → ofHour (node .places) h ≡ place (day .blocks) d h
+  pub placesAre : (h : ℕ) → AnHour h → ofHour (node .places) h ≡ place (day .blocks) d h
 
 -- the loss of a set, less what the tables leave off
 unfoldable pub lossAbove : Day → (ℕ → ℕ) → (ℕ → ℕ) → List Bool → ℕ
@@ -109,8 +119,8 @@ bestAs count best = record { limit = best .limit; set = decisions count (best .s
 
 -- a set's prices and traded quantities
 pub record DayOf (day : Day) (set : List Bool) (found : code-day.Day) : Type 0 where
-  pub pricesAre : (h : ℕ) → Counts (day .hours) h → ofHour (found .prices) h ≡ setPrices day (taken (day .blocks) set) h
-  pub tradedAre : (h : ℕ) → Counts (day .hours) h → ofHour (found .quantities) h ≡ traded day (taken (day .blocks) set) h
+  pub pricesAre : (h : ℕ) → AnHour h → ofHour (found .prices) h ≡ setPrices day (taken (day .blocks) set) h
+  pub tradedAre : (h : ℕ) → AnHour h → ofHour (found .quantities) h ≡ traded day (taken (day .blocks) set) h
 
 -- WHAT A BRANCH GIVES BACK of the best so far
 pub record Outcome (day : Day) (p rest : ℕ → ℕ) (count left : ℕ) (d : List Bool) (best r : Best) : Type 0 where

@@ -2,7 +2,7 @@
 -- Definitions only. Assumes nothing.
 use Prim.Native.Nat.{ℕ}
 use mathlib.Core.List.{List}
-use Rattle.places.specs.Hours.{clearsFirst, clearsLast, gapsTurn}
+use Rattle.places.specs.Hours.{clearsFirst, clearsLast, gapsTurn, changeOften}
 
 pub record Tables : Type 0 where
   -- A row of places for each hour. Each place has the unit price of the N before its own: the hour's greatest price at its place, and the least price at
@@ -15,6 +15,8 @@ pub record Tables : Type 0 where
   pub first : List ℕ
   pub last : List ℕ
   pub turn : List ℕ
+  -- How often hour 3 counts.
+  pub change : ℕ
   -- The columns and rows of the blocks, and how many blocks there are.
   pub blocks : List ℕ
   pub count : ℕ
@@ -28,6 +30,7 @@ tablesOf unitPrices gaps hours blocks count =
       first = clearsFirst hours;
       last = clearsLast hours;
       turn = gapsTurn hours;
+      change = changeOften hours;
       blocks = blocks;
       count = count;
     }

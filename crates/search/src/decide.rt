@@ -9,8 +9,10 @@ ghost use Rattle.search.specs.Tables.{tablesOf};
 use crate::Best;
 use crate::Day;
 use crate::Node;
-use places::cells::gaps_at;
+use places::cells::counted_gaps;
+use places::cells::counted_prices;
 use places::cells::prices_at;
+use places::layout::CHANGE;
 use places::layout::FIRST;
 use places::layout::LAST;
 use places::layout::TURN;
@@ -38,7 +40,8 @@ pub fn decide(
         (stepsAt (now (ends .entry)) (now (sides .entry)) (now (prices .entry)) (now (quantities .entry))) node best r ⌝ }
 {
     let places = node.places;
-    let gaps = gaps_at(gap, &hours[FIRST..LAST], &hours[LAST..TURN], places);
+    let often = hours[CHANGE];
+    let gaps = counted_gaps(gap, &hours[FIRST..LAST], &hours[LAST..TURN], places, often);
     if !gaps.clears {
         return best;
     }
@@ -47,7 +50,8 @@ pub fn decide(
         return best;
     }
     let middles = prices_at(unit_prices, places);
-    if !keeps_limits(blocks, count as usize, node.set, &middles, &middles) {
+    let counted = counted_prices(middles, often);
+    if !keeps_limits(blocks, count as usize, node.set, &counted, &counted) {
         return best;
     }
     let trades = set_trades(blocks, count as usize, node.set);

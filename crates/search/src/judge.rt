@@ -11,11 +11,12 @@ ghost use Rattle.search.specs.Decisions.{isForced, isRuledOut};
 ghost use Rattle.search.specs.Meaning.{Sized, Fits, JudgedFrom};
 ghost use Rattle.search.specs.Tables.{tablesOf};
 use crate::Node;
-use places::cells::least_gaps;
+use places::cells::counted_least_gaps;
+use places::cells::counted_prices;
 use places::cells::prices_at;
 use places::layout::AGAINST;
+use places::layout::CHANGE;
 use places::layout::GAIN;
-use places::layout::HOUR_LIST;
 use places::layout::LIMIT;
 use places::layout::RUNS;
 use places::layout::TURN;
@@ -116,11 +117,12 @@ pub fn judge(
     }
     let from = reach.from;
     let to = reach.to;
-    if limit <= node.loss + least_gaps(gap, &hours[TURN..HOUR_LIST], from, to) {
+    let often = hours[CHANGE];
+    if limit <= node.loss + counted_least_gaps(gap, &hours[TURN..CHANGE], from, to, often) {
         return drop;
     }
-    let high = prices_at(unit_prices, from);
-    let lowest = prices_at(unit_prices, to);
+    let high = counted_prices(prices_at(unit_prices, from), often);
+    let lowest = counted_prices(prices_at(unit_prices, to), often);
     if !keeps_limits(blocks, at, node.set, &high, &lowest) {
         return drop;
     }

@@ -12,25 +12,26 @@ use Rattle.search.proofs.judge.judge.Statement.{statement}
 use Rattle.search.proofs.judge.judge.Tie as tie
 
 -- THE STATES on the way: the start behind the places within reach, these behind an hour's balance, that behind the least gaps, these behind the prices
--- within reach, these behind the limits
+-- within reach as they count, these behind the limits
 abbrev start : tie.After-places → tie.Start
 start c = c .before .before .before .before .before .before .before .before .before
 
 abbrev reached : tie.Else3 → tie.After-reach-at
 reached c = c .before .before
 
-abbrev balanced : tie.After-least-gaps-arg → tie.Else3
-balanced c = c .before .before .before
+abbrev balanced : tie.After-counted-least-gaps-arg → tie.Else3
+balanced c = c .before .before .before .before
 
-abbrev bounded : tie.Else4 → tie.After-least-gaps
+abbrev bounded : tie.Else4 → tie.After-counted-least-gaps
 bounded c = c .before .before
 
-abbrev priced : tie.After-keeps-limits → tie.After-prices-at2
-priced c = c .before .before .before
+abbrev counting : tie.After-keeps-limits → tie.After-counted-prices2
+counting c = c .before .before .before
 
 -- from the prices back to an hour's balance
-abbrev back : tie.After-prices-at2 → tie.Else3
-back c = balanced (bounded (c .before .before) .before)
+abbrev back : tie.After-counted-prices2 → tie.Else3
+back c = balanced (bounded (c .before .before .before .before) .before)
+
 
 -- arrays of 24
 from-size : (f : tie.After-reach-at) → length (f .reach-at .result .from) ≡ hourPlaces
@@ -69,31 +70,34 @@ returns-3 c =
     let r = c .before .before .reach-at .ensures in
     judged-dropped (dropped-unbalanced (r .rest) (r .reach) (not-true _ (c .if3 .taken)))
 
-sub-least-gaps : tie.Need-sub-least-gaps
-sub-least-gaps c = search needs
+shared-slice-read-often : tie.Need-shared-slice-read-often
+shared-slice-read-often c = omega (arith, start (reached (c .before .before .before) .before) .pre .1)
 
-part-least-gaps-start : tie.Need-part-least-gaps-start
-part-least-gaps-start c = search needs
+sub-counted-least-gaps : tie.Need-sub-counted-least-gaps
+sub-counted-least-gaps c = search needs
 
-part-least-gaps-end : tie.Need-part-least-gaps-end
-part-least-gaps-end c = search needs
+part-counted-least-gaps-start : tie.Need-part-counted-least-gaps-start
+part-counted-least-gaps-start c = search needs
 
-least-gaps-requires : tie.Need-least-gaps-requires
-least-gaps-requires c κs =
+part-counted-least-gaps-end : tie.Need-part-counted-least-gaps-end
+part-counted-least-gaps-end c = search needs
+
+counted-least-gaps-requires : tie.Need-counted-least-gaps-requires
+counted-least-gaps-requires c κs =
     let r = reached (balanced c) in
     let s = start (r .before) in
-    (s .pre .0 .gapRows, turn-size s, to-fits (r .reach-at .ensures .reach) (s .pre .0 .lastInGaps))
+    (s .pre .0 .gapRows, turn-size s, to-fits (r .reach-at .ensures .reach) (s .pre .0 .lastInGaps), s .pre .0 .changeFew)
 
 add-if4 : tie.Need-add-if4
 add-if4 c =
     let p = start (reached (balanced (c .before .before)) .before) .pre in
-    omega (arith, c .before .least-gaps .ensures .1, p .3 .lossFits, p .0 .few)
+    omega (arith, c .before .counted-least-gaps .ensures .1, p .3 .lossFits, p .0 .few)
 
 returns-4 : tie.Need-returns-4
 returns-4 c =
     let g = c .before .before in
     let r = reached (balanced (g .before)) .reach-at .ensures in
-    judged-dropped (dropped-by-gaps (r .rest) (r .reach) (omega (arith, c .if4 .taken, g .least-gaps .ensures .0)))
+    judged-dropped (dropped-by-gaps (r .rest) (r .reach) (omega (arith, c .if4 .taken, g .counted-least-gaps .ensures .0)))
 
 prices-at-requires : tie.Need-prices-at-requires
 prices-at-requires c κs =
@@ -102,11 +106,19 @@ prices-at-requires c κs =
     let p = start (r .before) .pre .0 in
     (p .priceRows, p .pricesFit, from-small (r .reach-at .ensures .reach) (p .lastInPrices) (not-false _ (b .if3 .left)) (from-size r))
 
+counted-prices-requires : tie.Need-counted-prices-requires
+counted-prices-requires c κs =
+    (c .prices-at .ensures .small, start (reached (balanced (bounded (c .before) .before)) .before) .pre .0 .changeFew)
+
 prices-at-requires-2 : tie.Need-prices-at-requires-2
 prices-at-requires-2 c κs =
-    let r = reached (balanced (bounded (c .before) .before)) in
+    let r = reached (balanced (bounded (c .before .before) .before)) in
     let p = start (r .before) .pre .0 in
     (p .priceRows, p .pricesFit, to-small (r .reach-at .ensures .reach) (p .lastInPrices) (to-size r))
+
+counted-prices-requires-2 : tie.Need-counted-prices-requires-2
+counted-prices-requires-2 c κs =
+    (c .prices-at2 .ensures .small, start (reached (balanced (bounded (c .before .before .before) .before)) .before) .pre .0 .changeFew)
 
 slice-aggregate-keeps-limits : tie.Need-slice-aggregate-keeps-limits
 slice-aggregate-keeps-limits c = search needs
@@ -117,15 +129,17 @@ slice-aggregate-keeps-limits-2 c = search needs
 keeps-limits-requires : tie.Need-keeps-limits-requires
 keeps-limits-requires c κs =
     let p = start (reached (back (c .before .before)) .before) .pre in
-    (p .0 .blocksFit .columns, omega (arith, p .0 .few), search needs, search needs)
+    let low = c .before .before in
+    (p .0 .blocksFit .columns, omega (arith, p .0 .few), low .before .before .counted-prices .ensures .1, low .counted-prices2 .ensures .1)
 
 returns-5 : tie.Need-returns-5
 returns-5 c =
-    let prices = priced (c .before) in
-    let b = back prices in
+    let low = counting (c .before) in
+    let high = low .before .before in
+    let b = back low in
     let r = reached b in
-    judged-dropped (dropped-by-limit (r .reach-at .ensures .rest) (r .reach-at .ensures .reach) (prices .before .prices-at .ensures)
-    (prices .prices-at2 .ensures) (not-false _ (b .if3 .left))
+    judged-dropped (dropped-by-limit (r .reach-at .ensures .rest) (r .reach-at .ensures .reach) (high .before .prices-at .ensures)
+    (low .before .prices-at2 .ensures) (not-false _ (b .if3 .left)) (high .counted-prices .ensures .0) (low .counted-prices2 .ensures .0)
     (sym (c .before .keeps-limits .ensures) ∙ not-true _ (c .if5 .taken)))
 
 slice-aggregate-ruled-out : tie.Need-slice-aggregate-ruled-out
@@ -136,17 +150,19 @@ slice-aggregate-ruled-out-2 c = search needs
 
 ruled-out-requires : tie.Need-ruled-out-requires
 ruled-out-requires c κs =
-    let p = start (reached (back (priced (c .before .before .before))) .before) .pre in
-    (p .0 .blocksFit .columns, p .0 .few, omega (arith, p .2), search needs, search needs)
+    let low = counting (c .before .before .before) in
+    let p = start (reached (back low) .before) .pre in
+    (p .0 .blocksFit .columns, p .0 .few, omega (arith, p .2), low .before .before .counted-prices .ensures .1, low .counted-prices2 .ensures .1)
 
 returns-6 : tie.Need-returns-6
 returns-6 c =
-    let prices = priced (c .before .before .before .before) in
-    let b = back prices in
+    let low = counting (c .before .before .before .before) in
+    let high = low .before .before in
+    let b = back low in
     let r = reached b in
     let p = start (r .before) .pre in
-    judged-open (r .reach-at .ensures .rest) (r .reach-at .ensures .reach) (prices .before .prices-at .ensures) (prices .prices-at2 .ensures)
-    (not-false _ (b .if3 .left)) (p .2) (c .ruled-out .ensures)
+    judged-open (r .reach-at .ensures .rest) (r .reach-at .ensures .reach) (high .before .prices-at .ensures) (low .before .prices-at2 .ensures)
+    (not-false _ (b .if3 .left)) (high .counted-prices .ensures .0) (low .counted-prices2 .ensures .0) (p .2) (c .ruled-out .ensures)
 
 pub judge-spec : {M : Type 1} → statement M
 judge-spec =
@@ -159,14 +175,17 @@ judge-spec =
     returns-2
     reach-at-requires
     returns-3
-    sub-least-gaps
-    part-least-gaps-start
-    part-least-gaps-end
-    least-gaps-requires
+    shared-slice-read-often
+    sub-counted-least-gaps
+    part-counted-least-gaps-start
+    part-counted-least-gaps-end
+    counted-least-gaps-requires
     add-if4
     returns-4
     prices-at-requires
+    counted-prices-requires
     prices-at-requires-2
+    counted-prices-requires-2
     slice-aggregate-keeps-limits
     slice-aggregate-keeps-limits-2
     keeps-limits-requires
