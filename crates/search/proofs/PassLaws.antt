@@ -24,7 +24,7 @@ use Rattle.places.specs.Hours.{cell, rowWidth}
 use Rattle.places.specs.Reach.{isOut}
 use Rattle.search.specs.Meaning.{Fits, Known, Turning, Branch, lossAbove, bestAs, DayOf, Outcome, StepsAre, ExploredFrom}
 use Rattle.search.specs.Tables.{Tables}
-use Rattle.places.proofs.NumberLaws.{zeros}
+use Rattle.orders.proofs.ColumnLaws.{zeros}
 use Rattle.search.proofs.CountsOnce.{daySum-plain}
 use Rattle.search.proofs.DecidedLaws.{daySum-in, gap-of-lawful, rest-below}
 use Rattle.search.specs.declared.Best.{Best}

@@ -63,7 +63,8 @@ use Rattle.setup.specs.Setup.{
 }
 use Rattle.search.proofs.CountsOnce.{block-sum}
 use Rattle.setup.proofs.SetupTwinLaws.{Completed, twins-back, no-worse-true, no-worse-false}
-use Rattle.setup.proofs.SetupTableLaws.{take-drop, row-length, range-holds, row-fits}
+use Rattle.setup.proofs.SetupTableLaws.{take-drop, row-length, range-holds}
+use Rattle.places.proofs.CellLaws.{row-fits}
 use Rattle.setup.proofs.SetupBlockLaws.{bought-within}
 
 -- THE BLOCKS OF THE COLUMNS
