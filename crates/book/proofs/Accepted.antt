@@ -105,10 +105,6 @@ pub blocks-distinct : (b : List ℕ) → Accepted b → Distinct (blockOrder b)
 unfolding blockOrder
 blocks-distinct b a = distinct b chain-of.Blocks (unbroken b (a .unbroken) chain-of.Blocks)
 
-pub chains-apart : (b : List ℕ) → Accepted b → Each (λ i. member i (blockOrder b) ≡ false) (stepOrder b)
-unfolding stepOrder blockOrder
-chains-apart b a = apart b (a .unbroken)
-
 -- The order numbers of the steps rise strictly, the first at least 1, and so do those of the blocks
 pub steps-rising : (b : List ℕ) → Accepted b → Rising b 0 (stepOrder b)
 unfolding stepOrder
@@ -302,27 +298,6 @@ unfolding blocks
 blocks-bounded b a =
     each-image (BlockBounds (limits (edition b))) (blockAt b) (blockOrder b)
     (each-map (BlockRecord b) (λ i. BlockBounds (limits (edition b)) (blockAt b i)) (blockOrder b) (λ i h. h .fields) (block-records b a))
-
--- Which of the two chains a record is on is told by its kind
-pub step-kind : (b : List ℕ) → Accepted b → (i : ℕ) → 0 < i → i < recordCount b → member i (stepOrder b) ≡ eqb (kind b i) stepKind
-step-kind b a i p h = at (member i (stepOrder b)) refl
-  where
-    at : (on : Bool) → member i (stepOrder b) ≡ on → on ≡ eqb (kind b i) stepKind
-    at true e = sym (eq-eqb _ _ (each-member (StepRecord b) (stepOrder b) i (step-records b a) e .ofKind))
-    at false e =
-        let other : member i (blockOrder b) ≡ true = not-false _ (sym (one-chain b a i p h) ∙ e) in
-        let k = each-member (BlockRecord b) (blockOrder b) i (block-records b a) other .ofKind in
-        sym (ne-eqb (kind b i) stepKind (λ w. omega arith))
-
-pub block-kind : (b : List ℕ) → Accepted b → (i : ℕ) → 0 < i → i < recordCount b → member i (blockOrder b) ≡ eqb (kind b i) blockKind
-block-kind b a i p h = at (member i (blockOrder b)) refl
-  where
-    at : (on : Bool) → member i (blockOrder b) ≡ on → on ≡ eqb (kind b i) blockKind
-    at true e = sym (eq-eqb _ _ (each-member (BlockRecord b) (blockOrder b) i (block-records b a) e .ofKind))
-    at false e =
-        let other : member i (stepOrder b) ≡ true = rw e at (one-chain b a i p h) in
-        let k = each-member (StepRecord b) (stepOrder b) i (step-records b a) other .ofKind in
-        sym (ne-eqb (kind b i) blockKind (λ w. omega arith))
 
 -- Every step is for an hour that counts
 step-counted : (b : List ℕ) (i : ℕ) → StepRecord b i × (uncounted b (recordAt b i) ≡ false) → isCounted (dayHours b) (stepAt b i .hour) ≡ true

@@ -9,7 +9,7 @@ use native.Mathlib.Nat.{suc-add}
 use native.Mathlib.Numerals.{add-one}
 use borrow.Author.Tests.{eq-eqb, eqb-true, eqb-false, leb-false, le-leb, lt-leb, not-false}
 use lib.Dec.{eqb, leb, ltb}
-use lib.ListN.{length, length-append, getD}
+use lib.ListN.{length, length-append}
 use Rattle.book.specs.Tests.{someIn, member}
 use Rattle.records.specs.Records.{recordCount, next, kind, number}
 use Rattle.book.specs.Chains.{chainFrom, chain, chains, firstOn, kindOn, numbered, chainOf, isOn, countOn}
@@ -17,7 +17,7 @@ use Rattle.book.specs.Refusals.{misplaced, broken, brokenOn, brokenChain
 use Rattle.book.specs.declared.Chain.{Chain}
 use Rattle.book.specs.declared.Chain.the-variants as chain-of
 use Rattle.book.proofs.Laws.{or-left, or-right}
-use Rattle.book.proofs.Members.{Each, each-map, each-append, each-place, none-in}
+use Rattle.book.proofs.Members.{Each, each-map, each-append, none-in}
 use Rattle.book.proofs.Members.{Distinct, distinct-append, not-member, distinct-length, distinct-missing, some-append}
 
 -- ONE CHAIN
@@ -78,15 +78,6 @@ rising-above b n (i ∷ l) h = (
   h .0,
   each-map (λ j. number b i < number b j) (λ j. n < number b j) l (λ j g. omega arith) (rising-above b (number b i) l (h .1)),
 )
-
--- .. so a record further along has the greater number
-pub rising-places : (b : List ℕ) (n : ℕ) (l : List ℕ) → Rising b n l → (p q : ℕ) → p < q → q < length l
-    → number b (getD l p 0) < number b (getD l q 0)
-rising-places b n [] h p q g f = absurd (omega arith)
-rising-places b n (i ∷ l) h p zero g f = absurd (omega arith)
-rising-places b n (i ∷ l) h zero (suc q) g f =
-    each-place (λ j. number b i < number b j) l q 0 (rising-above b (number b i) l (h .1)) (omega arith)
-rising-places b n (i ∷ l) h (suc p) (suc q) g f = rising-places b (number b i) l (h .1) p q (omega arith) (omega arith)
 
 -- .. and they are distinct
 pub rising-distinct : (b : List ℕ) (n : ℕ) (l : List ℕ) → Rising b n l → Distinct l

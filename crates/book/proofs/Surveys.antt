@@ -1,7 +1,7 @@
 -- The walk along a chain that finds out causes 3 and 4 on it and its length, in one pass: what is asked of the chain is found so far, or asked of what is
 -- left to follow. Assumes nothing.
 use Prim.Native.Nat.{ℕ, _+_, _-_, _<_}
-use mathlib.Core.Path.{_≡_, refl, sym, _∙_}
+use mathlib.Core.Path.{_≡_, refl, _∙_}
 use mathlib.Core.List.{List, []}
 use mathlib.Core.Bool.{Bool, true, false, _||_}
 use native.Mathlib.Omega.{arith}

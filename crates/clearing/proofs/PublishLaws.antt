@@ -6,7 +6,7 @@ use mathlib.Core.Path.{_≡_, refl, sym, ap, ap₂, _∙_}
 use mathlib.Core.List.{List, _++_}
 use native.Mathlib.Omega.{arith}
 use lib.Dec.{eqb}
-use lib.ListN.{length, take, getD, length-map}
+use lib.ListN.{length, take, getD}
 use lib.Seq.{ext-getD, take-all, getD-take, length-take-le}
 use Rattle.records.specs.Records.{recordCount, blockAt}
 use Rattle.book.specs.Chains.{blockOrder}
@@ -16,7 +16,7 @@ use Rattle.rules.specs.Day.{taken, decisions, overBlocks, sells, buys, stepsIn,
 use Rattle.rules.specs.Day.{blocksValue, blocksCost}
 use Rattle.rules.specs.Outcome.{outcome, forHours}
 use Rattle.rules.specs.Contender.{quantitiesIn}
-use Rattle.rules.proofs.SetBits.{bits-length, bits-at}
+use Rattle.rules.proofs.SetBits.{bits-at}
 use Rattle.rules.proofs.DualityLaws.{value, cost}
 use Rattle.rules.proofs.DayLaws.{executed-in, value-by-hour, cost-by-hour}
 use Rattle.orders.specs.Bridge.{dayFrom}
@@ -25,7 +25,7 @@ use Rattle.orders.proofs.RecordLaws.{blocks-all}
 use Rattle.orders.proofs.FrontLaws.{step-records-front, block-records-front, blocks-in-front}
 use Rattle.orders.proofs.HourLaws.{hour-from-columns}
 use Rattle.orders.proofs.PlaceLaws.{block-place}
-use Rattle.orders.proofs.BridgeLaws.{blocks-from-columns, block-count, day-blocks, prices-in-range, hours-in-range}
+use Rattle.orders.proofs.BridgeLaws.{blocks-from-columns, prices-in-range, hours-in-range}
 use Rattle.places.specs.Layout.{mostQuantity}
 use Rattle.places.specs.Hours.{FirstSmall, ofHour}
 use Rattle.places.specs.Steps.{stepsAt}
@@ -48,7 +48,7 @@ use Rattle.result.proofs.RowsLaws.{
   blockRows-at,
 }
 use Rattle.pricing.proofs.TraderLaws.{traders-same}
-use Rattle.result.proofs.PromiseLaws.{hours-length, hour-at, bytes-are}
+use Rattle.result.proofs.PromiseLaws.{outcome-count, hours-length, hour-at, bytes-are}
 
 -- THE STEPS of the hours are the day's
 pub columns-steps : (b ends records sides prices quantities : List ℕ) → StepColumns b ends records sides prices quantities → Accepted b →
@@ -179,11 +179,6 @@ module _ (b ends records sides prices quantities brecords bsides bhours bprices 
     welfare-are = rw (value-is, cost-is)
 
     -- THE ROWS
-    outcome-count : length (outcome (dayFrom b)) ≡ length (blockOrder b)
-    outcome-count =
-        rw (← chosen) (bits-length (length bsides) set)
-        ∙ sym (block-count b (length bsides) brecords bsides bhours bprices bquantities blocks a) ∙ rw (day-blocks b, length-map)
-
     brecords-here : brecords ≡ blockRecords b
     brecords-here = sym (take-all (length bsides) brecords (omega arith)) ∙ block-records-front blocks
 
@@ -199,14 +194,14 @@ module _ (b ends records sides prices quantities brecords bsides bhours bprices 
         let inside : i < length (blockOrder b) = rw brecords-are at k in
         let bit : getD (outcome (dayFrom b)) i false ≡ eqb (set / 2 ^ i % 2) 1 = rw (← chosen) (bits-at (length bsides) set i (omega arith)) in
         let q : getD bquantities i 0 ≡ blockAt b (getD (blockOrder b) i 0) .quantity = rw brecords-are at (p .quantityIs) in
-        blockRows-at b (blockOrder b) (outcome (dayFrom b)) i outcome-count inside ∙ rw (bit, q)
+        blockRows-at b (blockOrder b) (outcome (dayFrom b)) i (outcome-count b a) inside ∙ rw (bit, q)
 
     module _ (rows : List ℕ) (rowed : RowsOf (take (getD ends 24 0) records) (take (getD ends 24 0) values) brecords bquantities set rows) where
       row-is : (k : ℕ) → k < 2048 → rowAt rows k ≡ rowOf b k
       row-is k small =
           let n = columns .endsAt 24 (omega arith) in
           let r : take (getD ends 24 0) records ≡ byHour b 24 = rw n (step-records-front columns) in
-          rowed bvalues (rw brecords-are (blockRows-length b (blockOrder b) (outcome (dayFrom b)) outcome-count)) bvalues-at k small
+          rowed bvalues (rw brecords-are (blockRows-length b (blockOrder b) (outcome (dayFrom b)) (outcome-count b a))) bvalues-at k small
           ∙ rw (r, values-are, brecords-here) (rows-by-hour b a bvalues (rw (chosen-is b)) k)
 
       -- THE WHOLE

@@ -1,15 +1,16 @@
 -- What the blocks of a set are worth, one block at a time, and how much they trade in an hour at most. Assumes nothing.
-use Prim.Native.Nat.{ℕ, zero, suc, _+_, _-_, _*_, _/_, _%_, _≤_, _<_}
+use Prim.Native.Nat.{ℕ, suc, _+_, _-_, _*_, _/_, _%_, _≤_, _<_}
 use mathlib.Core.Path.{_≡_, refl, _∙_}
 use mathlib.Core.List.{List}
-use mathlib.Core.Bool.{Bool, true, false, cond}
+use mathlib.Core.Bool.{Bool, true, false}
 use native.Mathlib.Omega.{arith}
 use native.Mathlib.Numerals.{add-one}
 use lib.Dec.{eqb}
 use lib.ListN.{length, drop, getD, drop-of-length-le}
 use lib.Seq.{drop-cons}
 use borrow.Author.Tests.{eq-eqb, ne-eqb}
-use Rattle.records.specs.Records.{number, holdsHour, hoursSet}
+use Rattle.records.specs.Records.{number, hoursSet}
+use Rattle.records.proofs.Laws.{hours-few}
 use Rattle.rules.specs.Orders.{Side, buy, sell, Block}
 use Rattle.rules.specs.Hour.{bySide, when}
 use Rattle.rules.specs.Day.{taken, decisions, overBlocks, blocksValue, blocksCost}
@@ -25,15 +26,6 @@ use Rattle.rules.proofs.BoundsLaws.{product-le}
 use Rattle.pricing.proofs.TraderLaws.{traders-within}
 
 -- ONE BLOCK
-pub hours-few : (n x : ℕ) → hoursSet n x ≤ n
-unfolding hoursSet
-hours-few zero x = omega arith
-hours-few (suc n) x = omega (arith, hours-few n x, at (holdsHour x (suc n)))
-  where
-    at : (t : Bool) → cond t 1 0 ≤ 1
-    at true = omega arith
-    at false = omega arith
-
 module _ (p q x : ℕ) (fp : p ≤ 300000) (fq : q ≤ mostQuantity) where
   pub limit-fits : (c : ℕ) → c ≡ hoursSet 24 x → p * c ≤ 7200000
   limit-fits c e = product-le p c 300000 24 fp (omega (arith, hours-few 24 x))

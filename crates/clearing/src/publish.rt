@@ -1,7 +1,7 @@
 // The publication: what the steps of each hour get at its price, the welfare, and with them and the day the result's
 // bytes. Assumes nothing.
 ghost use mathlib.Core.Path.{_≡_};
-ghost use Prim.Native.Nat.{_+_, _-_, _*_, _^_, _≤_};
+ghost use Prim.Native.Nat.{_+_, _*_, _^_, _≤_};
 ghost use lib.ListN.{length, getD};
 ghost use lib.Dec.{eqb};
 ghost use Rattle.records.specs.Records.{hoursSet};
@@ -24,6 +24,7 @@ use orders::layout::STEP_PLACES;
 use pricing::BIAS;
 use pricing::blocks::trades_of;
 use pricing::execution::amounts_at;
+use pricing::execution::less;
 use pricing::execution::share_out;
 use records::hour_count;
 use result::block_values;
@@ -189,13 +190,6 @@ fn fill_hours(
         h += 1;
     }
     Sums { value, cost }
-}
-
-// The difference, or 0.
-fn less(a: u64, b: u64) -> u64
-    ensures { λ r. ⌜ r ≡ a - b ⌝ }
-{
-    if b <= a { a - b } else { 0 }
 }
 
 // The row of each record: a step's value, a block's quantity if the set holds it, else 0.

@@ -19,9 +19,8 @@ use Rattle.rules.proofs.Tests.{by-eq}
 use Rattle.orders.specs.Bridge.{sideFrom, stepFrom, orderFrom, ordersOf, dayFrom}
 use Rattle.orders.specs.Columns.{stepRecords, inHour, byHour, stepSideAt, stepPriceAt, stepQuantityAt}
 use Rattle.orders.specs.Columns.{StepColumns, sideFor, stepsFrom}
-use Rattle.orders.proofs.ColumnLaws.{same, map-same}
-use Rattle.orders.proofs.FrontLaws.{step-records-front, step-sides-front, step-prices-front, step-quantities-front}
-use Rattle.orders.proofs.RecordLaws.{steps-all, step-records-few, byHour-more, byHour-rise, byHour-front, byHour-fit, byHour-length, step-as-read}
+use Rattle.orders.proofs.FrontLaws.{step-sides-front, step-prices-front, step-quantities-front}
+use Rattle.orders.proofs.RecordLaws.{steps-all, byHour-more, byHour-rise, byHour-front, byHour-fit, step-as-read}
 
 -- THE ENDS
 -- The columns start at 0, rise hour by hour, and stay within their arrays
@@ -36,17 +35,6 @@ ends-rise b ends records sides prices quantities c g h le last = rw (c .endsAt g
 pub ends-fit : (b ends records sides prices quantities : List ℕ) → StepColumns b ends records sides prices quantities
     → (h : ℕ) → h ≤ 24 → getD ends h 0 ≤ 2048
 ends-fit b ends records sides prices quantities c h last = rw (c .endsAt h last) (byHour-fit b h)
-
--- .. and of an accepted book the last is the number of its steps, at most 2,047
-pub ends-last : (b ends records sides prices quantities : List ℕ) → StepColumns b ends records sides prices quantities → Accepted b
-    → getD ends 24 0 ≡ length (stepRecords b)
-ends-last b ends records sides prices quantities c a = c .endsAt 24 (omega arith) ∙ byHour-length b a
-
-pub ends-few : (b ends records sides prices quantities : List ℕ) → StepColumns b ends records sides prices quantities → Accepted b
-    → (h : ℕ) → h ≤ 24 → getD ends h 0 ≤ 2047
-ends-few b ends records sides prices quantities c a h last =
-    let rise = ends-rise b ends records sides prices quantities c h 24 last (omega arith) in
-    omega (arith, ends-last b ends records sides prices quantities c a, step-records-few b a)
 
 -- A COLUMN'S PART OF AN HOUR
 map-take : {A : Type 0} (f : ℕ → A) (n : ℕ) (l : List ℕ) → take n (map f l) ≡ map f (take n l)
@@ -78,11 +66,6 @@ pub hour-column : (f : ℕ → ℕ) (b ends column : List ℕ) → ((h : ℕ) �
 hour-column f b ends column at e zero first last = absurd (omega arith)
 hour-column f b ends column at e (suc h) first last =
     rw (sub-one, at h (omega arith), at (suc h) last) (rw add-one at (column-hour f b h column (omega arith) e))
-
-pub hour-records : (b ends records sides prices quantities : List ℕ) → StepColumns b ends records sides prices quantities
-    → (h : ℕ) → 1 ≤ h → h ≤ 24 → slice (getD ends (h - 1) 0) (getD ends h 0) records ≡ inHour b h (stepRecords b)
-hour-records b ends records sides prices quantities c h first last =
-    hour-column same b ends records (c .endsAt) (step-records-front c ∙ sym (map-same (byHour b 24))) h first last ∙ map-same (inHour b h (stepRecords b))
 
 pub hour-sides : (b ends records sides prices quantities : List ℕ) → StepColumns b ends records sides prices quantities
     → (h : ℕ) → 1 ≤ h → h ≤ 24 → slice (getD ends (h - 1) 0) (getD ends h 0) sides ≡ map (stepSideAt b) (inHour b h (stepRecords b))

@@ -11,7 +11,8 @@ use Rattle.rules.specs.Hour.{when}
 use Rattle.places.specs.Layout.{hourPlaces, mostAdded, rowsColumn}
 use Rattle.places.specs.Hours.{Small, ofHour}
 use Rattle.places.specs.Blocks.{rowQuantity, addedIn}
-use Rattle.places.proofs.NumberLaws.{below-next, times-when}
+use Rattle.rules.proofs.CurveLaws.{times-when}
+use Rattle.places.proofs.NumberLaws.{below-next}
 
 -- places that grow by at most a block's quantity
 pub places-grow : (n : ℕ) (places r : List ℕ) → length r ≡ hourPlaces → Small (n * mostAdded) places →

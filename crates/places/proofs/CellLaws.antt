@@ -16,24 +16,23 @@ use Rattle.rules.proofs.Tests.{clash}
 use Rattle.book.proofs.Laws.{or-left, or-right}
 use Rattle.places.specs.Layout.{hourPlaces, lastPlace, mostGaps}
 use Rattle.places.specs.Hours.{Small, rowWidth, lastIn, HasRows, cell, ofHour, PlacesClear, GapsOf, PricesOf, nearest, leastGap}
-use Rattle.places.proofs.NumberLaws.{below-next, zeros}
+use Rattle.orders.proofs.ColumnLaws.{zeros}
+use Rattle.places.proofs.NumberLaws.{below-next}
 
--- ROWS: a place of a row is within the table
-pub row-inside : (table : List ℕ) (h i : ℕ) → h < hourPlaces → i < rowWidth table → h * rowWidth table + i < length table
-row-inside table h i k inside =
-    let w = rowWidth table in
-    let next : suc h * w ≤ hourPlaces * w = mul-le-mul-right w k in
-    omega (arith, next, suc-mul h w, div-mul-le (length table))
-  where
-    div-mul-le : (n : ℕ) → hourPlaces * (n / hourPlaces) ≤ n
-    div-mul-le n = omega arith
+-- ROWS: one stands behind another, and the last within the table
+pub rows-apart : (w j h n : ℕ) → j < h → n ≤ w → j * w + n ≤ h * w
+rows-apart w j h n k fits = let next : suc j * w ≤ h * w = mul-le-mul-right w k in omega (arith, next, suc-mul j w)
 
--- with the place above it, and within the numbers of an index
+pub row-fits : (table : List ℕ) (h n : ℕ) → h < hourPlaces → n ≤ rowWidth table → h * rowWidth table + n ≤ length table
+row-fits table h n k fits =
+    let whole : hourPlaces * (length table / hourPlaces) ≤ length table = omega arith in
+    omega (arith, rows-apart (rowWidth table) h hourPlaces n k fits, whole)
+
+-- a place of a row with the place above it, and within the numbers of an index
 pub place-inside : (table : List ℕ) (h i : ℕ) → HasRows table → h < hourPlaces → i ≤ lastIn table →
     (h * rowWidth table + i + 1 < length table) × (length table < hourPlaces * (lastPlace + 3))
 place-inside table h i rows k fits =
-    let e : h * rowWidth table + (i + 1) ≡ h * rowWidth table + i + 1 = omega arith in
-    (rw (← e) (row-inside table h (i + 1) k (omega (arith, rows .0))), omega (arith, rows .1))
+    (omega (arith, row-fits table h (i + 2) k (omega (arith, rows .0))), omega (arith, rows .1))
 
 -- GAPS
 module _ (gap first last places : List ℕ) where

@@ -8,15 +8,8 @@ use native.Mathlib.Numerals.{sub-one}
 use lib.Dec.{eqb}
 use lib.ListN.{set}
 use borrow.Author.Tests.{eq-eqb, ne-eqb}
-use Rattle.orders.specs.Columns.{sideFor}
-use Rattle.rules.specs.Orders.{sell}
 use Rattle.rules.proofs.Tests.{by-eq, both}
 use Rattle.places.specs.Blocks.{sideAt, hoursAt, limitAt, keepsAt, allKeep}
-
--- a side that is not 0 sells
-pub side-sell : (s : ℕ) → (s ≡ 0 → ⊥) → sideFor s ≡ sell
-side-sell zero h = absurd (h refl)
-side-sell (suc s) h = refl
 
 -- LIMITS
 module _ (blocks : List ℕ) (chosen : ℕ) (high low : List ℕ) where

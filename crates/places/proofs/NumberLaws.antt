@@ -1,14 +1,12 @@
 -- Numbers and lists: what holds hour by hour, the larger and the smaller, a number so many times. Assumes nothing.
-use Prim.Native.Nat.{ℕ, zero, suc, _*_, _≤_, _<_}
-use mathlib.Core.Path.{_≡_, refl}
+use Prim.Native.Nat.{ℕ, suc, _*_, _≤_, _<_}
+use mathlib.Core.Path.{_≡_}
 use mathlib.Core.Bool.{Bool, true, false, cond}
 use mathlib.Core.Logic.{_⊎_, inl, inr}
 use native.Mathlib.Omega.{arith}
 use native.Mathlib.Nat.{le-suc-iff, lt-of-not-le}
 use lib.Dec.{leb}
-use lib.ListN.{getD, replicate}
 use borrow.Author.Tests.{le-leb, lt-leb}
-use Rattle.rules.specs.Hour.{when}
 use Rattle.rules.proofs.Tests.{by-le}
 use native.Mathlib.Decide.{decLe}
 use Rattle.places.specs.Hours.{larger, smaller, nearest}
@@ -20,11 +18,6 @@ below-next P h k f p a = go (le-suc-iff .0 a)
     go : (suc k ≤ h) ⊎ (suc k ≡ suc h) → P k
     go (inl b) = f b
     go (inr b) = let e : k ≡ h = omega arith in rw e p
-
-pub zeros : (n k : ℕ) → _≡_ {A = ℕ} (getD (replicate n 0) k 0) 0
-zeros zero k = refl
-zeros (suc n) zero = refl
-zeros (suc n) (suc k) = zeros n k
 
 -- THE LARGER AND THE SMALLER
 module _ (a b : ℕ) where
@@ -65,10 +58,6 @@ nearest-least f n a b i x y falls rises =
       | no w ↦ let v : i < n = lt-of-not-le w in falls i n x (omega arith) z (omega arith)
     ])
     (λ z. falls i b x y (omega arith) (omega arith)))
-
-pub times-when : (t : Bool) (x : ℕ) → cond t 1 0 * x ≡ when t x
-times-when true x = omega arith
-times-when false x = omega arith
 
 pub times-le : (t : Bool) (n x : ℕ) → n ≡ cond t 1 0 → n * x ≤ x
 times-le true n x e = rw e (omega arith)

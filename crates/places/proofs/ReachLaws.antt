@@ -19,7 +19,8 @@ use Rattle.places.specs.Layout.{hourPlaces, mostAdded}
 use Rattle.places.specs.Hours.{Small, ofHour, larger, smaller}
 use Rattle.places.specs.Blocks.{sideAt, againstAt, gainAt, rowQuantity, addedIn}
 use Rattle.places.specs.Reach.{isLeft, isTaken, mustMove, mayMove, mustFrom, mayFrom, AddedTo, RestOf, ReachOf}
-use Rattle.places.proofs.NumberLaws.{below-next, zeros, smaller-below}
+use Rattle.orders.proofs.ColumnLaws.{zeros}
+use Rattle.places.proofs.NumberLaws.{below-next, smaller-below}
 use Rattle.places.proofs.AddedLaws.{places-grow, added-more}
 
 -- WHETHER ONE BLOCK MOVES its places on, in the code's form

@@ -32,7 +32,7 @@ small-take m (suc e) [] f i = omega arith
 small-take m (suc e) (x ∷ l) f zero = f 0 (omega arith)
 small-take m (suc e) (x ∷ l) f (suc i) = small-take m e l (λ j k. f (suc j) (omega arith)) i
 
-small-drop : (m a : ℕ) (l : List ℕ) → Small m l → Small m (drop a l)
+pub small-drop : (m a : ℕ) (l : List ℕ) → Small m l → Small m (drop a l)
 small-drop m zero l f i = f i
 small-drop m (suc a) [] f i = omega arith
 small-drop m (suc a) (x ∷ l) f i = small-drop m a l (λ j. f (suc j)) i

@@ -16,7 +16,8 @@ use Rattle.places.specs.Layout.{hourPlaces, mostAdded}
 use Rattle.places.specs.Hours.{Small, ofHour}
 use Rattle.places.specs.Blocks.{rowQuantity, addedIn, sellsIn, buysIn, SetTrades}
 use Rattle.places.specs.Steps.{stepsAt, HoursTraded}
-use Rattle.places.proofs.NumberLaws.{below-next, zeros}
+use Rattle.orders.proofs.ColumnLaws.{zeros}
+use Rattle.places.proofs.NumberLaws.{below-next}
 use Rattle.places.proofs.StepLaws.{steps-next}
 use Rattle.places.proofs.AddedLaws.{places-grow, added-more}
 

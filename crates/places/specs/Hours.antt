@@ -9,7 +9,7 @@ use Rattle.rules.specs.Orders.{maxPrice}
 use Rattle.rules.specs.Hour.{when}
 use Rattle.rules.specs.Day.{changeHour, sumTo}
 use Rattle.records.specs.Records.{holdsHour}
-use Rattle.places.specs.Layout.{hourPlaces, lastPlace, mostCounted, turnColumn, changePlace, changeRow}
+use Rattle.places.specs.Layout.{hourPlaces, lastPlace, lastAndAbove, mostCounted, turnColumn, changePlace, changeRow}
 
 -- Every number of a list is at most m.
 abbrev pub Small : ℕ → List ℕ → Type 0
@@ -45,11 +45,11 @@ rowWidth table = length table / hourPlaces
 
 -- The last place of a row that has one above it.
 abbrev pub lastIn : List ℕ → ℕ
-lastIn table = rowWidth table - 2
+lastIn table = rowWidth table - lastAndAbove
 
 -- Its rows have such a place, and are no wider than the blocks of a book can reach.
 abbrev pub HasRows : List ℕ → Type 0
-HasRows table = (2 ≤ rowWidth table) × (rowWidth table ≤ lastPlace + 2)
+HasRows table = (lastAndAbove ≤ rowWidth table) × (rowWidth table ≤ lastPlace + lastAndAbove)
 
 -- The number at a place of hour h.
 abbrev pub cell : List ℕ → ℕ → ℕ → ℕ

@@ -49,6 +49,10 @@ mostCountedGaps = mostGaps + 2 ^ 32
 abbrev pub lastLimit : ℕ
 lastLimit = 549755813888
 
+-- THE TABLES: what a row has beyond the places below the last that the blocks reach: that one, and the one above it.
+abbrev pub lastAndAbove : ℕ
+lastAndAbove = 2
+
 -- THE HOURS: the columns first, last and turn in one list, and how often hour 3 counts.
 abbrev pub lastColumn : ℕ
 lastColumn = hourPlaces

@@ -12,6 +12,10 @@ pub const CHANGE_ROW: usize = 2;
 // The most blocks of a book: what a column of the blocks holds.
 pub const MOST_BLOCKS: usize = BLOCK_PLACES;
 
+// THE TABLES: a row of places for each hour.
+// What a row has beyond the places below the last that the blocks reach: that one, and the one above it.
+pub const LAST_AND_ABOVE: usize = 2;
+
 // THE HOURS: three columns in one list, and a number of the day.
 // The first place at which an hour clears.
 pub const FIRST: usize = 0;
@@ -29,7 +33,7 @@ pub const CHANGE: usize = TURN + HOURS;
 pub const HOUR_LIST: usize = CHANGE + 1;
 
 // THE BLOCKS: eight columns and the rows in one list.
-// The side: 0 buys.
+// The side: 0 buys. It begins the list, and is read without its name: `blocks[i]`.
 pub const SIDE: usize = 0;
 
 // The hours, as bits.

@@ -15,7 +15,7 @@ use Rattle.rules.proofs.CurveLaws.{when-zero, when-le, bySide-le, times-when}
 use Rattle.orders.specs.Columns.{sideFor, stepsFrom}
 use Rattle.pricing.specs.Curves.{Columns, QuantitiesInRange, TotalsOf}
 
--- A SIDE as a number
+-- A SIDE as a number: one that is not 0 sells
 pub side-sell : (s : ℕ) → (s ≡ 0 → ⊥) → sideFor s ≡ sell
 side-sell zero h = absurd (h refl)
 side-sell (suc s) h = refl

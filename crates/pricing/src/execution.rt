@@ -4,6 +4,7 @@ ghost use Prim.Native.Nat.{_+_, _-_, _≤_, min};
 ghost use Rattle.rules.specs.Execution.{inFull, buyingAt, sellingAt};
 ghost use lib.ListN.{length};
 ghost use Rattle.pricing.specs.Curves.{bias, stepFor, Columns, QuantitiesInRange, TradedAt, AmountsOf, SharedOut};
+use crate::BIAS;
 use crate::hour::totals_at;
 use crate::hour::totals_between;
 
@@ -13,14 +14,15 @@ pub struct Amounts {
     pub sells: u64,
 }
 
-fn lesser(a: u64, b: u64) -> u64
+// The lesser of two numbers.
+pub fn lesser(a: u64, b: u64) -> u64
     ensures { λ r. ⌜ r ≡ min a b ⌝ }
 {
     if a <= b { a } else { b }
 }
 
 // The difference, or 0.
-fn less(a: u64, b: u64) -> u64
+pub fn less(a: u64, b: u64) -> u64
     ensures { λ r. ⌜ r ≡ a - b ⌝ }
 {
     if b <= a { a - b } else { 0 }
@@ -34,9 +36,9 @@ pub fn amounts_at(sides: &[u8], prices: &[u32], quantities: &[u32], net: u32, pr
     let at = totals_at(sides, prices, quantities, price);
     let before = totals_at(sides, prices, quantities, price - 1);
     let held = less(before.above, at.above);
-    let room = less(at.upto + (net as u64), at.above + 2097152);
+    let room = less(at.upto + (net as u64), at.above + BIAS);
     let buys = lesser(held, room);
-    let sells = less(at.above + buys + 2097152, before.upto + (net as u64));
+    let sells = less(at.above + buys + BIAS, before.upto + (net as u64));
     Amounts {
         buys: buys,
         sells: sells,

@@ -75,6 +75,11 @@ taken-read b result (k ∷ l) [] r e f = absurd (omega arith)
 taken-read b result (k ∷ l) (t ∷ chosen) r e f =
     ap₂ _∷_ (taken-told t _ _ (r .0 .fields .quantity .0) (f .0)) (taken-read b result l chosen (r .1) (omega arith) (f .1))
 
+-- as many decisions as blocks
+pub outcome-count : (b : List ℕ) → Accepted b → length (outcome (dayFrom b)) ≡ length (blockOrder b)
+outcome-count b a =
+    outcome-first (dayFrom b) (empty-lawful (dayFrom b) (prices-in-range b a) (hours-in-range b a)) .ofBlocks ∙ rw (day-blocks b, length-map)
+
 -- WHAT THE BYTES SAY
 -- A result that says what is published of the book: its welfare, its hours, its records' rows.
 pub record Says (b result : List ℕ) : Type 0 where
@@ -84,11 +89,6 @@ pub record Says (b result : List ℕ) : Type 0 where
   pub rowRead : (k : ℕ) → 1 ≤ k → k < recordCount b → rowIn result k ≡ rowOf b k
 
 module _ (b result : List ℕ) (a : Accepted b) (s : Says b result) where
-  -- as many decisions as blocks
-  outcome-count : length (outcome (dayFrom b)) ≡ length (blockOrder b)
-  outcome-count =
-      outcome-first (dayFrom b) (empty-lawful (dayFrom b) (prices-in-range b a) (hours-in-range b a)) .ofBlocks ∙ rw (day-blocks b, length-map)
-
   -- the rows of the steps are their executed quantities
   step-rows-read : stepRowsIn b result ≡ executed (dayFrom b) (publishedBlocks b)
   unfolding stepRowsIn rowOf
@@ -112,14 +112,14 @@ module _ (b result : List ℕ) (a : Accepted b) (s : Says b result) where
   -- the rows of the blocks, by the outcome
   block-rows-read : RowsInFull b result (blockOrder b) (outcome (dayFrom b))
   block-rows-read =
-      rows-in-full b result (blockOrder b) (outcome (dayFrom b)) outcome-count
+      rows-in-full b result (blockOrder b) (outcome (dayFrom b)) (outcome-count b a)
       (rows-are (rowIn result) (λ k. 0) (blockOrder b) _ (blocks-distinct b a)
-      (blockRows-length b (blockOrder b) (outcome (dayFrom b)) outcome-count) block-row)
+      (blockRows-length b (blockOrder b) (outcome (dayFrom b)) (outcome-count b a)) block-row)
 
   -- the blocks taken are those of the outcome
   pub taken-is : takenIn b result ≡ outcome (dayFrom b)
   unfolding takenIn
-  taken-is = taken-read b result (blockOrder b) (outcome (dayFrom b)) (block-records b a) outcome-count block-rows-read
+  taken-is = taken-read b result (blockOrder b) (outcome (dayFrom b)) (block-records b a) (outcome-count b a) block-rows-read
 
   welfare-is-read : welfareIn result ≡ welfare (dayFrom b) (outcome (dayFrom b))
   unfolding published dayFrom

@@ -11,6 +11,7 @@ use lib.ListN.{length, take, drop, set, getD, replicate, length-append, length-s
 use lib.Seq.{take-all, drop-cons, drop-length, getD-set-same, getD-set-other}
 use borrow.Author.Count.{below-more}
 use borrow.Author.Tests.{eq-eqb, ne-eqb, eqb-true, eqb-false}
+use Rattle.orders.proofs.ColumnLaws.{zeros}
 use Rattle.result.specs.Result.{bytesOf, hourRows, recordRows, beside}
 use Rattle.text.specs.Buffer.{splice}
 use Rattle.result.proofs.ByteLaws.{length-bytes}
@@ -164,11 +165,6 @@ pub record Valued (quantities : List ℕ) (chosen : ℕ) (values : List ℕ) (i 
   pub room : length values ≡ 32
   pub done : (j : ℕ) → j < i → getD values j 0 ≡ cond (eqb (chosen / 2 ^ j % 2) 1) (getD quantities j 0) 0
   pub left : (j : ℕ) → i ≤ j → getD values j 0 ≡ 0
-
-pub zeros : (n j : ℕ) → _≡_ {A = ℕ} (getD (replicate n 0) j 0) 0
-zeros zero j = refl
-zeros (suc n) zero = refl
-zeros (suc n) (suc j) = zeros n j
 
 module _ (quantities : List ℕ) (chosen : ℕ) where
   pub valued-start : Valued quantities chosen (replicate 32 0) 0

@@ -1,19 +1,21 @@
 -- How large the numbers get that are chosen, multiplied, moved on and stored. Assumes nothing.
-use Prim.Native.Nat.{ℕ, zero, suc, _+_, _-_, _*_, _/_, _≤_, _<_}
+use Prim.Native.Nat.{ℕ, suc, _+_, _-_, _*_, _≤_, _<_}
 use mathlib.Core.Path.{_≡_}
 use mathlib.Core.List.{List}
 use mathlib.Core.Bool.{Bool, true, false, cond}
 use native.Mathlib.Omega.{arith}
 use native.Mathlib.Decide.{decLe}
-use native.Mathlib.Nat.{lt-of-not-le, mul-le-mul, mul-le-mul-right, suc-mul}
+use native.Mathlib.Nat.{lt-of-not-le, mul-le-mul}
 use lib.ListN.{length, getD, set}
 use lib.Seq.{getD-set-same, getD-set-other}
 use Rattle.records.specs.Records.{holdsHour, hoursSet}
+use Rattle.records.proofs.Laws.{hours-few}
 use Rattle.rules.specs.Orders.{Side, buy, sell, maxPrice}
 use Rattle.rules.specs.Hour.{bySide, when}
 use Rattle.rules.proofs.CurveLaws.{when-le}
 use Rattle.places.specs.Layout.{mostQuantity, mostLimit, hourPlaces}
 use Rattle.places.specs.Hours.{Small, rowWidth, HasRows}
+use Rattle.places.proofs.CellLaws.{row-fits}
 use Rattle.roots.specs.Roots.{RowHeld}
 
 -- a number for each side stays below what both do
@@ -29,18 +31,8 @@ chosen-le false a m x = omega arith
 pub product-fits : (q x : ℕ) → q ≤ mostQuantity → x ≤ mostLimit → q * x ≤ mostQuantity * mostLimit
 product-fits q x a b = omega (arith, mul-le-mul a b)
 
--- a block runs in at most 24 hours
-hours-most : (n x : ℕ) → hoursSet n x ≤ n
-unfolding hoursSet
-hours-most zero x = omega arith
-hours-most (suc n) x = at (holdsHour x (suc n)) (hours-most n x)
-  where
-    at : (t : Bool) → hoursSet n x ≤ n → hoursSet n x + cond t 1 0 ≤ suc n
-    at true k = omega arith
-    at false k = omega arith
-
 pub limit-fits : (price x : ℕ) → price ≤ maxPrice → price * hoursSet hourPlaces x ≤ mostLimit
-limit-fits price x a = omega (arith, mul-le-mul a (hours-most hourPlaces x))
+limit-fits price x a = omega (arith, mul-le-mul a (hours-few hourPlaces x))
 
 -- places moved on by a quantity in some hours
 pub moved-most : (x q : ℕ) (places more : List ℕ) → length more ≡ hourPlaces →
@@ -67,7 +59,4 @@ set-small m l h v k a small j = elim (decLe j h) [
 -- the row of an hour
 pub row-held : (table : List ℕ) (h : ℕ) → HasRows table → h < hourPlaces → RowHeld table (h * rowWidth table) (rowWidth table)
 row-held table h rows k =
-    let w = rowWidth table in
-    let next : suc h * w ≤ hourPlaces * w = mul-le-mul-right w k in
-    let whole : hourPlaces * (length table / hourPlaces) ≤ length table = omega arith in
-    record { inside = omega (arith, next, suc-mul h w, whole); narrow = rows .1; tableFits = omega (arith, rows .1) }
+    record { inside = row-fits table h (rowWidth table) k (omega arith); narrow = rows .1; tableFits = omega (arith, rows .1) }

@@ -3,7 +3,7 @@ ghost use Prim.Native.Nat.{_+_, _-_, _*_, _≤_, _<_};
 ghost use lib.ListN.{length};
 ghost use Rattle.rules.specs.Orders.{maxPrice};
 ghost use Rattle.book.specs.Bounds.{mostBlocks};
-ghost use Rattle.places.specs.Layout.{hourPlaces, mostQuantity, mostLimit, lastPlace};
+ghost use Rattle.places.specs.Layout.{hourPlaces, mostQuantity, mostLimit, lastPlace, lastAndAbove};
 ghost use Rattle.places.specs.Hours.{Small, FirstSmall, HasRows, lastIn};
 ghost use Rattle.roots.specs.Roots.{RowHeld};
 use places::layout::HOURS;
@@ -15,7 +15,7 @@ use places::numbers::less;
 // What an hour at the place from loses at a price below its own: how far the prices of the places above stand over it.
 fn gap_up(unit_prices: &[u32], row: usize, width: usize, from: usize, price: u32) -> u64
     requires { ⌜ RowHeld (now «unit_prices») row width × Small maxPrice (now «unit_prices») × (from < width) ⌝ }
-    ensures { λ r. ⌜ r ≤ (lastPlace + 2) * maxPrice ⌝ }
+    ensures { λ r. ⌜ r ≤ (lastPlace + lastAndAbove) * maxPrice ⌝ }
 {
     let mut sum: u64 = 0;
     let mut i = from + 1;
@@ -33,7 +33,7 @@ fn gap_up(unit_prices: &[u32], row: usize, width: usize, from: usize, price: u32
 // What it loses at a price above its own: how far the prices of the places down from it stand under it.
 fn gap_down(unit_prices: &[u32], row: usize, from: usize, price: u32) -> u64
     requires { ⌜ (row + from < length (now «unit_prices»)) × (length (now «unit_prices») < hourPlaces * (lastPlace + 3)) × (from ≤ lastPlace) × (price ≤ maxPrice) ⌝ }
-    ensures { λ r. ⌜ r ≤ (lastPlace + 2) * maxPrice ⌝ }
+    ensures { λ r. ⌜ r ≤ (lastPlace + lastAndAbove) * maxPrice ⌝ }
 {
     let mut sum: u64 = 0;
     let mut i = from;
@@ -51,7 +51,7 @@ fn gap_down(unit_prices: &[u32], row: usize, from: usize, price: u32) -> u64
 // What the hours at the places off lose at the prices.
 fn gaps_from(unit_prices: &[u32], off: [u32; HOURS], prices: [u32; HOURS]) -> u64
     requires { ⌜ HasRows (now «unit_prices») × Small maxPrice (now «unit_prices») × Small (lastIn (now «unit_prices»)) off × Small maxPrice prices ⌝ }
-    ensures { λ r. ⌜ r ≤ 2 * hourPlaces * ((lastPlace + 2) * maxPrice) ⌝ }
+    ensures { λ r. ⌜ r ≤ 2 * hourPlaces * ((lastPlace + lastAndAbove) * maxPrice) ⌝ }
 {
     let width = unit_prices.len() / HOURS;
     let mut sum: u64 = 0;

@@ -9,13 +9,11 @@ ghost use Rattle.roots.specs.Roots.{allMoves, roundMoves};
 use places::added::moved;
 use places::cells::prices_at;
 use places::layout::HOURS;
+use places::layout::LAST_AND_ABOVE;
 use places::layout::MOST_BLOCKS;
 use places::limits::price_sum;
 use places::numbers::choose;
 use places::numbers::smaller;
-
-// The last place of a row that has one above it stands so far from its end.
-const LAST_AND_ABOVE: usize = 2;
 
 // The moves of a round, after which the prices are tried.
 pub const ROUND: u32 = 7;

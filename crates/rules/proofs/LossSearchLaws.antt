@@ -15,7 +15,7 @@ use Rattle.rules.specs.Day.{Day, lawful, welfare}
 use Rattle.rules.specs.Outcome.{outcome}
 use Rattle.rules.specs.Contender.{HoldsLowest, PricesInRange, HoursInRange}
 use Rattle.rules.proofs.BestLaws.{holds-same, holds-both, FirstBest, outcome-first}
-use Rattle.rules.proofs.SearchLaws.{decided-next, holds-first}
+use Rattle.rules.proofs.SearchLaws.{decided-next, law-in, none-more, holds-first}
 use Rattle.rules.proofs.DayLaws.{empty-lawful}
 use Rattle.rules.proofs.LossLaws.{lossOf, wholeOf, welfare-and-loss}
 
@@ -55,25 +55,16 @@ module _ (day : Day) (sought : List Bool → Type 0) (loss : List Bool → ℕ) 
 
   -- A LEAF: all blocks are decided
   module _ (d : List Bool) (best : Best) where
-    -- a completion by no block is the decided part
-    alone : (P : List Bool → Type 0) (t : List Bool) → length t ≡ 0 → P (d ++ t) → P d
-    alone P [] l q = rw append-nil at q
-    alone P (x ∷ t) l q = absurd (omega arith)
-
-    same : (t : List Bool) → length t ≡ 0 → loss (d ++ t) ≡ loss d
-    same [] l = rw append-nil
-    same (x ∷ t) l = absurd (omega arith)
-
     -- not lawful, not sought, or with no less loss
     pub leaf-kept : (lawful day d ≡ true → sought d → best .limit ≤ loss d) → Explored day sought loss 0 d best best
     leaf-kept h =
-        branch-cut 0 d best (λ t l law is. omega (arith, same t l, h (alone (λ s. lawful day s ≡ true) t l law) (alone sought t l is)))
+        branch-cut 0 d best (λ t l law is. omega (arith, ap loss (none-more d t l), h (rw (none-more d t l) at law) (rw (none-more d t l) at is)))
 
     -- lawful with less loss; whether it is sought need not be known
     pub leaf-lowered : lawful day d ≡ true → loss d < best .limit → Explored day sought loss 0 d best record { limit = loss d; set = d }
     leaf-lowered law less = record {
       noMore = omega arith;
-      least = λ t l f is. omega (arith, same t l);
+      least = λ t l f is. omega (arith, ap loss (none-more d t l));
       kept = λ e. absurd (omega arith);
       better = λ _. record {
         rest = [];
@@ -81,13 +72,9 @@ module _ (day : Day) (sought : List Bool → Type 0) (loss : List Bool → ℕ) 
         is = rw append-nil refl;
         isLawful = rw append-nil law;
         lost = rw append-nil refl;
-        onTie = λ t l f is e. ties t l;
+        onTie = λ t l f is e. rw (append-nil, none-more d t l) (holds-same d);
       };
     }
-      where
-        ties : (t : List Bool) → length t ≡ 0 → HoldsLowest (d ++ []) (d ++ t)
-        ties [] l = holds-same (d ++ [])
-        ties (x ∷ t) l = absurd (omega arith)
 
   -- A BLOCK DECIDED, first taken and then left out
   pub joined : (n : ℕ) (d : List Bool) (best m r : Best) →
@@ -96,17 +83,14 @@ module _ (day : Day) (sought : List Bool → Type 0) (loss : List Bool → ℕ) 
   joined n d best m r a b =
       record { noMore = omega (arith, a .noMore, b .noMore); least = all; kept = unchanged; better = λ k. new k (eq-or-lt-of-le (b .noMore)) }
     where
-      law-in : (x : Bool) (t : List Bool) → lawful day (d ++ (x ∷ t)) ≡ true → lawful day ((d ++ (x ∷ [])) ++ t) ≡ true
-      law-in x t law = rw decided-next law
-
       sought-in : (x : Bool) (t : List Bool) → sought (d ++ (x ∷ t)) → sought ((d ++ (x ∷ [])) ++ t)
       sought-in x t is = rw decided-next is
 
       all : (t : List Bool) → length t ≡ suc n → lawful day (d ++ t) ≡ true → sought (d ++ t) → r .limit ≤ loss (d ++ t)
       all [] l law is = absurd (omega arith)
       all (true ∷ t) l law is =
-          omega (arith, b .noMore, rw (decided-next d true t) at (a .least t (suc-inj l) (law-in true t law) (sought-in true t is)))
-      all (false ∷ t) l law is = rw (decided-next d false t) at (b .least t (suc-inj l) (law-in false t law) (sought-in false t is))
+          omega (arith, b .noMore, rw (decided-next d true t) at (a .least t (suc-inj l) (law-in day d true t law) (sought-in true t is)))
+      all (false ∷ t) l law is = rw (decided-next d false t) at (b .least t (suc-inj l) (law-in day d false t law) (sought-in false t is))
 
       unchanged : r .limit ≡ best .limit → r ≡ best
       unchanged e = b .kept (omega (arith, a .noMore, b .noMore)) ∙ a .kept (omega (arith, a .noMore, b .noMore))
@@ -128,7 +112,7 @@ module _ (day : Day) (sought : List Bool → Type 0) (loss : List Bool → ℕ) 
       same-first : (x : Bool) (f : Found day sought loss n (d ++ (x ∷ [])) r) (t : List Bool) → length t ≡ n → lawful day (d ++ (x ∷ t)) ≡ true →
           sought (d ++ (x ∷ t)) → loss (d ++ (x ∷ t)) ≡ r .limit → HoldsLowest (d ++ (x ∷ f .rest)) (d ++ (x ∷ t))
       same-first x f t l law is e =
-          rw (decided-next d x (f .rest), decided-next d x t) at (f .onTie t l (law-in x t law) (sought-in x t is) (rw decided-next e))
+          rw (decided-next d x (f .rest), decided-next d x t) at (f .onTie t l (law-in day d x t law) (sought-in x t is) (rw decided-next e))
 
       left-out : r .limit < m .limit → Found day sought loss n (d ++ (false ∷ [])) r → Found day sought loss (suc n) d r
       left-out k f = after false f ties
@@ -137,7 +121,7 @@ module _ (day : Day) (sought : List Bool → Type 0) (loss : List Bool → ℕ) 
               HoldsLowest (d ++ (false ∷ f .rest)) (d ++ t)
           ties [] l law is e = absurd (omega arith)
           ties (true ∷ t) l law is e =
-              absurd (omega (arith, rw (decided-next d true t) at (a .least t (suc-inj l) (law-in true t law) (sought-in true t is))))
+              absurd (omega (arith, rw (decided-next d true t) at (a .least t (suc-inj l) (law-in day d true t law) (sought-in true t is))))
           ties (false ∷ t) l law is e = same-first false f t (suc-inj l) law is e
 
       taken-first : Found day sought loss n (d ++ (true ∷ [])) r → Found day sought loss (suc n) d r

@@ -1,4 +1,4 @@
--- An hour with one more unit of N: its welfare rises by L. The hour's gap at any price p (what its welfare falls short of the surplus at p and p for
+-- An hour with one more unit of N. The hour's gap at any price p (what its welfare falls short of the surplus at p and p for
 -- each unit of N) is 0 or more, depends on N alone, and changes by p − L from one N to the next. Assumes nothing.
 use Prim.Native.Nat.{ℕ, suc, _+_, _-_, _*_}
 use mathlib.Core.Path.{_≡_, ap}
@@ -54,19 +54,7 @@ module _ (l : List Step) (r : PricesInRange l) (s b : ℕ) (c : Clearable (net l
   low-clears-both : Clears (net l (suc s) b) (lowOf (net l s b))
   low-clears-both = low-clears-next l r s b c d
 
-  -- the hour's welfare rises by L
-  pub welfare-next :
-      value l (execution (net l (suc s) b) (priceOf (net l (suc s) b))) + cost l (execution (net l s b) (priceOf (net l s b)))
-      ≡ value l (execution (net l s b) (priceOf (net l s b))) + cost l (execution (net l (suc s) b) (priceOf (net l (suc s) b)))
-      + lowOf (net l s b)
-  welfare-next =
-      omega (
-        arith,
-        execution-attains one-more (priceOf one-more) (lowOf (net l s b)) (own-clears one-more r c) low-clears-both,
-        execution-attains (net l s b) (priceOf (net l s b)) (lowOf (net l s b)) (own-clears (net l s b) r d) (answered (net l s b) r d .lowClears),
-      )
-
-  -- and the gap at any price p changes by p − L
+  -- the gap at any price p changes by p − L
   pub slack-next : (p : ℕ) → slack p (net l (suc s) b) + lowOf (net l s b) ≡ slack p (net l s b) + p
   slack-next p =
       omega (

@@ -47,6 +47,15 @@ bound-sound day bound above n d need e s l law = omega (arith, ltb-true (bound d
 pub decided-next : (d : List Bool) (x : Bool) (s : List Bool) → (d ++ (x ∷ [])) ++ s ≡ d ++ (x ∷ s)
 decided-next d x s = append-assoc d (x ∷ []) s
 
+-- lawful with one more decision, before it or after it
+pub law-in : (day : Day) (d : List Bool) (x : Bool) (t : List Bool) → lawful day (d ++ (x ∷ t)) ≡ true → lawful day ((d ++ (x ∷ [])) ++ t) ≡ true
+law-in day d x t law = rw decided-next law
+
+-- no block is left to decide
+pub none-more : (d t : List Bool) → length t ≡ 0 → d ++ t ≡ d
+none-more d [] l = rw append-nil
+none-more d (x ∷ t) l = absurd (omega arith)
+
 pub holds-first : (d s t : List Bool) → HoldsLowest (d ++ (true ∷ s)) (d ++ (false ∷ t))
 holds-first [] s t = tt
 holds-first (true ∷ d) s t = holds-first d s t
@@ -79,27 +88,15 @@ module _ (day : Day) where
   set-decided d hand =
       by-test (λ u. Searched day 0 d hand (cond (u && leb (hand .need) (welfare day d)) (record { need = suc (welfare day d); set = d }) hand))
       (lawful day d) lawfully
-      (λ e. nothing-reached 0 d hand (λ t l law. clash (alone t l (λ s. lawful day s ≡ true) law) e))
+      (λ e. nothing-reached 0 d hand (λ t l law. clash (rw (none-more d t l) at law) e))
     where
-      alone : (t : List Bool) → length t ≡ 0 → (P : List Bool → Type 0) → P (d ++ t) → P d
-      alone [] l P p = rw append-nil at p
-      alone (x ∷ t) l P p = absurd (omega arith)
-
-      ties : (t : List Bool) → length t ≡ 0 → HoldsLowest (d ++ []) (d ++ t)
-      ties [] l = holds-same (d ++ [])
-      ties (x ∷ t) l = absurd (omega arith)
-
-      same : (t : List Bool) → length t ≡ 0 → welfare day (d ++ t) ≡ welfare day d
-      same [] l = rw append-nil
-      same (x ∷ t) l = absurd (omega arith)
-
       lawfully : lawful day d ≡ true →
           Searched day 0 d hand (cond (leb (hand .need) (welfare day d)) (record { need = suc (welfare day d); set = d }) hand)
       lawfully law =
           by-le (λ u. Searched day 0 d hand (cond u (record { need = suc (welfare day d); set = d }) hand)) (hand .need) (welfare day d)
           (λ k. record {
             noLess = omega arith;
-            below = λ t l f. omega (arith, same t l);
+            below = λ t l f. omega (arith, ap (welfare day) (none-more d t l));
             kept = λ z. absurd (omega arith);
             better = λ _. record {
               rest = [];
@@ -107,10 +104,10 @@ module _ (day : Day) where
               is = rw append-nil refl;
               isLawful = rw append-nil law;
               passed = rw append-nil refl;
-              onTie = λ t l f e. ties t l;
+              onTie = λ t l f e. rw (append-nil, none-more d t l) (holds-same d);
             };
           })
-          (λ k. nothing-reached 0 d hand (λ t l f. omega (arith, same t l)))
+          (λ k. nothing-reached 0 d hand (λ t l f. omega (arith, ap (welfare day) (none-more d t l))))
 
   -- one block decided, first taken and then left out
   pub block-decided : (n : ℕ) (d : List Bool) (hand m r : Hand) →
@@ -118,13 +115,10 @@ module _ (day : Day) where
   block-decided n d hand m r a b =
       record { noLess = omega (arith, a .noLess, b .noLess); below = all; kept = same; better = λ k. new k (eq-or-lt-of-le (b .noLess)) }
     where
-      law-in : (x : Bool) (t : List Bool) → lawful day (d ++ (x ∷ t)) ≡ true → lawful day ((d ++ (x ∷ [])) ++ t) ≡ true
-      law-in x t law = rw decided-next law
-
       all : (t : List Bool) → length t ≡ suc n → lawful day (d ++ t) ≡ true → welfare day (d ++ t) < r .need
       all [] l law = absurd (omega arith)
-      all (true ∷ t) l law = omega (arith, b .noLess, rw (decided-next d true t) at (a .below t (suc-inj l) (law-in true t law)))
-      all (false ∷ t) l law = rw (decided-next d false t) at (b .below t (suc-inj l) (law-in false t law))
+      all (true ∷ t) l law = omega (arith, b .noLess, rw (decided-next d true t) at (a .below t (suc-inj l) (law-in day d true t law)))
+      all (false ∷ t) l law = rw (decided-next d false t) at (b .below t (suc-inj l) (law-in day d false t law))
 
       same : r .need ≡ hand .need → r ≡ hand
       same e = b .kept (omega (arith, a .noLess, b .noLess)) ∙ a .kept (omega (arith, a .noLess, b .noLess))
@@ -143,10 +137,10 @@ module _ (day : Day) where
               HoldsLowest (d ++ (false ∷ f .rest)) (d ++ t)
           ties [] l law e = absurd (omega arith)
           ties (true ∷ t) l law e =
-              absurd (omega (arith, rw (decided-next d true t) at (a .below t (suc-inj l) (law-in true t law))))
+              absurd (omega (arith, rw (decided-next d true t) at (a .below t (suc-inj l) (law-in day d true t law))))
           ties (false ∷ t) l law e =
               rw (decided-next d false (f .rest), decided-next d false t) at
-              (f .onTie t (suc-inj l) (law-in false t law) (rw decided-next e))
+              (f .onTie t (suc-inj l) (law-in day d false t law) (rw decided-next e))
 
       taken-first : Reached day n (d ++ (true ∷ [])) r → Reached day (suc n) d r
       taken-first f = record {
@@ -163,7 +157,7 @@ module _ (day : Day) where
           ties [] l law e = absurd (omega arith)
           ties (true ∷ t) l law e =
               rw (decided-next d true (f .rest), decided-next d true t) at
-              (f .onTie t (suc-inj l) (law-in true t law) (rw decided-next e))
+              (f .onTie t (suc-inj l) (law-in day d true t law) (rw decided-next e))
           ties (false ∷ t) l law e = holds-first d (f .rest) t
 
       new : hand .need < r .need → (m .need ≡ r .need) ⊎ (m .need < r .need) → Reached day (suc n) d r

@@ -1,12 +1,12 @@
 -- A set of blocks as a number, the lowest bit for the first block, and as a list of decisions. Assumes nothing.
 use Prim.Native.Nat.{ℕ, zero, suc, _+_, _/_, _%_, _^_, _<_}
 use mathlib.Core.Bool.{true, false}
-use mathlib.Core.Path.{_≡_, refl, ap}
+use mathlib.Core.Path.{_≡_, refl}
 use mathlib.Core.List.{[], _∷_, _++_}
 use native.Mathlib.Omega.{arith}
 use native.Mathlib.Nat.{div-one}
 use lib.Dec.{eqb}
-use lib.ListN.{length, getD}
+use lib.ListN.{getD}
 use lib.Pow.{shr-shr}
 use borrow.Author.Tests.{eq-eqb, ne-eqb}
 use Rattle.rules.specs.Day.{decisions}
@@ -14,11 +14,6 @@ use Rattle.rules.specs.Day.{decisions}
 bits-suc : (k u : ℕ) → decisions (suc k) u ≡ eqb (u % 2) 1 ∷ decisions k (u / 2)
 unfolding decisions
 bits-suc k u = refl
-
-pub bits-length : (k u : ℕ) → length (decisions k u) ≡ k
-unfolding decisions
-bits-length zero u = refl
-bits-length (suc k) u = ap suc (bits-length k (u / 2))
 
 -- ONE MORE BLOCK
 -- taken: its bit is added to a set of the first k blocks

@@ -31,11 +31,7 @@ module _ (most h : ℕ) where
       at buy t = omega (arith, when-le t 0, when-le t (b .quantity), k)
       at sell t = omega (arith, when-le t 0, when-le t (b .quantity), k)
 
-  pub trades-within : (l : List Block) → EachAtMost most l → overBlocks (sells h) l + overBlocks (buys h) l ≤ length l * most
-  trades-within [] e = omega arith
-  trades-within (b ∷ l) e = rw (suc-mul (length l) most) (omega (arith, trade-within b (e .0), trades-within l (e .1)))
-
-  -- the blocks of a set trade no more
+  -- the blocks of a set, out of so many
   pub taken-within : (l : List Block) (set : List Bool) → EachAtMost most l →
       overBlocks (sells h) (taken l set) + overBlocks (buys h) (taken l set) ≤ length l * most
   taken-within [] set e = omega arith

@@ -18,7 +18,8 @@ use Rattle.rules.specs.Hour.{bySide, when}
 use Rattle.places.specs.Hours.{Small, sumOfHours, larger}
 use Rattle.places.specs.Blocks.{sideAt, hoursAt, quantityAt, limitAt, againstAt, gainAt}
 use Rattle.setup.specs.Setup.{BlocksHeld, sumBelow, blocksTrade, TradedBy, written, Written}
-use Rattle.places.proofs.NumberLaws.{zeros, below-next, larger-above, larger-least}
+use Rattle.orders.proofs.ColumnLaws.{zeros}
+use Rattle.places.proofs.NumberLaws.{below-next, larger-above, larger-least}
 use Rattle.roots.proofs.SizeLaws.{side-le, chosen-le, moved-most}
 
 -- WHAT THE BLOCKS TRADE in each hour

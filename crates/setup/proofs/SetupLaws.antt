@@ -11,14 +11,13 @@ use lib.ListN.{length, take, drop, getD, length-map, drop-of-length-le}
 use lib.Seq.{getD-take, getD-drop, slice}
 use Rattle.book.specs.Bounds.{mostBlocks}
 use Rattle.orders.specs.Layout.{stepPlaces}
-use Rattle.places.specs.Layout.{hourPlaces, lastPlace, mostQuantity}
+use Rattle.places.specs.Layout.{hourPlaces}
 use Rattle.records.specs.Records.{number, hoursSet, holdsHour}
 use Rattle.book.specs.Refusals.{Accepted}
-use Rattle.book.proofs.Members.{Each}
 use Rattle.orders.specs.Bridge.{dayFrom}
 use Rattle.orders.specs.Columns.{StepColumns, BlockColumns, sideFor, stepsFrom, blockOf, blocksFrom}
 use Rattle.orders.specs.Columns.{blockRecords, blockSideAt, blockHoursAt, blockPriceAt, blockQuantityAt}
-use Rattle.orders.proofs.BridgeLaws.{BlockInRange, blocks-in-range, prices-in-range, hours-in-range, blocks-from-columns, block-count, hour-count}
+use Rattle.orders.proofs.BridgeLaws.{prices-in-range, hours-in-range, blocks-from-columns, block-count, hour-count}
 use Rattle.orders.proofs.FrontLaws.{block-records-front, block-sides-front, block-hours-front, block-prices-front, block-quantities-front}
 use Rattle.orders.proofs.HourLaws.{hour-from-columns, ends-rise, ends-fit}
 use Rattle.orders.proofs.PlaceLaws.{block-place}
@@ -28,7 +27,6 @@ use Rattle.rules.specs.Day.{overBlocks, sells, buys, stepsIn, priceSum}
 use Rattle.rules.specs.Day as day
 use Rattle.rules.specs.Contender.{PricesInRange}
 use Rattle.rules.proofs.ChainLaws.{prices-in}
-use Rattle.rules.proofs.CurveLaws.{when-le}
 use Rattle.rules.proofs.PricingLaws.{Clearable, net}
 use Rattle.rules.proofs.TableLaws.{unitPrice}
 use Rattle.rules.proofs.NeighbourLaws.{slack}
@@ -63,7 +61,8 @@ use Rattle.setup.specs.Setup.{
 }
 use Rattle.search.proofs.CountsOnce.{block-sum}
 use Rattle.setup.proofs.SetupTwinLaws.{Completed, twins-back, no-worse-true, no-worse-false}
-use Rattle.setup.proofs.SetupTableLaws.{take-drop, row-length, range-holds, row-fits}
+use Rattle.setup.proofs.SetupTableLaws.{take-drop, row-length, range-holds}
+use Rattle.places.proofs.CellLaws.{row-fits}
 use Rattle.setup.proofs.SetupBlockLaws.{bought-within}
 
 -- THE BLOCKS OF THE COLUMNS
@@ -101,18 +100,6 @@ traded-both (suc n) runs side q = omega (arith, traded-both n runs side q, one (
     one true sell x = omega arith
     one false buy x = omega arith
     one false sell x = omega arith
-
--- what blocks of at most 50 trade in an hour
-trade-fits : (h : ℕ) (s : Block) → BlockInRange s → sells h s + buys h s ≤ mostQuantity
-trade-fits h s r = at (s .side) (s .runs h)
-  where
-    at : (side : Side) (t : _) → when t (bySide side 0 (s .quantity)) + when t (bySide side (s .quantity) 0) ≤ mostQuantity
-    at buy t = omega (arith, when-le t 0, when-le t (s .quantity), r .quantity .1)
-    at sell t = omega (arith, when-le t 0, when-le t (s .quantity), r .quantity .1)
-
-trades-fit : (h : ℕ) (l : List Block) → Each BlockInRange l → overBlocks (sells h) l + overBlocks (buys h) l ≤ length l * mostQuantity
-trades-fit h [] e = omega arith
-trades-fit h (s ∷ l) e = omega (arith, trade-fits h s (e .0), trades-fit h l (e .1))
 
 -- a place of a row
 row-at : (w : ℕ) (table : List ℕ) (h most i : ℕ) → i < rowPlaces most → getD (tableRow w table h most) i 0 ≡ getD table (h * w + i) 0
@@ -170,9 +157,6 @@ module _ (b ends stepRecords sides prices quantities : List ℕ) (count : ℕ) (
         ap (overBlocks (buys h)) none-after,
         traded-both count (λ i. holdsHour (getD hours i 0) h) (λ i. sideFor (getD blockSides i 0)) (λ i. getD blockQuantities i 0),
       )
-
-  blocks-fit : (h : ℕ) → overBlocks (sells h) (dayFrom b .blocks) + overBlocks (buys h) (dayFrom b .blocks) ≤ lastPlace
-  blocks-fit h = omega (arith, trades-fit h (dayFrom b .blocks) (blocks-in-range b a), blocks-counted, bc .few)
 
   abbrev stepsHere : ℕ → List Step
   stepsHere h = stepsFrom h (hourPart ends (h - 1) sides) (hourPart ends (h - 1) prices) (hourPart ends (h - 1) quantities)

@@ -1,13 +1,13 @@
 -- The tables of the search, filled row after row: the price tables, the ranges and the gap tables of the hours. Assumes nothing.
-use Prim.Native.Nat.{ℕ, zero, suc, _+_, _-_, _*_, _/_, _≤_, _<_}
+use Prim.Native.Nat.{ℕ, zero, suc, _+_, _-_, _*_, _≤_, _<_}
 use mathlib.Core.Path.{_≡_, refl, sym, ap, _∙_}
 use mathlib.Core.List.{List, [], _∷_, _++_}
 use native.Mathlib.Omega.{arith}
 use native.Mathlib.Numerals.{add-one}
 use native.Mathlib.Decide.{decLe}
-use native.Mathlib.Nat.{lt-of-not-le, mul-le-mul-right, suc-mul}
+use native.Mathlib.Nat.{lt-of-not-le}
 use lib.ListN.{length, take, drop, getD, set, replicate, length-set, length-take, length-drop}
-use lib.Seq.{length-take-le, take-take, take-nil, drop-nil, drop-at, take-at, getD-set-same, getD-set-other, getD-drop}
+use lib.Seq.{length-take-le, take-take, take-nil, drop-nil, drop-at, take-at, getD-set-same, getD-set-other}
 use borrow.Rule.Slice.PartMut.{putMid, midOf, take-put, same-len-mid}
 use Rattle.places.specs.Layout.{hourPlaces, lastPlace}
 use Rattle.rules.specs.Orders.{Step, buy, sell, maxPrice}
@@ -16,7 +16,10 @@ use Rattle.tables.specs.Tables.{PriceTable, AllOf, ClearRange, NotRising, GapsF
 use Rattle.tables.proofs.LevelLaws.{table-not-rising, table-in-range}
 use Rattle.places.specs.Hours.{Small, rowWidth, lastIn}
 use Rattle.setup.specs.Setup.{StepsHeld, PartHeld, hourPart, rowPlaces, tableRow, RowsFit, RowIs, RowsAre, Ranged, RangedAt, RangesAre}
-use Rattle.places.proofs.NumberLaws.{below-next, zeros}
+use Rattle.orders.proofs.ColumnLaws.{zeros}
+use Rattle.places.proofs.NumberLaws.{below-next}
+use Rattle.places.proofs.StepLaws.{small-take, small-drop}
+use Rattle.places.proofs.CellLaws.{rows-apart, row-fits}
 use Rattle.roots.proofs.SizeLaws.{set-small}
 
 -- PARTS
@@ -46,26 +49,7 @@ small-append m [] b sa sb i = sb i
 small-append m (x ∷ a) b sa sb zero = sa 0
 small-append m (x ∷ a) b sa sb (suc i) = small-append m a b (λ j. sa (suc j)) sb i
 
-small-front : (m n : ℕ) (l : List ℕ) → Small m l → Small m (take n l)
-small-front m zero [] s i = s i
-small-front m zero (x ∷ l) s i = let none : length (take 0 (x ∷ l)) ≤ i = omega arith in rw (lib.ListN.List·getD-eq-default (take 0 (x ∷ l)) 0 none) (omega arith)
-small-front m (suc n) [] s i = s i
-small-front m (suc n) (x ∷ l) s zero = s 0
-small-front m (suc n) (x ∷ l) s (suc i) = small-front m n l (λ j. s (suc j)) i
-
-small-behind : (m n : ℕ) (l : List ℕ) → Small m l → Small m (drop n l)
-small-behind m n l s i = rw (getD-drop n l i 0) (s (n + i))
-
 -- ROWS
--- one row stands behind another, and the last within the table
-pub rows-apart : (w j h n : ℕ) → j < h → n ≤ w → j * w + n ≤ h * w
-rows-apart w j h n k fits = let next : suc j * w ≤ h * w = mul-le-mul-right w k in omega (arith, next, suc-mul j w)
-
-pub row-fits : (table : List ℕ) (h n : ℕ) → h < hourPlaces → n ≤ rowWidth table → h * rowWidth table + n ≤ length table
-row-fits table h n k fits =
-    let whole : hourPlaces * (length table / hourPlaces) ≤ length table = omega arith in
-    omega (arith, rows-apart (rowWidth table) h hourPlaces n k fits, whole)
-
 module _ (w : ℕ) (table row : List ℕ) (h k most : ℕ) (room : h * w + rowPlaces most ≤ length table) (full : length row ≡ rowPlaces most)
     (wide : k ≡ rowPlaces most) where
   pub row-put : tableRow w (putMid (h * w) k table row) h most ≡ row
@@ -88,8 +72,8 @@ module _ (w : ℕ) (table row : List ℕ) (h k most : ℕ) (room : h * w + rowPl
   -- what is small stays so
   pub put-small : (m : ℕ) → Small m table → Small m row → Small m (putMid (h * w) k table row)
   put-small m small rowSmall =
-      small-append m (take (h * w) table) (row ++ drop k (drop (h * w) table)) (small-front m (h * w) table small)
-      (small-append m row (drop k (drop (h * w) table)) rowSmall (small-behind m k (drop (h * w) table) (small-behind m (h * w) table small)))
+      small-append m (take (h * w) table) (row ++ drop k (drop (h * w) table)) (small-take m (h * w) table (λ i _. small i))
+      (small-append m row (drop k (drop (h * w) table)) rowSmall (small-drop m k (drop (h * w) table) (small-drop m (h * w) table small)))
 
 pub row-length : (w : ℕ) (table : List ℕ) (h most : ℕ) → h * w + rowPlaces most ≤ length table → length (tableRow w table h most) ≡ rowPlaces most
 row-length w table h most room = simp (length-take, length-drop) (omega (arith, room))

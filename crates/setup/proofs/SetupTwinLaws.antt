@@ -33,7 +33,8 @@ use Rattle.setup.specs.Setup.{
   TwinsWritten,
 }
 use Rattle.places.proofs.HourColumnLaws.{bit-times, bit-times-le, hour-bit}
-use Rattle.places.proofs.NumberLaws.{zeros, below-next}
+use Rattle.orders.proofs.ColumnLaws.{zeros}
+use Rattle.places.proofs.NumberLaws.{below-next}
 
 -- THE HOURS' COLUMNS IN ONE LIST, hour by hour
 module _ (first last turn : List ℕ) where

@@ -16,7 +16,7 @@ use Rattle.tables.specs.Tables.{PriceTable, AllOf, ClearRange, GapTable}
 use Rattle.rules.specs.Orders.{maxPrice}
 use Rattle.book.specs.Bounds.{mostBlocks}
 use Rattle.orders.specs.Layout.{stepPlaces}
-use Rattle.places.specs.Layout.{hourPlaces, mostQuantity, lastPlace, hoursColumn, quantityColumn, limitColumn, againstColumn, gainColumn, aheadColumn, rowsColumn, blockListSize}
+use Rattle.places.specs.Layout.{hourPlaces, mostQuantity, lastPlace, lastAndAbove, hoursColumn, quantityColumn, limitColumn, againstColumn, gainColumn, aheadColumn, rowsColumn, blockListSize}
 use Rattle.places.specs.Hours.{Small, FirstSmall, sumOfHours}
 use Rattle.places.specs.Blocks.{sideAt, hoursAt, quantityAt, limitAt, againstAt, gainAt, aheadAt, behindAt, rowQuantity}
 use Rattle.search.specs.Tables.{Tables}
@@ -54,7 +54,7 @@ hourPart ends h column = fromTo (getD ends h 0) (getD ends (h + 1) 0) column
 
 -- The places of a row that are filled, where an hour's blocks reach the places 0 to most: these and the one above them.
 abbrev pub rowPlaces : ℕ → ℕ
-rowPlaces most = most + 2
+rowPlaces most = most + lastAndAbove
 
 abbrev pub tableRow : (width : ℕ) → List ℕ → (h most : ℕ) → List ℕ
 tableRow width table h most = take (rowPlaces most) (drop (h * width) table)

@@ -2,7 +2,7 @@
 ghost use mathlib.Core.Path.{_≡_};
 ghost use lib.ListN.{length};
 ghost use Prim.Native.Nat.{_+_, _≤_};
-ghost use Rattle.places.specs.Layout.{lastPlace};
+ghost use Rattle.places.specs.Layout.{lastPlace, lastAndAbove};
 ghost use Rattle.places.specs.Hours.{Small, rowWidth, HasRows};
 ghost use Rattle.rules.specs.Orders.{maxPrice};
 ghost use Rattle.search.specs.Tables.{tablesOf};
@@ -13,7 +13,6 @@ use crate::blocks::largest;
 use crate::blocks::traded_by_hour;
 use crate::blocks::widened;
 use crate::blocks::with_rows;
-use crate::rows::LAST_AND_ABOVE;
 use crate::rows::fill_ranges;
 use crate::rows::fill_tables;
 use crate::rows::joined;
@@ -22,6 +21,7 @@ use orders::Blocks;
 use places::layout::BLOCK_LIST;
 use places::layout::HOUR_LIST;
 use places::layout::HOURS;
+use places::layout::LAST_AND_ABOVE;
 use roots::root_prices;
 
 pub mod blocks; // what they trade, their columns and rows
@@ -38,7 +38,7 @@ pub struct Prepared {
 pub fn row_needed(blocks: Blocks) -> usize
     requires { ⌜ BlocksHeld (blocks .count) (blocks .prices) (blocks .quantities) ⌝ }
     ensures fits { λ r. ⌜ BlocksFit r blocks ⌝ }
-    ensures narrow { λ r. ⌜ r ≤ lastPlace + 2 ⌝ }
+    ensures narrow { λ r. ⌜ r ≤ lastPlace + lastAndAbove ⌝ }
 {
     let sides = blocks.sides;
     let hours = blocks.hours;

@@ -3,12 +3,13 @@ ghost use mathlib.Core.Path.{_≡_};
 ghost use Prim.Native.Nat.{ℕ, _+_, _≤_, _<_};
 ghost use lib.ListN.{length, getD};
 ghost use Rattle.rules.specs.Orders.{maxPrice};
-ghost use Rattle.places.specs.Layout.{hourPlaces, lastPlace};
+ghost use Rattle.places.specs.Layout.{hourPlaces, lastPlace, lastAndAbove};
 ghost use Rattle.places.specs.Hours.{Small, rowWidth, lastIn, HasRows, clearsFirst, clearsLast, gapsTurn};
 ghost use Rattle.setup.specs.Setup.{rowPlaces, RowsFit, StepsHeld, PartHeld, TableOf, RowsAre, RangedOf, RangesAre};
 use places::layout::HOUR_LIST;
 use places::layout::HOURS;
 use places::layout::LAST;
+use places::layout::LAST_AND_ABOVE;
 use places::layout::TURN;
 use tables::all_totals;
 use tables::clear_range;
@@ -29,9 +30,6 @@ pub struct Ranges {
     pub turn: [u32; HOURS],
 }
 
-// The places of a row that are filled are as many as the last that the hour's blocks can reach, and these: it and the one above it.
-pub const LAST_AND_ABOVE: usize = 2;
-
 // The price table of an hour, whose steps stand from a up to e.
 fn fill_row(
     sides: &[u8],
@@ -42,7 +40,7 @@ fn fill_row(
     off: u32,
     row: &mut [u32],
 )
-    requires { ⌜ PartHeld (now sides) (now prices) (now quantities) a e × (off ≤ lastPlace) × (length (now row) ≤ lastPlace + 2) ⌝ }
+    requires { ⌜ PartHeld (now sides) (now prices) (now quantities) a e × (off ≤ lastPlace) × (length (now row) ≤ lastPlace + lastAndAbove) ⌝ }
     ensures { λ _. ⌜ TableOf (now (sides .entry)) (now (prices .entry)) (now (quantities .entry)) a e off (now (row .exit)) ⌝ }
 {
     fill_prices(&sides[a..e], &prices[a..e], &quantities[a..e], off, row);

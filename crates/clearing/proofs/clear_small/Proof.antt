@@ -1,7 +1,7 @@
 -- `clearing::clear_small` meets its contract: the small tables are zeros with room for the blocks. Assumes nothing.
 use Prim.Native.Nat.{_*_}
 use native.Mathlib.Omega.{arith}
-use Rattle.places.proofs.NumberLaws.{zeros}
+use Rattle.orders.proofs.ColumnLaws.{zeros}
 use Rattle.clearing.specs.Clear.{smallRow}
 use borrow.Author.Needs.{needs}
 use Rattle.clearing.proofs.clear_small.Statement.{statement}

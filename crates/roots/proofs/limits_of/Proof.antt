@@ -6,7 +6,7 @@ use lib.ListN.{length, getD, length-set}
 use Rattle.book.specs.Bounds.{mostBlocks}
 use Rattle.places.specs.Layout.{mostLimit}
 use Rattle.places.specs.Hours.{Small}
-use Rattle.places.proofs.NumberLaws.{zeros}
+use Rattle.orders.proofs.ColumnLaws.{zeros}
 use Rattle.roots.proofs.SizeLaws.{limit-fits}
 use Rattle.roots.proofs.SizeLaws.{set-small}
 use borrow.Author.Needs.{needs}

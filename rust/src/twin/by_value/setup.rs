@@ -5,7 +5,6 @@ use crate::twin::by_value::setup::blocks::largest;
 use crate::twin::by_value::setup::blocks::traded_by_hour;
 use crate::twin::by_value::setup::blocks::widened;
 use crate::twin::by_value::setup::blocks::with_rows;
-use crate::twin::by_value::setup::rows::LAST_AND_ABOVE;
 use crate::twin::by_value::setup::rows::fill_ranges;
 use crate::twin::by_value::setup::rows::fill_tables;
 use crate::twin::by_value::setup::rows::joined;
@@ -14,6 +13,7 @@ use crate::twin::by_value::orders::Blocks;
 use crate::twin::by_value::places::layout::BLOCK_LIST;
 use crate::twin::by_value::places::layout::HOUR_LIST;
 use crate::twin::by_value::places::layout::HOURS;
+use crate::twin::by_value::places::layout::LAST_AND_ABOVE;
 use crate::twin::by_value::roots::root_prices;
 
 pub mod blocks; // what they trade, their columns and rows

@@ -4,7 +4,7 @@ use mathlib.Core.Path.{_≡_, sym}
 use native.Mathlib.Omega.{arith}
 use lib.ListN.{length, replicate}
 use lib.Seq.{length-take-le}
-use Rattle.result.proofs.RowLaws.{zeros}
+use Rattle.orders.proofs.ColumnLaws.{zeros}
 use Rattle.clearing.proofs.PublishLaws.{rows-twice}
 use borrow.Author.Needs.{needs}
 use Rattle.clearing.proofs.publish.rows_of.Statement.{statement}

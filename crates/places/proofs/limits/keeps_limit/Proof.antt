@@ -1,6 +1,6 @@
 -- `places::limits::keeps_limit` meets its contract: a side that is not 0 sells. Assumes nothing.
 use Rattle.places.specs.Blocks.{keepsAt}
-use Rattle.places.proofs.LimitLaws.{side-sell}
+use Rattle.pricing.proofs.TotalsLaws.{side-sell}
 use borrow.Author.Needs.{needs}
 use Rattle.places.proofs.limits.keeps_limit.Statement.{statement}
 use Rattle.places.proofs.limits.keeps_limit.Tie as tie

@@ -1,5 +1,5 @@
 -- `roots::by_side` meets its contract: a side that is not 0 sells. Assumes nothing.
-use Rattle.places.proofs.LimitLaws.{side-sell}
+use Rattle.pricing.proofs.TotalsLaws.{side-sell}
 use borrow.Author.Needs.{needs}
 use Rattle.places.proofs.numbers.by_side.Statement.{statement}
 use Rattle.places.proofs.numbers.by_side.Tie as tie

@@ -2,13 +2,13 @@
 use Prim.Native.Nat.{_+_, _*_, _≤_}
 use native.Mathlib.Omega.{arith}
 use borrow.Author.Needs.{needs}
-use Rattle.places.specs.Layout.{lastPlace}
+use Rattle.places.specs.Layout.{lastPlace, lastAndAbove}
 use Rattle.rules.specs.Orders.{maxPrice}
 use Rattle.roots.proofs.losses.gap_down.Statement.{statement}
 use Rattle.roots.proofs.losses.gap_down.Tie as tie
 
 abbrev Inv-loop : tie.InvT-loop
-Inv-loop unitPrices row from price sum₀ i₀ sum i = (i ≤ from) × (sum + i * maxPrice ≤ (lastPlace + 2) * maxPrice)
+Inv-loop unitPrices row from price sum₀ i₀ sum i = (i ≤ from) × (sum + i * maxPrice ≤ (lastPlace + lastAndAbove) * maxPrice)
 
 abbrev μ-loop : tie.MeasureT-loop
 μ-loop unitPrices row from price sum₀ i₀ sum i = i

@@ -2,14 +2,14 @@
 use Prim.Native.Nat.{_+_, _-_, _*_, _≤_}
 use native.Mathlib.Omega.{arith}
 use borrow.Author.Needs.{needs}
-use Rattle.places.specs.Layout.{hourPlaces, lastPlace}
+use Rattle.places.specs.Layout.{hourPlaces, lastPlace, lastAndAbove}
 use Rattle.roots.proofs.SizeLaws.{row-held}
 use Rattle.rules.specs.Orders.{maxPrice}
 use Rattle.roots.proofs.losses.gaps_from.Statement.{statement}
 use Rattle.roots.proofs.losses.gaps_from.Tie as tie
 
 abbrev Inv-loop : tie.InvT-loop
-Inv-loop unitPrices off prices width sum₀ h₀ sum h = (h ≤ hourPlaces) × (sum ≤ h * (2 * ((lastPlace + 2) * maxPrice)))
+Inv-loop unitPrices off prices width sum₀ h₀ sum h = (h ≤ hourPlaces) × (sum ≤ h * (2 * ((lastPlace + lastAndAbove) * maxPrice)))
 
 abbrev μ-loop : tie.MeasureT-loop
 μ-loop unitPrices off prices width sum₀ h₀ sum h = hourPlaces - h

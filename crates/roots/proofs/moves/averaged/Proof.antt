@@ -5,7 +5,8 @@ use native.Mathlib.Omega.{arith}
 use lib.ListN.{length, length-set}
 use Rattle.places.specs.Layout.{hourPlaces}
 use Rattle.places.specs.Hours.{Small}
-use Rattle.places.proofs.NumberLaws.{zeros, smaller-below}
+use Rattle.orders.proofs.ColumnLaws.{zeros}
+use Rattle.places.proofs.NumberLaws.{smaller-below}
 use Rattle.roots.proofs.SizeLaws.{set-small}
 use borrow.Author.Needs.{needs}
 use Rattle.roots.proofs.moves.averaged.Statement.{statement}

@@ -6,7 +6,7 @@ use lib.ListN.{length, length-set}
 use Rattle.places.specs.Layout.{hourPlaces}
 use Rattle.rules.specs.Orders.{maxPrice}
 use Rattle.places.specs.Hours.{Small}
-use Rattle.places.proofs.NumberLaws.{zeros}
+use Rattle.orders.proofs.ColumnLaws.{zeros}
 use Rattle.roots.proofs.SizeLaws.{set-small}
 use borrow.Author.Needs.{needs}
 use Rattle.roots.proofs.moves.closer.Statement.{statement}

@@ -6,7 +6,8 @@ use native.Mathlib.Omega.{arith}
 use Rattle.places.specs.Layout.{hourPlaces}
 use Rattle.places.specs.Hours.{rowWidth}
 use Rattle.setup.specs.Setup.{rowPlaces}
-use Rattle.setup.proofs.SetupTableLaws.{part-held, row-fits, part-length, row-wide, part-row, RangesTo, ranges-start, ranges-next, ranges-all}
+use Rattle.places.proofs.CellLaws.{row-fits}
+use Rattle.setup.proofs.SetupTableLaws.{part-held, part-length, row-wide, part-row, RangesTo, ranges-start, ranges-next, ranges-all}
 use borrow.Author.Needs.{needs}
 use Rattle.setup.proofs.rows.fill_ranges.Statement.{statement}
 use Rattle.setup.proofs.rows.fill_ranges.Tie as tie

@@ -1,6 +1,6 @@
 -- `setup::is_no_worse` meets its contract: a side that is not 0 sells. Assumes nothing.
 use Rattle.setup.specs.Setup.{noWorse}
-use Rattle.places.proofs.LimitLaws.{side-sell}
+use Rattle.pricing.proofs.TotalsLaws.{side-sell}
 use Rattle.setup.proofs.twins.is_no_worse.Statement.{statement}
 use Rattle.setup.proofs.twins.is_no_worse.Tie as tie
 

@@ -8,6 +8,7 @@ use crate::twin::by_value::orders::layout::STEP_PLACES;
 use crate::twin::by_value::pricing::BIAS;
 use crate::twin::by_value::pricing::blocks::trades_of;
 use crate::twin::by_value::pricing::execution::amounts_at;
+use crate::twin::by_value::pricing::execution::less;
 use crate::twin::by_value::pricing::execution::share_out;
 use crate::twin::by_value::records::hour_count;
 use crate::twin::by_value::result::block_values;
@@ -152,12 +153,6 @@ fn fill_hours(
         h += 1;
     }
     Sums { value, cost }
-}
-
-// The difference, or 0.
-fn less(a: u64, b: u64) -> u64
-{
-    if b <= a { a - b } else { 0 }
 }
 
 // The row of each record: a step's value, a block's quantity if the set holds it, else 0.

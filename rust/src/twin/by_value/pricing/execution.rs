@@ -1,5 +1,6 @@
 // Written by `twin_source` from crates/pricing/src/execution.rt.
 // The executed quantities of an hour at its price: strictly better steps in full, those at the price by the sharing rule, the others nothing.
+use crate::twin::by_value::pricing::BIAS;
 use crate::twin::by_value::pricing::hour::totals_at;
 use crate::twin::by_value::pricing::hour::totals_between;
 
@@ -10,13 +11,14 @@ pub struct Amounts {
     pub sells: u64,
 }
 
-fn lesser(a: u64, b: u64) -> u64
+// The lesser of two numbers.
+pub fn lesser(a: u64, b: u64) -> u64
 {
     if a <= b { a } else { b }
 }
 
 // The difference, or 0.
-fn less(a: u64, b: u64) -> u64
+pub fn less(a: u64, b: u64) -> u64
 {
     if b <= a { a - b } else { 0 }
 }
@@ -27,9 +29,9 @@ pub fn amounts_at(sides: &[u8], prices: &[u32], quantities: &[u32], net: u32, pr
     let at = totals_at(sides, prices, quantities, price);
     let before = totals_at(sides, prices, quantities, price - 1);
     let held = less(before.above, at.above);
-    let room = less(at.upto + (net as u64), at.above + 2097152);
+    let room = less(at.upto + (net as u64), at.above + BIAS);
     let buys = lesser(held, room);
-    let sells = less(at.above + buys + 2097152, before.upto + (net as u64));
+    let sells = less(at.above + buys + BIAS, before.upto + (net as u64));
     Amounts {
         buys: buys,
         sells: sells,

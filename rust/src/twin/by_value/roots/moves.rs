@@ -3,13 +3,11 @@
 use crate::twin::by_value::places::added::moved;
 use crate::twin::by_value::places::cells::prices_at;
 use crate::twin::by_value::places::layout::HOURS;
+use crate::twin::by_value::places::layout::LAST_AND_ABOVE;
 use crate::twin::by_value::places::layout::MOST_BLOCKS;
 use crate::twin::by_value::places::limits::price_sum;
 use crate::twin::by_value::places::numbers::choose;
 use crate::twin::by_value::places::numbers::smaller;
-
-// The last place of a row that has one above it stands so far from its end.
-const LAST_AND_ABOVE: usize = 2;
 
 // The moves of a round, after which the prices are tried.
 pub const ROUND: u32 = 7;

@@ -3,6 +3,7 @@
 use crate::twin::by_value::places::layout::HOUR_LIST;
 use crate::twin::by_value::places::layout::HOURS;
 use crate::twin::by_value::places::layout::LAST;
+use crate::twin::by_value::places::layout::LAST_AND_ABOVE;
 use crate::twin::by_value::places::layout::TURN;
 use crate::twin::by_value::tables::all_totals;
 use crate::twin::by_value::tables::clear_range;
@@ -24,9 +25,6 @@ pub struct Ranges {
     pub last: [u32; HOURS],
     pub turn: [u32; HOURS],
 }
-
-// The places of a row that are filled are as many as the last that the hour's blocks can reach, and these: it and the one above it.
-pub const LAST_AND_ABOVE: usize = 2;
 
 // The price table of an hour, whose steps stand from a up to e.
 fn fill_row(
