@@ -60,20 +60,22 @@ rows-in-full : (b result l : List ℕ) (chosen : List Bool) → length chosen �
 unfolding blockRows
 rows-in-full b result [] chosen e f = tt
 rows-in-full b result (k ∷ l) [] e f = absurd (omega arith)
-rows-in-full b result (k ∷ l) (t ∷ chosen) e f = (cc, rows-in-full b result l chosen (omega arith) (cc))
+rows-in-full b result (k ∷ l) (true ∷ chosen) e f = (cc, rows-in-full b result l chosen (omega arith) (cc))
+rows-in-full b result (k ∷ l) (false ∷ chosen) e f = (cc, rows-in-full b result l chosen (omega arith) (cc))
 
 -- .. and tells whether it is taken
 taken-told : (t : Bool) (row quantity : ℕ) → 1 ≤ quantity → row ≡ cond t quantity 0 → eqb row quantity ≡ t
 taken-told true row quantity h e = eq-eqb row quantity e
 taken-told false row quantity h e = ne-eqb row quantity (λ q. omega arith)
 
-taken-read : (b result l : List ℕ) (chosen : List Bool) → Each (BlockRecord b) l → length chosen ≡ length l → RowsInFull b result l chosen →
-    map (λ k. eqb (rowIn result k) (blockAt b k .quantity)) l ≡ chosen
+taken-read : (b result l : List ℕ) (chosen : List Bool) → Each (BlockRecord b) l → length chosen ≡ length l →
+    map (rowIn result) l ≡ blockRows b l chosen → map (λ k. eqb (rowIn result k) (blockAt b k .quantity)) l ≡ chosen
+unfolding blockRows
 taken-read b result [] [] r e f = refl
 taken-read b result [] (t ∷ chosen) r e f = absurd (omega arith)
 taken-read b result (k ∷ l) [] r e f = absurd (omega arith)
 taken-read b result (k ∷ l) (t ∷ chosen) r e f =
-    ap₂ _∷_ (taken-told t _ _ (r .0 .fields .quantity .0) (f .0)) (taken-read b result l chosen (r .1) (omega arith) (f .1))
+    ap₂ _∷_ (taken-told t _ _ (r .0 .fields .quantity .0) (cc)) (taken-read b result l chosen (r .1) (omega arith) (cc))
 
 -- as many decisions as blocks
 pub outcome-count : (b : List ℕ) → Accepted b → length (outcome (dayFrom b)) ≡ length (blockOrder b)
@@ -110,11 +112,16 @@ module _ (b result : List ℕ) (a : Accepted b) (s : Says b result) where
       ∙ rw (chosen-is b)
 
   -- the rows of the blocks, by the outcome
-  block-rows-read : RowsInFull b result (blockOrder b) (outcome (dayFrom b))
+  block-rows-read : map (rowIn result) (blockOrder b) ≡ blockRows b (blockOrder b) (outcome (dayFrom b))
   block-rows-read =
+<<<<<<< HEAD
       rows-in-full b result (blockOrder b) (outcome (dayFrom b)) (outcome-count b a)
       (rows-are (rowIn result) (λ k. 0) (blockOrder b) _ (blocks-distinct b a)
       (blockRows-length b (blockOrder b) (outcome (dayFrom b)) (outcome-count b a)) block-row)
+=======
+      rows-are (rowIn result) (λ k. 0) (blockOrder b) _ (blocks-distinct b a)
+      (blockRows-length b (blockOrder b) (outcome (dayFrom b)) outcome-count) block-row
+>>>>>>> attack-rest
 
   -- the blocks taken are those of the outcome
   pub taken-is : takenIn b result ≡ outcome (dayFrom b)
@@ -131,7 +138,7 @@ module _ (b result : List ℕ) (a : Accepted b) (s : Says b result) where
       record {
         obeys = rw (taken-is, step-rows-read)
             (outcome-obeys-as (dayFrom b) (prices-in-range b a) (hours-in-range b a) (priceIn result) (tradedIn result) (s .priceRead) (s .tradedRead));
-        blocksInFull = rw taken-is block-rows-read;
+        blocksInFull = rw taken-is (rows-in-full b result (blockOrder b) (outcome (dayFrom b)) outcome-count block-rows-read);
         best = rw (taken-is, step-rows-read, welfare-is-read) (outcome-beats-all (dayFrom b) (prices-in-range b a) (hours-in-range b a));
       }
 

@@ -36,10 +36,14 @@ s5-result = rw (s5-worked .publishes) refl
 pub s5-meets : Demands s5Book s5Result
 s5-meets = rw (sym s5-result) (promise-kept s5Book (accepted s5Book (s5-worked .accepted)))
 
--- its welfare
-s5-welfare : welfareIn s5Result ≡ 410000
-unfolding s5Result welfareIn u32At
-s5-welfare = refl
+-- ANOTHER OUTCOME WHOLE
+-- the block left out, with the prices and rows of that set: it obeys the outcome properties, and the published result beats it
+pub block-left-out : ¬ Demands s5Book s5LeftOut
+unfolding s5Result s5LeftOut takenIn stepRowsIn rowIn blockAt stepAt u16At u24At u32At stepOrder blockOrder chainFrom bookOf chained dayFrom dayOf canonical ordersOf
+    orderFrom stepFrom blockFrom stepsOf dayValue dayCost stepsValue stepsCost blocksValue blocksCost hourCount daySum sumTo weight
+block-left-out d =
+    let at-most = d .best .noneAbove _ _ (s5-meets .best .contends) in
+    absurd (omega (arith, at-most, d .best .counted))
 
 -- ONE BYTE CHANGED
 -- hour 1 counts
@@ -91,11 +95,3 @@ unfolding s5Result takenIn rowIn blockAt u16At u24At u32At stepOrder blockOrder 
 half-block d =
     let same : _≡_ {A = ℕ} 25 0 = d .blocksInFull .0 in
     absurd (omega (arith, same))
-
--- ANOTHER OUTCOME WHOLE
--- the block left out, with the prices and rows of that set: it obeys the outcome properties, and the published result beats it
-pub block-left-out : ¬ Demands s5Book s5LeftOut
-unfolding s5LeftOut welfareIn u32At
-block-left-out d =
-    let at-most = d .best .noneAbove _ _ (s5-meets .best .contends) in
-    absurd (omega (arith, at-most, s5-meets .best .counted, s5-welfare))

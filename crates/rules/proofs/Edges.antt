@@ -5,7 +5,7 @@ use mathlib.Core.Path.{_≡_, refl}
 use mathlib.Core.List.{[], _∷_}
 use lib.Dec.{eqb}
 use lib.ListN.{getD}
-use Rattle.rules.specs.Orders.{Side, buy, sell, Block}
+use Rattle.rules.specs.Orders.{Side, buy, sell, Block, limits}
 use Rattle.rules.specs.Hour.{Hour, buysAbove, buysFrom, sellsTo, sellsBelow, clears, middle}
 use Rattle.rules.specs.Execution.{shares}
 use Rattle.rules.specs.Day.{weight, sumTo, daySum, hourCount, priceSum, keepsLimit}
@@ -55,3 +55,12 @@ two-blocks = refl
 filled-in-turn : shares 100 (60 ∷ 60 ∷ []) ≡ 60 ∷ 40 ∷ []
 unfolding shares
 filled-in-turn = refl
+
+-- the limits of each edition: a block's largest quantity, and how many blocks a portfolio may have
+pub limits-of-edition-1 : (limits 1 .blockQuantity ≡ 50) × (limits 1 .blocksOfPortfolio ≡ 5)
+unfolding limits
+limits-of-edition-1 = (refl, refl)
+
+pub limits-of-edition-2 : (limits 2 .blockQuantity ≡ 250) × (limits 2 .blocksOfPortfolio ≡ 10)
+unfolding limits
+limits-of-edition-2 = (refl, refl)
