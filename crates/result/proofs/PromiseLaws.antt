@@ -11,13 +11,16 @@ use lib.Seq.{getD-at}
 use borrow.Author.Tests.{eq-eqb, ne-eqb, eqb-true}
 use Rattle.records.specs.Bytes.{u32At}
 use Rattle.book.specs.Tests.{someIn, member}
-use Rattle.records.specs.Records.{recordCount, blockAt}
+use Rattle.records.specs.Records.{recordCount, dayHours, blockAt}
 use Rattle.book.specs.Chains.{stepOrder, blockOrder}
 use Rattle.book.specs.Refusals.{firstCause, refusal, Accepted}
 use Rattle.book.proofs.Members.{Each, each-member, Distinct}
 use Rattle.book.proofs.Refused.{refusal-then}
 use Rattle.book.proofs.Accepted.{accepted-zero, StepRecord, BlockRecord, step-records, block-records, steps-distinct, blocks-distinct, one-chain, record-count}
-use Rattle.rules.specs.Day.{setPrices, traded, executed, welfare}
+use Rattle.rules.specs.Hour.{when}
+use Rattle.rules.specs.Contender.{Counts}
+use Rattle.rules.proofs.CurveLaws.{when-le}
+use Rattle.rules.specs.Day.{changeHour, springHours, weight, isCounted, setPrices, traded, executed, welfare}
 use Rattle.rules.specs.Outcome.{forHours, published, outcome}
 use Rattle.rules.proofs.Tests.{by-eq, clash}
 use Rattle.rules.proofs.BestLaws.{outcome-first}
@@ -25,7 +28,7 @@ use Rattle.rules.proofs.DayLaws.{empty-lawful, outcome-beats-all}
 use Rattle.rules.proofs.OutcomeRulesLaws.{outcome-obeys-as}
 use Rattle.rules.proofs.BoundsLaws.{price-small, welfare-small, traded-small}
 use Rattle.orders.specs.Bridge.{ordersOf, dayFrom}
-use Rattle.orders.proofs.BridgeLaws.{day-blocks, prices-in-range, hours-in-range}
+use Rattle.orders.proofs.BridgeLaws.{day-blocks, day-quiet, day-hours-read, prices-in-range, hours-in-range}
 use Rattle.result.specs.Result.{bytesOf, hourRows, beside, blockRows, rowOf, recordRows, resultBytes}
 use Rattle.result.specs.Result.{welfareIn, priceIn, tradedIn, rowIn, stepRowsIn, takenIn}
 use Rattle.result.specs.Promise.{wrongBuffer, clearRefusal, clearing, resultAfter, RowsInFull, Demands, Promise}
@@ -83,11 +86,19 @@ outcome-count b a =
     outcome-first (dayFrom b) (empty-lawful (dayFrom b) (prices-in-range b a) (hours-in-range b a)) .ofBlocks ∙ rw (day-blocks b, length-map)
 
 -- WHAT THE BYTES SAY
+-- a number of an hour that counts; 0 for the others
+abbrev pub whereCounted : List ℕ → (ℕ → ℕ) → ℕ → ℕ
+whereCounted b f h = when (isCounted (dayFrom b .hours) h) (f h)
+
+where-counted : (b : List ℕ) (f : ℕ → ℕ) (h : ℕ) → Counts (dayFrom b .hours) h → whereCounted b f h ≡ f h
+unfolding isCounted
+where-counted b f h c = rw (ne-eqb (weight (dayFrom b .hours) h) 0 (omega (arith, c .counted)))
+
 -- A result that says what is published of the book: its welfare, its hours, its records' rows.
 pub record Says (b result : List ℕ) : Type 0 where
   pub welfareRead : welfareIn result ≡ published (ordersOf b) .welfare
-  pub priceRead : (h : ℕ) → 1 ≤ h → h ≤ 24 → priceIn result h ≡ setPrices (dayFrom b) (publishedBlocks b) h
-  pub tradedRead : (h : ℕ) → 1 ≤ h → h ≤ 24 → tradedIn result h ≡ traded (dayFrom b) (publishedBlocks b) h
+  pub priceRead : (h : ℕ) → 1 ≤ h → h ≤ 24 → priceIn result h ≡ whereCounted b (setPrices (dayFrom b) (publishedBlocks b)) h
+  pub tradedRead : (h : ℕ) → 1 ≤ h → h ≤ 24 → tradedIn result h ≡ whereCounted b (traded (dayFrom b) (publishedBlocks b)) h
   pub rowRead : (k : ℕ) → 1 ≤ k → k < recordCount b → rowIn result k ≡ rowOf b k
 
 module _ (b result : List ℕ) (a : Accepted b) (s : Says b result) where
@@ -114,14 +125,8 @@ module _ (b result : List ℕ) (a : Accepted b) (s : Says b result) where
   -- the rows of the blocks, by the outcome
   block-rows-read : map (rowIn result) (blockOrder b) ≡ blockRows b (blockOrder b) (outcome (dayFrom b))
   block-rows-read =
-<<<<<<< HEAD
-      rows-in-full b result (blockOrder b) (outcome (dayFrom b)) (outcome-count b a)
-      (rows-are (rowIn result) (λ k. 0) (blockOrder b) _ (blocks-distinct b a)
-      (blockRows-length b (blockOrder b) (outcome (dayFrom b)) (outcome-count b a)) block-row)
-=======
       rows-are (rowIn result) (λ k. 0) (blockOrder b) _ (blocks-distinct b a)
-      (blockRows-length b (blockOrder b) (outcome (dayFrom b)) outcome-count) block-row
->>>>>>> attack-rest
+      (blockRows-length b (blockOrder b) (outcome (dayFrom b)) (outcome-count b a)) block-row
 
   -- the blocks taken are those of the outcome
   pub taken-is : takenIn b result ≡ outcome (dayFrom b)
@@ -137,8 +142,10 @@ module _ (b result : List ℕ) (a : Accepted b) (s : Says b result) where
   demands-met =
       record {
         obeys = rw (taken-is, step-rows-read)
-            (outcome-obeys-as (dayFrom b) (prices-in-range b a) (hours-in-range b a) (priceIn result) (tradedIn result) (s .priceRead) (s .tradedRead));
-        blocksInFull = rw taken-is (rows-in-full b result (blockOrder b) (outcome (dayFrom b)) outcome-count block-rows-read);
+            (outcome-obeys-as (dayFrom b) (prices-in-range b a) (hours-in-range b a) (priceIn result) (tradedIn result) (day-quiet b a .steps)
+            (λ h c. s .priceRead h (c .first) (c .last) ∙ where-counted b (setPrices (dayFrom b) (publishedBlocks b)) h c)
+            (λ h c. s .tradedRead h (c .first) (c .last) ∙ where-counted b (traded (dayFrom b) (publishedBlocks b)) h c));
+        blocksInFull = rw taken-is (rows-in-full b result (blockOrder b) (outcome (dayFrom b)) (outcome-count b a) block-rows-read);
         best = rw (taken-is, step-rows-read, welfare-is-read) (outcome-beats-all (dayFrom b) (prices-in-range b a) (hours-in-range b a));
       }
 
@@ -187,10 +194,10 @@ hour-at (suc n) f h first last =
 -- WHAT THE BYTES OF THE DEFINITION SAY of an accepted book
 module _ (b : List ℕ) (a : Accepted b) where
   abbrev pub P : ℕ → ℕ
-  P = setPrices (dayFrom b) (publishedBlocks b)
+  P = whereCounted b (setPrices (dayFrom b) (publishedBlocks b))
 
   abbrev pub Q : ℕ → ℕ
-  Q = traded (dayFrom b) (publishedBlocks b)
+  Q = whereCounted b (traded (dayFrom b) (publishedBlocks b))
 
   abbrev pub W : ℕ
   W = welfare (dayFrom b) (outcome (dayFrom b))
@@ -203,17 +210,28 @@ module _ (b : List ℕ) (a : Accepted b) where
   pub result-welfare : welfareIn (resultBytes b) ≡ welfare (dayFrom b) (outcome (dayFrom b))
   result-welfare = rw bytes-are (welfare-read W _ (omega (arith, welfare-small (dayFrom b) (small-day b a) (outcome (dayFrom b)))))
 
-  pub result-price : (h : ℕ) → 1 ≤ h → h ≤ 24 → priceIn (resultBytes b) h ≡ setPrices (dayFrom b) (publishedBlocks b) h
+  pub result-price : (h : ℕ) → 1 ≤ h → h ≤ 24 → priceIn (resultBytes b) h ≡ whereCounted b (setPrices (dayFrom b) (publishedBlocks b)) h
   result-price h first last =
       let at = hour-at 24 P h first last in
       let most = price-small (dayFrom b) (prices-in-range b a) (publishedBlocks b) h in
+      let less = when-le (isCounted (dayFrom b .hours) h) (setPrices (dayFrom b) (publishedBlocks b) h) in
       rw bytes-are (price-read W (forHours 24 P) (forHours 24 Q) _ h (hours-length 24 P) (hours-length 24 Q) first last (omega arith) ∙ at)
 
-  pub result-traded : (h : ℕ) → 1 ≤ h → h ≤ 24 → tradedIn (resultBytes b) h ≡ traded (dayFrom b) (publishedBlocks b) h
+  pub result-traded : (h : ℕ) → 1 ≤ h → h ≤ 24 → tradedIn (resultBytes b) h ≡ whereCounted b (traded (dayFrom b) (publishedBlocks b)) h
   result-traded h first last =
       let at = hour-at 24 Q h first last in
       let most = traded-small (dayFrom b) (small-day b a) (outcome (dayFrom b)) h in
+      let less = when-le (isCounted (dayFrom b .hours) h) (traded (dayFrom b) (publishedBlocks b) h) in
       rw bytes-are (traded-read W (forHours 24 P) (forHours 24 Q) _ h (hours-length 24 P) (hours-length 24 Q) first last (omega arith) ∙ at)
+
+  -- on a day of 23 hours the row of hour 3 is 0 and 0
+  pub spring-row : dayHours b ≡ springHours → (priceIn (resultBytes b) changeHour ≡ 0) × (tradedIn (resultBytes b) changeHour ≡ 0)
+  unfolding isCounted weight
+  spring-row e =
+      let hours = day-hours-read b ∙ e in (
+        result-price changeHour (omega arith) (omega arith) ∙ rw hours,
+        result-traded changeHour (omega arith) (omega arith) ∙ rw hours,
+      )
 
   -- the row of record k stands from byte 196 + 4 × k on
   pub result-row : (k : ℕ) → 1 ≤ k → k < recordCount b → u32At (resultBytes b) (196 + 4 * k) ≡ rowOf b k

@@ -11,7 +11,7 @@ use Rattle.rules.specs.Orders.{Step, Block}
 use Rattle.rules.specs.OutcomeRules.{EachBlock}
 use Rattle.rules.proofs.BoundsLaws.{SmallSteps, SmallBlock, SmallDay, weight-small}
 use Rattle.orders.specs.Bridge.{dayFrom}
-use Rattle.orders.proofs.BridgeLaws.{StepInRange, BlockInRange, day-steps, day-blocks, steps-in-range, blocks-in-range}
+use Rattle.orders.proofs.BridgeLaws.{StepInRange, BlockInRange, day-steps, day-blocks, day-short, steps-in-range, blocks-in-range}
 
 small-steps : (l : List Step) → Each StepInRange l → SmallSteps l
 small-steps [] e = tt
@@ -28,5 +28,5 @@ small-day b a =
       smallSteps = small-steps (dayFrom b .steps) (steps-in-range b a);
       fewBlocks = rw (day-blocks b, length-map) (blocks-few b a);
       smallBlocks = small-blocks (dayFrom b .blocks) (blocks-in-range b a);
-      atMostTwice = weight-small (dayFrom b .hours);
+      atMostTwice = λ h. weight-small (dayFrom b .hours) h (day-short b a);
     }

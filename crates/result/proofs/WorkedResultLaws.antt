@@ -11,7 +11,7 @@ use Rattle.book.specs.Chains.{chainFrom, stepOrder, blockOrder}
 use Rattle.book.proofs.Accepted.{accepted}
 use Rattle.rules.specs.Orders.{canonical, stepsOf}
 use Rattle.rules.specs.Execution.{bought, sold}
-use Rattle.rules.specs.Day.{dayOf, weight, sumTo, daySum, hourCount, stepsValue, stepsCost, blocksValue, blocksCost, dayValue, dayCost}
+use Rattle.rules.specs.Day.{dayOf, eachOnDay, weight, isCounted, sumTo, daySum, hourCount, stepsValue, stepsCost, blocksValue, blocksCost, dayValue, dayCost}
 use Rattle.rules.specs.Contender.{Counts}
 use Rattle.rules.specs.WorkedDays.{block12, baseDay, workedDays}
 use Rattle.orders.specs.Bridge.{stepFrom, orderFrom, blockFrom, ordersOf, dayFrom}
@@ -39,8 +39,8 @@ s5-meets = rw (sym s5-result) (promise-kept s5Book (accepted s5Book (s5-worked .
 -- ANOTHER OUTCOME WHOLE
 -- the block left out, with the prices and rows of that set: it obeys the outcome properties, and the published result beats it
 pub block-left-out : ¬ Demands s5Book s5LeftOut
-unfolding s5Result s5LeftOut takenIn stepRowsIn rowIn blockAt stepAt u16At u24At u32At stepOrder blockOrder chainFrom bookOf chained dayFrom dayOf canonical ordersOf
-    orderFrom stepFrom blockFrom stepsOf dayValue dayCost stepsValue stepsCost blocksValue blocksCost hourCount daySum sumTo weight
+unfolding s5Result s5LeftOut takenIn stepRowsIn rowIn blockAt stepAt u16At u24At u32At stepOrder blockOrder chainFrom bookOn chained dayFrom dayOf eachOnDay canonical ordersOf
+    orderFrom stepFrom blockFrom stepsOf dayValue dayCost stepsValue stepsCost blocksValue blocksCost hourCount daySum sumTo weight isCounted
 block-left-out d =
     let at-most = d .best .noneAbove _ _ (s5-meets .best .contends) in
     absurd (omega (arith, at-most, d .best .counted))
@@ -75,16 +75,16 @@ traded-changed d =
 
 -- the row of step 2 one tenth higher: hour 1 does not balance
 pub row-changed : ¬ Demands s5Book (withByte 207 51 s5Result)
-unfolding s5Result takenIn stepRowsIn rowIn blockAt stepAt u16At u24At u32At stepOrder blockOrder chainFrom bookOn chained dayFrom dayOf canonical ordersOf orderFrom stepFrom
-    blockFrom stepsOf bought sold
+unfolding s5Result takenIn stepRowsIn rowIn blockAt stepAt u16At u24At u32At stepOrder blockOrder chainFrom bookOn chained dayFrom dayOf eachOnDay canonical ordersOf orderFrom stepFrom
+    blockFrom stepsOf bought sold weight isCounted
 row-changed d =
     let same : _≡_ {A = ℕ} 100 101 = d .obeys .balanced 1 counts in
     absurd (omega (arith, same))
 
 -- the welfare one tenth of a cent higher than that of the published blocks and rows
 pub welfare-changed : ¬ Demands s5Book (withByte 7 145 s5Result)
-unfolding s5Result takenIn stepRowsIn welfareIn rowIn blockAt stepAt u16At u24At u32At stepOrder blockOrder chainFrom bookOn chained dayFrom dayOf canonical ordersOf
-    orderFrom stepFrom blockFrom stepsOf dayValue dayCost stepsValue stepsCost blocksValue blocksCost hourCount daySum sumTo weight
+unfolding s5Result takenIn stepRowsIn welfareIn rowIn blockAt stepAt u16At u24At u32At stepOrder blockOrder chainFrom bookOn chained dayFrom dayOf eachOnDay canonical ordersOf
+    orderFrom stepFrom blockFrom stepsOf dayValue dayCost stepsValue stepsCost blocksValue blocksCost hourCount daySum sumTo weight isCounted
 welfare-changed d =
     let same : _≡_ {A = ℕ} 1000000 1000001 = d .best .counted in
     absurd (omega (arith, same))

@@ -1,5 +1,5 @@
 -- DEMAND 2: the outcome with its prices, traded quantities and executed quantities obeys the outcome rules of source document 003. The prices and
--- traded quantities need agree with those of the outcome in the hours 1 to 24 only. Assumes nothing.
+-- traded quantities need agree with those of the outcome in the hours that count only, where each step is for such an hour. Assumes nothing.
 use Prim.Native.Nat.{ℕ, _*_, _≤_}
 use mathlib.Core.Bool.{true}
 use mathlib.Core.Path.{_≡_, refl, sym, subst, _∙_}
@@ -26,7 +26,7 @@ use Rattle.rules.specs.Day.{
   traded,
 }
 use Rattle.rules.specs.Outcome.{outcome}
-use Rattle.rules.specs.Contender.{Each, PricesInRange, HoursInRange}
+use Rattle.rules.specs.Contender.{Each, Counts, PricesInRange, HoursInRange}
 use Rattle.rules.specs.OutcomeRules.{EachBlock, OutcomeRules}
 use Rattle.rules.proofs.Tests.{by-eq, both}
 use Rattle.rules.proofs.OutcomeRulesCases
@@ -35,7 +35,9 @@ use Rattle.rules.proofs.ExecutionLaws.{Follows, execution-follows}
 use Rattle.rules.proofs.ChainLaws.{each-in-order}
 use Rattle.rules.proofs.BestLaws.{outcome-first}
 use Rattle.rules.proofs.DayLaws.{clearable-clears, executed-in, all-clear, lawful-contends, empty-lawful}
+use Rattle.rules.proofs.HourSums.{counted}
 use Rattle.rules.proofs.PlaceLaws.{keep-limits-same}
+use Rattle.rules.proofs.QuietHours.{StepsCount}
 
 -- EACH STEP
 -- what holds of each step with its quantity, so what follows from it
@@ -64,14 +66,15 @@ follows-hour price h (s ∷ l) qs e =
     first [] same later e = absurd e
     first (q ∷ rest) same later e = (subst (λ (k : ℕ). Follows (price k) s q) (sym same) (e .0), later rest (e .1))
 
--- prices that agree in the hours 1 to 24 are followed alike
-follows-same : (price other : ℕ → ℕ) → ((h : ℕ) → 1 ≤ h → h ≤ 24 → other h ≡ price h) → (l : List Step) (qs : List ℕ) → HoursInRange l →
-    Each (FollowsHour price) l qs → Each (FollowsHour other) l qs
-follows-same price other same [] [] r e = tt
-follows-same price other same [] (q ∷ qs) r e = absurd e
-follows-same price other same (s ∷ l) [] r e = absurd e
-follows-same price other same (s ∷ l) (q ∷ qs) r e =
-    (rw (same (s .hour) (r .0) (r .1)) (e .0), follows-same price other same l qs (r .2) (e .1))
+-- prices that agree in the hours that count are followed alike by steps for such hours
+follows-same : (hours : ℕ) (price other : ℕ → ℕ) → ((h : ℕ) → Counts hours h → other h ≡ price h) → (l : List Step) (qs : List ℕ) → HoursInRange l →
+    StepsCount hours l → Each (FollowsHour price) l qs → Each (FollowsHour other) l qs
+follows-same hours price other same [] [] r c e = tt
+follows-same hours price other same [] (q ∷ qs) r c e = absurd e
+follows-same hours price other same (s ∷ l) [] r c e = absurd e
+follows-same hours price other same (s ∷ l) (q ∷ qs) r c e =
+    let here : Counts hours (s .hour) = record { first = r .0; last = r .1; counted = counted hours (s .hour) (c .0) } in
+    (rw (same (s .hour) here) (e .0), follows-same hours price other same l qs (r .2) (c .1) (e .1))
 
 -- EACH BLOCK within its limit
 sell-limit : (side : Side) (sum limit : ℕ) → testSide side (leb sum limit) (leb limit sum) ≡ true → side ≡ sell → limit ≤ sum
@@ -103,27 +106,28 @@ module _ (day : Day) (prices : PricesInRange (day .steps)) (hours : HoursInRange
       each-in-order (FollowsHour (setPrices day set)) (day .steps) _
       (λ h. follows-hour (setPrices day set) h (day .steps) _ (execution-follows (hourOf day set h) (setPrices day set h)))
 
-  -- DEMAND 2, at prices and traded quantities that are the outcome's in the hours 1 to 24
+  -- DEMAND 2, at prices and traded quantities that are the outcome's in the hours that count
   module _ (price trade : ℕ → ℕ) where
     abbrev S : List Block
     S = taken (day .blocks) (outcome day)
 
-    pub outcome-obeys-as : ((h : ℕ) → 1 ≤ h → h ≤ 24 → price h ≡ setPrices day (taken (day .blocks) (outcome day)) h) →
-        ((h : ℕ) → 1 ≤ h → h ≤ 24 → trade h ≡ traded day (taken (day .blocks) (outcome day)) h) →
+    pub outcome-obeys-as : StepsCount (day .hours) (day .steps) →
+        ((h : ℕ) → Counts (day .hours) h → price h ≡ setPrices day (taken (day .blocks) (outcome day)) h) →
+        ((h : ℕ) → Counts (day .hours) h → trade h ≡ traded day (taken (day .blocks) (outcome day)) h) →
         OutcomeRules day (outcome day) price trade (executed day (taken (day .blocks) (outcome day)))
     unfolding setPrices hourClears keepsLimits traded
-    outcome-obeys-as same-price same-trade =
+    outcome-obeys-as count same-price same-trade =
         let law = outcome-first day (empty-lawful day prices hours) .isLawful in
         let c = lawful-contends day prices hours (outcome day) law (outcome-first day (empty-lawful day prices hours) .ofBlocks) in
         let l = day .steps in
         let qs = executed day S in
-        let f = follows-same (setPrices day S) price same-price l qs hours (executed-follows S) in
+        let f = follows-same (day .hours) (setPrices day S) price same-price l qs hours count (executed-follows S) in
         let limits = each-limit (day .hours) price S
-        (keep-limits-same (day .hours) price (setPrices day S) (λ h k. same-price h (k .first) (k .last)) S ∙ c .limits) in
+        (keep-limits-same (day .hours) price (setPrices day S) same-price S ∙ c .limits) in
         record {
           clearsAll = λ h k. clearable-clears day prices hours S h
               (clearable (hourOf day S h) (setPrices day S h) (all-clear day prices hours (outcome day) law h k));
-          middlePrice = λ h k. same-price h (k .first) (k .last);
+          middlePrice = same-price;
           sellsAbove = each-so (FollowsHour price) _ (λ s q e side above. e .nothing (rw side above)) l qs f;
           buysBelow = each-so (FollowsHour price) _ (λ s q e side below. e .nothing (rw side below)) l qs f;
           sellsBelow = each-so (FollowsHour price) _ (λ s q e side below. e .full (rw side below)) l qs f;
@@ -133,11 +137,11 @@ module _ (day : Day) (prices : PricesInRange (day .steps)) (hours : HoursInRange
           blockBuys = limits .1;
           notMore = each-so (FollowsHour price) _ (λ s q e. e .within) l qs f;
           balanced = c .balanced;
-          tradedBuys = λ h k. rw (executed-in day prices hours S h) (same-trade h (k .first) (k .last));
+          tradedBuys = λ h k. rw (executed-in day prices hours S h) (same-trade h k);
         }
 
   -- DEMAND 2
-  pub outcome-obeys :
+  pub outcome-obeys : StepsCount (day .hours) (day .steps) →
       OutcomeRules day (outcome day) (setPrices day (taken (day .blocks) (outcome day))) (traded day (taken (day .blocks) (outcome day)))
       (executed day (taken (day .blocks) (outcome day)))
-  outcome-obeys = outcome-obeys-as _ _ (λ h a b. refl) (λ h a b. refl)
+  outcome-obeys count = outcome-obeys-as _ _ count (λ h k. refl) (λ h k. refl)

@@ -11,7 +11,8 @@ use lib.ListN.{length, getD, set, replicate, length-set}
 use lib.Seq.{getD-set-same, getD-set-other}
 use Rattle.book.specs.Bounds.{mostBlocks}
 use Rattle.places.specs.Layout.{againstColumn, aheadColumn, hourPlaces, gainColumn, hoursColumn, limitColumn, mostQuantity, quantityColumn}
-use Rattle.records.specs.Records.{holdsHour, hoursSet}
+use Rattle.records.specs.Records.{holdsHour}
+use Rattle.book.specs.Hours.{countedHours}
 use Rattle.orders.specs.Columns.{sideFor}
 use Rattle.rules.specs.Orders.{Side, buy, sell}
 use Rattle.rules.specs.Hour.{bySide, when}
@@ -230,9 +231,9 @@ module _ (c : List ℕ) (i side hours quantity limit sum : ℕ) (k : i < mostBlo
         written-other (gainColumn + j) (λ e. omega arith) (λ e. omega arith) (λ e. omega arith) (λ e. omega arith) (λ e. omega arith) (λ e. other (omega arith))
 
 -- ALL BLOCKS WRITTEN
-module _ (sides hours prices quantities root : List ℕ) where
+module _ (day : ℕ) (sides hours prices quantities root : List ℕ) where
   abbrev limitOf : ℕ → ℕ
-  limitOf i = getD prices i 0 * hoursSet hourPlaces (getD hours i 0)
+  limitOf i = getD prices i 0 * countedHours day (getD hours i 0)
 
   abbrev sumOf : ℕ → ℕ
   sumOf i = sumOfHours root (getD hours i 0)
@@ -241,7 +242,7 @@ module _ (sides hours prices quantities root : List ℕ) where
     pub inside : i ≤ count
     pub size : length columns ≡ aheadColumn
     pub small : (j : ℕ) → j < mostBlocks → quantityAt columns j ≤ mostQuantity
-    pub done : (j : ℕ) → j < i → Written sides hours prices quantities root columns j
+    pub done : (j : ℕ) → j < i → Written day sides hours prices quantities root columns j
 
   pub written-start : (count : ℕ) → WrittenTo count 0 (replicate aheadColumn 0)
   written-start count =
@@ -271,7 +272,7 @@ module _ (sides hours prices quantities root : List ℕ) where
         | no u ↦ let d : i < j = lt-of-not-le u in rw (quantity-there columns i side x q limit sum few (w .size) j b (λ z. omega arith)) (w .small j b)
       ]
 
-      new : i < mostBlocks → Written sides hours prices quantities root (written columns i side x q limit sum) i
+      new : i < mostBlocks → Written day sides hours prices quantities root (written columns i side x q limit sum) i
       new few = record {
         sideIs = side-here columns i side x q limit sum few (w .size) ∙ es;
         hoursIs = hours-here columns i side x q limit sum few (w .size) ∙ ex;
@@ -281,7 +282,7 @@ module _ (sides hours prices quantities root : List ℕ) where
         gainIs = gain-here columns i side x q limit sum few (w .size) ∙ rw (eq, es, el, em);
       }
 
-      old : i < mostBlocks → (j : ℕ) → j < i → Written sides hours prices quantities root (written columns i side x q limit sum) j
+      old : i < mostBlocks → (j : ℕ) → j < i → Written day sides hours prices quantities root (written columns i side x q limit sum) j
       old few j a =
           let b : j < mostBlocks = omega arith in
           let z : j ≡ i → ⊥ = λ y. omega arith in
@@ -295,14 +296,14 @@ module _ (sides hours prices quantities root : List ℕ) where
             gainIs = gain-there columns i side x q limit sum few (w .size) j b z ∙ d .gainIs;
           }
 
-      doneAt : (j : ℕ) → j < i + 1 → i < mostBlocks → Written sides hours prices quantities root (written columns i side x q limit sum) j
+      doneAt : (j : ℕ) → j < i + 1 → i < mostBlocks → Written day sides hours prices quantities root (written columns i side x q limit sum) j
       doneAt j a few = elim (decLe i j) [
         | yes u ↦ let same : j ≡ i = omega arith in rw same (new few)
         | no u ↦ old few j (lt-of-not-le u)
       ]
 
   pub written-all : (count i : ℕ) (columns : List ℕ) → WrittenTo count i columns → count ≤ i →
-      ((j : ℕ) → j < mostBlocks → quantityAt columns j ≤ mostQuantity) × ((j : ℕ) → j < count → Written sides hours prices quantities root columns j)
+      ((j : ℕ) → j < mostBlocks → quantityAt columns j ≤ mostQuantity) × ((j : ℕ) → j < count → Written day sides hours prices quantities root columns j)
   written-all count i columns w k = (w .small, λ j a. w .done j (omega (arith, w .inside)))
 
 -- THE LARGEST OF A COLUMN, hour by hour

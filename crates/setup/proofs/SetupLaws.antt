@@ -12,18 +12,19 @@ use lib.Seq.{getD-take, getD-drop, slice}
 use Rattle.book.specs.Bounds.{mostBlocks}
 use Rattle.orders.specs.Layout.{stepPlaces}
 use Rattle.places.specs.Layout.{hourPlaces}
-use Rattle.records.specs.Records.{number, hoursSet, holdsHour}
+use Rattle.records.specs.Records.{number, holdsHour}
+use Rattle.book.specs.Hours.{countedHours}
 use Rattle.book.specs.Refusals.{Accepted}
 use Rattle.orders.specs.Bridge.{dayFrom}
 use Rattle.orders.specs.Columns.{StepColumns, BlockColumns, sideFor, stepsFrom, blockOf, blocksFrom}
 use Rattle.orders.specs.Columns.{blockRecords, blockSideAt, blockHoursAt, blockPriceAt, blockQuantityAt}
-use Rattle.orders.proofs.BridgeLaws.{prices-in-range, hours-in-range, blocks-from-columns, block-count, hour-count}
+use Rattle.orders.proofs.BridgeLaws.{prices-in-range, hours-in-range, day-quiet, day-hours-read, day-short, blocks-from-columns, block-count, hour-count}
 use Rattle.orders.proofs.FrontLaws.{block-records-front, block-sides-front, block-hours-front, block-prices-front, block-quantities-front}
 use Rattle.orders.proofs.HourLaws.{hour-from-columns, ends-rise, ends-fit}
 use Rattle.orders.proofs.PlaceLaws.{block-place}
 use Rattle.rules.specs.Orders.{Side, buy, sell, Step, Block, maxPrice}
 use Rattle.rules.specs.Hour.{bySide, when, allBuys, allSells}
-use Rattle.rules.specs.Day.{overBlocks, sells, buys, stepsIn, priceSum}
+use Rattle.rules.specs.Day.{changeHour, weight, overBlocks, sells, buys, stepsIn, priceSum}
 use Rattle.rules.specs.Day as day
 use Rattle.rules.specs.Contender.{PricesInRange}
 use Rattle.rules.proofs.ChainLaws.{prices-in}
@@ -31,13 +32,14 @@ use Rattle.rules.proofs.PricingLaws.{Clearable, net}
 use Rattle.rules.proofs.TableLaws.{unitPrice}
 use Rattle.rules.proofs.NeighbourLaws.{slack}
 use Rattle.rules.proofs.BoundLaws.{gain}
+use Rattle.rules.proofs.BoundsLaws.{weight-small}
 use Rattle.rules.proofs.LossLaws.{against}
 use Rattle.rules.proofs.PlaceLaws.{hourAt}
 use Rattle.rules.proofs.TwinLaws.{limitOf, Ahead, ahead-by-limits}
 use Rattle.tables.specs.Tables.{UnitPrices, NotRising}
 use Rattle.tables.proofs.LevelLaws.{table-in-range, table-not-rising}
 use Rattle.tables.proofs.GapLaws.{gap-table, gap-falls, gap-rises}
-use Rattle.places.specs.Hours.{Small, cell, ofHour, sumOfHours, rowWidth, lastIn, HasRows}
+use Rattle.places.specs.Hours.{Small, cell, ofHour, sumOfHours, countedColumn, rowWidth, lastIn, HasRows}
 use Rattle.places.specs.Blocks.{sideAt, quantityAt, limitAt, aheadAt, behindAt, BlocksSized}
 use Rattle.search.specs.Tables.{Tables}
 use Rattle.search.specs.Meaning.{lastReached, Sized, Shown, Known, Turning}
@@ -59,7 +61,7 @@ use Rattle.setup.specs.Setup.{
   TwinsAt,
   ReadyFor,
 }
-use Rattle.search.proofs.CountsOnce.{block-sum}
+use Rattle.places.proofs.CountedLaws.{block-sum}
 use Rattle.setup.proofs.SetupTwinLaws.{Completed, twins-back, no-worse-true, no-worse-false}
 use Rattle.setup.proofs.SetupTableLaws.{take-drop, row-length, range-holds}
 use Rattle.places.proofs.CellLaws.{row-fits}
@@ -173,19 +175,22 @@ module _ (b ends stepRecords sides prices quantities : List ℕ) (count : ℕ) (
         slice-from-to (getD ends (h - 1) 0) (getD ends h 0) quantities rise,
       ))
 
-  -- A BLOCK OF THE COLUMNS, at the prices root
-  module _ (root columns : List ℕ) (all : Completed blockSides hours blockPrices blockQuantities root count columns) (j : ℕ) (k : j < count) where
-    w : Written blockSides hours blockPrices blockQuantities root columns j
+  -- A BLOCK OF THE COLUMNS, at the prices root as they count
+  abbrev countedRoot : List ℕ → List ℕ
+  countedRoot = countedColumn (weight (dayFrom b .hours) changeHour)
+
+  module _ (root columns : List ℕ) (rootSize : length root ≡ hourPlaces) (all : Completed (dayFrom b .hours) blockSides hours blockPrices blockQuantities (countedRoot root) count columns) (j : ℕ) (k : j < count) where
+    w : Written (dayFrom b .hours) blockSides hours blockPrices blockQuantities (countedRoot root) columns j
     w = all .columns j k
 
     abbrev priceOf : ℕ → ℕ
     priceOf h = getD root (h - 1) 0
 
-    sum-is : priceSum (dayFrom b .hours) priceOf (blockHere j) ≡ sumOfHours root (getD hours j 0)
+    sum-is : priceSum (dayFrom b .hours) priceOf (blockHere j) ≡ sumOfHours (countedRoot root) (getD hours j 0)
     unfolding priceSum
-    sum-is = block-sum (dayFrom b .hours) root (getD hours j 0)
+    sum-is = block-sum (dayFrom b .hours) root (getD hours j 0) rootSize
 
-    limit-is : blockHere j .price * day.hourCount (dayFrom b .hours) (blockHere j) ≡ getD blockPrices j 0 * hoursSet hourPlaces (getD hours j 0)
+    limit-is : blockHere j .price * day.hourCount (dayFrom b .hours) (blockHere j) ≡ getD blockPrices j 0 * countedHours (dayFrom b .hours) (getD hours j 0)
     limit-is =
         rw (hour-count (dayFrom b .hours) (number b (getD records j 0)) (getD blockSides j 0) (getD hours j 0) (getD blockPrices j 0)
         (getD blockQuantities j 0))
@@ -195,15 +200,15 @@ module _ (b ends stepRecords sides prices quantities : List ℕ) (count : ℕ) (
 
     against-is : against (dayFrom b .hours) priceOf (blockHere j)
         ≡ getD blockQuantities j 0
-        * bySide (sideFor (getD blockSides j 0)) (sumOfHours root (getD hours j 0) - getD blockPrices j 0 * hoursSet hourPlaces (getD hours j 0))
-        (getD blockPrices j 0 * hoursSet hourPlaces (getD hours j 0) - sumOfHours root (getD hours j 0))
+        * bySide (sideFor (getD blockSides j 0)) (sumOfHours (countedRoot root) (getD hours j 0) - getD blockPrices j 0 * countedHours (dayFrom b .hours) (getD hours j 0))
+        (getD blockPrices j 0 * countedHours (dayFrom b .hours) (getD hours j 0) - sumOfHours (countedRoot root) (getD hours j 0))
     unfolding against
     against-is = rw (sum-is, limit-is)
 
     gain-is : gain (dayFrom b .hours) priceOf (blockHere j)
         ≡ getD blockQuantities j 0
-        * bySide (sideFor (getD blockSides j 0)) (getD blockPrices j 0 * hoursSet hourPlaces (getD hours j 0) - sumOfHours root (getD hours j 0))
-        (sumOfHours root (getD hours j 0) - getD blockPrices j 0 * hoursSet hourPlaces (getD hours j 0))
+        * bySide (sideFor (getD blockSides j 0)) (getD blockPrices j 0 * countedHours (dayFrom b .hours) (getD hours j 0) - sumOfHours (countedRoot root) (getD hours j 0))
+        (sumOfHours (countedRoot root) (getD hours j 0) - getD blockPrices j 0 * countedHours (dayFrom b .hours) (getD hours j 0))
     unfolding gain
     gain-is = rw (sum-is, limit-is)
 
@@ -220,7 +225,7 @@ module _ (b ends stepRecords sides prices quantities : List ℕ) (count : ℕ) (
     }
 
   -- TWINS OF THE COLUMNS: block i is ahead of block j where its limit is no worse
-  module _ (root columns : List ℕ) (all : Completed blockSides hours blockPrices blockQuantities root count columns) where
+  module _ (root columns : List ℕ) (rootSize : length root ≡ hourPlaces) (all : Completed (dayFrom b .hours) blockSides hours blockPrices blockQuantities (countedRoot root) count columns) where
     twins-ahead : (i j : ℕ) (ki : i < count) (kj : j < count) → TwinsAt columns i j →
         bySide (sideFor (sideAt columns i)) (limitAt columns j) (limitAt columns i)
         ≤ bySide (sideFor (sideAt columns i)) (limitAt columns i) (limitAt columns j) →
@@ -231,8 +236,8 @@ module _ (b ends stepRecords sides prices quantities : List ℕ) (count : ℕ) (
     twins-ahead i j ki kj t le less =
         let wi = all .columns i ki in
         let wj = all .columns j kj in
-        let mine = limit-at root columns all i ki in
-        let yours = limit-at root columns all j kj in
+        let mine = limit-at root columns rootSize all i ki in
+        let yours = limit-at root columns rootSize all j kj in
         let hour : getD hours i 0 ≡ getD hours j 0 = sym (wi .hoursIs) ∙ t .sameHours ∙ wj .hoursIs in
         ahead-by-limits (dayFrom b) _ i j (blockHere i) (blockHere j) (block-next i ki) (block-next j kj)
         (ap sideFor (sym (wi .sideIs) ∙ t .sameSide ∙ wj .sideIs)) (λ h. rw hour) (sym (wi .quantityIs) ∙ t .sameQuantity ∙ wj .quantityIs)
@@ -256,10 +261,10 @@ module _ (b ends stepRecords sides prices quantities : List ℕ) (count : ℕ) (
         (below, twins-ahead j c k (omega arith) (twins-back columns c j (f .1)) (omega (arith, less)) (λ n. (f .3, less)))
 
   -- THE HOURS
-  module _ (off most root unitPrices gap first last turn columns : List ℕ) (gapSize : length gap ≡ length unitPrices) (fit : RowsFit (rowWidth unitPrices) most)
+  module _ (off most root unitPrices gap first last turn columns : List ℕ) (gapSize : length gap ≡ length unitPrices) (rootSize : length root ≡ hourPlaces) (fit : RowsFit (rowWidth unitPrices) most)
       (bought : TradedBy count blockSides hours blockQuantities false off) (traded : TradedBy count blockSides hours blockQuantities true most)
       (rows : RowsAre (rowWidth unitPrices) sides prices quantities ends off most unitPrices) (ranges : RangesAre (rowWidth unitPrices) sides prices quantities ends off most root unitPrices gap first last turn)
-      (blocks : Completed blockSides hours blockPrices blockQuantities root count columns) where
+      (blocks : Completed (dayFrom b .hours) blockSides hours blockPrices blockQuantities (countedRoot root) count columns) where
     abbrev rootOf : ℕ → ℕ
     rootOf h = getD root (h - 1) 0
 
@@ -364,21 +369,34 @@ module _ (b ends stepRecords sides prices quantities : List ℕ) (count : ℕ) (
           ))
 
     abbrev tables : Tables
-    tables = record { unitPrices = unitPrices; gaps = gap; first = first; last = last; turn = turn; blocks = columns; count = count }
+    tables =
+        record {
+          unitPrices = unitPrices;
+          gaps = gap;
+          first = first;
+          last = last;
+          turn = turn;
+          change = weight (dayFrom b .hours) changeHour;
+          blocks = columns;
+          count = count;
+        }
 
     pub known : Known (dayFrom b) rootOf restOf tables
     known = record {
       prices = prices-in-range b a;
       hours = hours-in-range b a;
+      quiet = day-quiet b a;
+      changeIs = refl;
+      changeFew = weight-small (dayFrom b .hours) changeHour (day-short b a);
       counted = blocks-counted;
       unitPriceIs = λ h i c. unit-price-is h (c .first) (c .last) i;
       lastIs = λ h c. last-is h (c .first) (c .last);
       clears = λ h i c. clears-at h (c .first) (c .last) i;
       clearsOnly = λ h i c. clears-only h (c .first) (c .last) i;
       gapIs = λ h i c. gap-is h (c .first) (c .last) i;
-      shown = block-shown root columns blocks;
-      ahead = is-ahead root columns blocks;
-      behind = is-behind root columns blocks;
+      shown = block-shown root columns rootSize blocks;
+      ahead = is-ahead root columns rootSize blocks;
+      behind = is-behind root columns rootSize blocks;
     }
 
     pub turning : Turning tables
@@ -413,8 +431,8 @@ off-fits table off most size within fit i = elim (decLe hourPlaces i) [
 
 -- WHAT IS PREPARED
 pub set-up : (t : Tables) → HasRows (t .unitPrices) → length (t .gaps) ≡ length (t .unitPrices) → length (t .first) ≡ hourPlaces → length (t .last) ≡ hourPlaces →
-    Small (lastIn (t .unitPrices)) (t .last) → Small maxPrice (t .unitPrices) → BlocksSized (t .blocks) → t .count ≤ mostBlocks → Sized t
-set-up t prices gaps first last fits small blocks few =
+    Small (lastIn (t .unitPrices)) (t .last) → Small maxPrice (t .unitPrices) → BlocksSized (t .blocks) → t .change ≤ 2 → t .count ≤ mostBlocks → Sized t
+set-up t prices gaps first last fits small blocks change few =
     record {
       priceRows = prices;
       gapRows = rw gaps prices;
@@ -424,25 +442,30 @@ set-up t prices gaps first last fits small blocks few =
       lastInGaps = rw gaps fits;
       pricesFit = small;
       blocksFit = blocks;
+      changeFew = change;
       few = few;
     }
 
-pub ready : (sides prices quantities ends : List ℕ) (count : ℕ) (records blockSides hours blockPrices blockQuantities : List ℕ)
-    (off most root unitPrices gap first last turn columns : List ℕ) → length gap ≡ length unitPrices → RowsFit (rowWidth unitPrices) most → TradedBy count blockSides hours blockQuantities false off →
+pub ready : (day : ℕ) (sides prices quantities ends : List ℕ) (count : ℕ) (records blockSides hours blockPrices blockQuantities : List ℕ)
+    (off most root unitPrices gap first last turn : List ℕ) (often : ℕ) (columns : List ℕ) → length gap ≡ length unitPrices → length root ≡ hourPlaces →
+    RowsFit (rowWidth unitPrices) most → TradedBy count blockSides hours blockQuantities false off →
     TradedBy count blockSides hours blockQuantities true most → RowsAre (rowWidth unitPrices) sides prices quantities ends off most unitPrices →
     RangesAre (rowWidth unitPrices) sides prices quantities ends off most root unitPrices gap first last turn →
-    Completed blockSides hours blockPrices blockQuantities root count columns →
-    ReadyFor sides prices quantities ends records blockSides hours blockPrices blockQuantities
-    record { unitPrices = unitPrices; gaps = gap; first = first; last = last; turn = turn; blocks = columns; count = count }
-ready sides prices quantities ends count records blockSides hours blockPrices blockQuantities off most root unitPrices gap first last turn columns l fit o t rows
-    ranges w b stepRecords a sc bc =
+    often ≡ weight day changeHour → Completed day blockSides hours blockPrices blockQuantities (countedColumn often root) count columns →
+    ReadyFor day sides prices quantities ends records blockSides hours blockPrices blockQuantities
+    record { unitPrices = unitPrices; gaps = gap; first = first; last = last; turn = turn; change = often; blocks = columns; count = count }
+ready day sides prices quantities ends count records blockSides hours blockPrices blockQuantities off most root unitPrices gap first last turn often columns l rs
+    fit o t rows ranges is w b stepRecords a e sc bc =
+    let same : day ≡ dayFrom b .hours = sym (day-hours-read b ∙ e) in
+    let on-day = rw (is, same) at w in
+    rw (is, same)
     record {
       p = _;
       rest = _;
       known = known b ends stepRecords sides prices quantities count records blockSides hours blockPrices blockQuantities a sc bc off most root unitPrices
-          gap first last turn columns l fit o t rows ranges w;
+          gap first last turn columns l rs fit o t rows ranges on-day;
       turning = turning b ends stepRecords sides prices quantities count records blockSides hours blockPrices blockQuantities a sc bc off most root unitPrices
-          gap first last turn columns l fit o t rows ranges w;
+          gap first last turn columns l rs fit o t rows ranges on-day;
     }
 
 -- WHAT SAFETY ASKS holds of an accepted book's columns, where the steps' are arrays of 2,048

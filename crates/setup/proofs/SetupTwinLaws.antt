@@ -12,14 +12,14 @@ use lib.ListN.{length, take, drop, getD, set, replicate, length-set, length-take
 use lib.Seq.{getD-set-same, getD-set-other, getD-take, getD-drop, ext-getD}
 use borrow.Author.Tests.{leb-true, leb-false, ltb-true, eqb-true}
 use Rattle.book.specs.Bounds.{mostBlocks}
-use Rattle.places.specs.Layout.{againstColumn, aheadColumn, behindColumn, blockListSize, rowsColumn, hourPlaces, gainColumn, hourListSize, hoursColumn, lastColumn, limitColumn, mostQuantity, quantityColumn, turnColumn}
+use Rattle.places.specs.Layout.{againstColumn, aheadColumn, behindColumn, blockListSize, rowsColumn, hourPlaces, gainColumn, hourListSize, hoursColumn, lastColumn, limitColumn, mostQuantity, quantityColumn, turnColumn, changePlace}
 use Rattle.records.specs.Records.{holdsHour}
 use Rattle.orders.specs.Columns.{sideFor}
 use Rattle.rules.specs.Orders.{Side, buy, sell}
 use Rattle.rules.specs.Hour.{bySide, when}
 use Rattle.rules.specs.Execution.{testSide}
 use Rattle.rules.proofs.Tests.{by-test, both}
-use Rattle.places.specs.Hours.{clearsFirst, clearsLast, gapsTurn}
+use Rattle.places.specs.Hours.{clearsFirst, clearsLast, gapsTurn, changeOften}
 use Rattle.places.specs.Blocks.{sideAt, hoursAt, quantityAt, limitAt, aheadAt, behindAt, rowQuantity, BlocksSized}
 use Rattle.setup.specs.Setup.{
   Written,
@@ -37,16 +37,22 @@ use Rattle.orders.proofs.ColumnLaws.{zeros}
 use Rattle.places.proofs.NumberLaws.{below-next}
 
 -- THE HOURS' COLUMNS IN ONE LIST, hour by hour
-module _ (first last turn : List ℕ) where
+module _ (first last turn : List ℕ) (often : ℕ) where
   pub record JoinedTo (h : ℕ) (r : List ℕ) : Type 0 where
     pub size : length r ≡ hourListSize
     pub firsts : (k : ℕ) → k < h → getD r k 0 ≡ getD first k 0
     pub lasts : (k : ℕ) → k < h → getD r (lastColumn + k) 0 ≡ getD last k 0
     pub turns : (k : ℕ) → k < h → getD r (turnColumn + k) 0 ≡ getD turn k 0
+    pub change : getD r changePlace 0 ≡ often
 
-  pub joined-start : JoinedTo 0 (replicate hourListSize 0)
-  joined-start =
-      record { size = refl; firsts = λ k a. absurd (omega arith); lasts = λ k a. absurd (omega arith); turns = λ k a. absurd (omega arith) }
+  pub joined-start : JoinedTo 0 (set (replicate hourListSize 0) changePlace often)
+  joined-start = record {
+    size = refl;
+    firsts = λ k a. absurd (omega arith);
+    lasts = λ k a. absurd (omega arith);
+    turns = λ k a. absurd (omega arith);
+    change = getD-set-same (replicate hourListSize 0) changePlace often 0 (omega arith);
+  }
 
   pub joined-next : (h : ℕ) (r : List ℕ) → JoinedTo h r → h < hourPlaces →
       JoinedTo (h + 1) (set (set (set r h (getD first h 0)) (lastColumn + h) (getD last h 0)) (turnColumn + h) (getD turn h 0))
@@ -58,6 +64,7 @@ module _ (first last turn : List ℕ) where
         (λ b. other (lastColumn + k) (omega arith) (omega arith) (omega arith) ∙ j .lasts k b) last-here (rw add-one at a);
     turns = λ k a. below-next (λ k. getD r₃ (turnColumn + k) 0 ≡ getD turn k 0) h k
         (λ b. other (turnColumn + k) (omega arith) (omega arith) (omega arith) ∙ j .turns k b) turn-here (rw add-one at a);
+    change = other changePlace (omega arith) (omega arith) (omega arith) ∙ j .change;
   }
     where
       r₁ : List ℕ
@@ -103,11 +110,12 @@ module _ (first last turn : List ℕ) where
       getD-take hourPlaces (drop from r) k 0 b ∙ getD-drop from r k 0 ∙ is k b)
 
   pub joined-all : (h : ℕ) (r : List ℕ) → JoinedTo h r → hourPlaces ≤ h → length first ≡ hourPlaces → length last ≡ hourPlaces → length turn ≡ hourPlaces →
-      (clearsFirst r ≡ first) × (clearsLast r ≡ last) × (gapsTurn r ≡ turn)
+      (clearsFirst r ≡ first) × (clearsLast r ≡ last) × (gapsTurn r ≡ turn) × (changeOften r ≡ often)
   joined-all h r j k f l t = (
     column-is r first 0 (j .size) (omega arith) f (λ i a. let z : 0 + i ≡ i = omega arith in rw z (j .firsts i (omega arith))),
     column-is r last hourPlaces (j .size) (omega arith) l (λ i a. j .lasts i (omega arith)),
     column-is r turn turnColumn (j .size) (omega arith) t (λ i a. j .turns i (omega arith)),
+    j .change,
   )
 
 -- THE SIX COLUMNS COPIED into the whole list
@@ -332,17 +340,17 @@ no-worse-false side limit other = at (sideFor side)
     at sell e = leb-false limit other e
 
 -- THE WHOLE LIST: the columns, rows and twins of the first count blocks, all said of it alone
-pub record Completed (sides hours prices quantities root : List ℕ) (count : ℕ) (blocks : List ℕ) : Type 0 where
-  pub columns : (j : ℕ) → j < count → Written sides hours prices quantities root blocks j
+pub record Completed (day : ℕ) (sides hours prices quantities root : List ℕ) (count : ℕ) (blocks : List ℕ) : Type 0 where
+  pub columns : (j : ℕ) → j < count → Written day sides hours prices quantities root blocks j
   pub row : (j h : ℕ) → j < count → 1 ≤ h → h ≤ hourPlaces → rowQuantity blocks j h ≡ when (holdsHour (hoursAt blocks j) h) (quantityAt blocks j)
   pub ahead : (j : ℕ) → j < count → TwinOf blocks j true (aheadAt blocks j)
   pub behind : (j : ℕ) → j < count → TwinOf blocks j false (behindAt blocks j)
 
 -- what is said of a list's six columns is said of one with the same six
 module _ (before blocks : List ℕ) (same : (k : ℕ) → k < aheadColumn → getD blocks k 0 ≡ getD before k 0) where
-  written-carried : (sides hours prices quantities root : List ℕ) (j : ℕ) → j < mostBlocks → Written sides hours prices quantities root before j →
-      Written sides hours prices quantities root blocks j
-  written-carried sides hours prices quantities root j k w = record {
+  written-carried : (day : ℕ) (sides hours prices quantities root : List ℕ) (j : ℕ) → j < mostBlocks → Written day sides hours prices quantities root before j →
+      Written day sides hours prices quantities root blocks j
+  written-carried day sides hours prices quantities root j k w = record {
     sideIs = same j (omega arith) ∙ w .sideIs;
     hoursIs = same (hoursColumn + j) (omega arith) ∙ w .hoursIs;
     quantityIs = same (quantityColumn + j) (omega arith) ∙ w .quantityIs;
@@ -379,10 +387,10 @@ module _ (count : ℕ) (columns wide traded blocks : List ℕ) (few : count ≤ 
   same-columns : (k : ℕ) → k < aheadColumn → getD blocks k 0 ≡ getD columns k 0
   same-columns k a = twins .columns k a ∙ rows .same k (omega arith) ∙ widened .same k a
 
-  pub completed : (sides hours prices quantities root : List ℕ) → ((j : ℕ) → j < count → Written sides hours prices quantities root columns j) →
-      Completed sides hours prices quantities root count blocks
-  completed sides hours prices quantities root w = record {
-    columns = λ j k. written-carried columns blocks same-columns sides hours prices quantities root j (omega arith) (w j k);
+  pub completed : (day : ℕ) (sides hours prices quantities root : List ℕ) → ((j : ℕ) → j < count → Written day sides hours prices quantities root columns j) →
+      Completed day sides hours prices quantities root count blocks
+  completed day sides hours prices quantities root w = record {
+    columns = λ j k. written-carried columns blocks same-columns day sides hours prices quantities root j (omega arith) (w j k);
     row = λ j h k from to.
         let there = twins .rows (rowsColumn + hourPlaces * j + (h - 1)) (omega arith) ∙ rows .row j h k from to in
         let x : hoursAt blocks j ≡ hoursAt wide j = twins .columns (hoursColumn + j) (omega arith) ∙ rows .same (hoursColumn + j) (omega arith) in

@@ -5,7 +5,8 @@ use mathlib.Core.Path.{_≡_}
 use mathlib.Core.Bool.{Bool, true, false, cond}
 use lib.Dec.{leb}
 use lib.ListN.{length, take, drop, getD, set}
-use Rattle.records.specs.Records.{holdsHour, hoursSet}
+use Rattle.records.specs.Records.{dayHours, holdsHour}
+use Rattle.book.specs.Hours.{countedHours}
 use Rattle.book.specs.Refusals.{Accepted}
 use Rattle.orders.specs.Bridge.{dayFrom}
 use Rattle.orders.specs.Columns.{StepColumns, BlockColumns, sideFor}
@@ -125,18 +126,18 @@ written columns i side hours quantity limit sum =
     (againstColumn + i) (quantity * bySide (sideFor side) (sum - limit) (limit - sum)))
     (gainColumn + i) (quantity * bySide (sideFor side) (limit - sum) (sum - limit))
 
--- Block i of the six columns, at hourly prices root.
-pub record Written (sides hours prices quantities root columns : List ℕ) (i : ℕ) : Type 0 where
+-- Block i of the six columns on a day of so many hours, at hourly prices root as they count.
+pub record Written (day : ℕ) (sides hours prices quantities root columns : List ℕ) (i : ℕ) : Type 0 where
   pub sideIs : sideAt columns i ≡ getD sides i 0
   pub hoursIs : hoursAt columns i ≡ getD hours i 0
   pub quantityIs : quantityAt columns i ≡ getD quantities i 0
-  pub limitIs : limitAt columns i ≡ getD prices i 0 * hoursSet hourPlaces (getD hours i 0)
+  pub limitIs : limitAt columns i ≡ getD prices i 0 * countedHours day (getD hours i 0)
   pub againstIs : againstAt columns i ≡ getD quantities i 0
-      * bySide (sideFor (getD sides i 0)) (sumOfHours root (getD hours i 0) - getD prices i 0 * hoursSet hourPlaces (getD hours i 0))
-      (getD prices i 0 * hoursSet hourPlaces (getD hours i 0) - sumOfHours root (getD hours i 0))
+      * bySide (sideFor (getD sides i 0)) (sumOfHours root (getD hours i 0) - getD prices i 0 * countedHours day (getD hours i 0))
+      (getD prices i 0 * countedHours day (getD hours i 0) - sumOfHours root (getD hours i 0))
   pub gainIs : gainAt columns i ≡ getD quantities i 0
-      * bySide (sideFor (getD sides i 0)) (getD prices i 0 * hoursSet hourPlaces (getD hours i 0) - sumOfHours root (getD hours i 0))
-      (sumOfHours root (getD hours i 0) - getD prices i 0 * hoursSet hourPlaces (getD hours i 0))
+      * bySide (sideFor (getD sides i 0)) (getD prices i 0 * countedHours day (getD hours i 0) - sumOfHours root (getD hours i 0))
+      (sumOfHours root (getD hours i 0) - getD prices i 0 * countedHours day (getD hours i 0))
 
 -- THE WHOLE LIST OF THE BLOCKS
 -- The six columns, and nothing behind them yet.
@@ -192,7 +193,7 @@ pub record Ready (b : List ℕ) (t : Tables) : Type 0 where
   pub known : Known (dayFrom b) p rest t
   pub turning : Turning t
 
-abbrev pub ReadyFor : (sides prices quantities ends : List ℕ) (records blockSides hours blockPrices blockQuantities : List ℕ) (t : Tables) → Type 0
-ReadyFor sides prices quantities ends records blockSides hours blockPrices blockQuantities t =
-    (b stepRecords : List ℕ) → Accepted b → StepColumns b ends stepRecords sides prices quantities →
+abbrev pub ReadyFor : (day : ℕ) (sides prices quantities ends : List ℕ) (records blockSides hours blockPrices blockQuantities : List ℕ) (t : Tables) → Type 0
+ReadyFor day sides prices quantities ends records blockSides hours blockPrices blockQuantities t =
+    (b stepRecords : List ℕ) → Accepted b → dayHours b ≡ day → StepColumns b ends stepRecords sides prices quantities →
     BlockColumns mostBlocks b (t .count) records blockSides hours blockPrices blockQuantities → Ready b t

@@ -2,12 +2,13 @@
 ghost use mathlib.Core.Path.{_≡_};
 ghost use Prim.Native.Nat.{ℕ, _≤_, _<_};
 ghost use lib.ListN.{getD};
-ghost use Rattle.rules.specs.Orders.{maxPrice};
+ghost use Rattle.rules.specs.Day.{autumnHours};
 ghost use Rattle.book.specs.Bounds.{mostBlocks};
 ghost use Rattle.places.specs.Layout.{mostQuantity, mostLimit};
-ghost use Rattle.places.specs.Hours.{Small, FirstSmall};
+ghost use Rattle.places.specs.Hours.{Small, FirstSmall, DayPrices};
 ghost use Rattle.places.specs.Blocks.{quantityAt};
 ghost use Rattle.setup.specs.Setup.{BlocksHeld, TradedBy, written, Written, Widened, RowsEmpty, RowsWritten};
+use book::hours::counted_hours;
 use places::added::moved;
 use places::layout::AGAINST;
 use places::layout::AHEAD;
@@ -24,7 +25,6 @@ use places::numbers::by_side;
 use places::numbers::choose;
 use places::numbers::larger;
 use places::numbers::less;
-use records::hour_count;
 
 // How much the first six columns hold, those in front of the twins'.
 const SIX_COLUMNS: usize = AHEAD;
@@ -90,8 +90,9 @@ fn with_block(
     r
 }
 
-// The blocks' six columns, at the prices root.
+// The blocks' six columns on a day of so many hours, at the prices root as they count.
 pub fn block_columns(
+    day: u8,
     count: usize,
     sides: [u8; MOST_BLOCKS],
     hours: [u32; MOST_BLOCKS],
@@ -99,14 +100,14 @@ pub fn block_columns(
     quantities: [u32; MOST_BLOCKS],
     root: [u32; HOURS],
 ) -> [u32; SIX_COLUMNS]
-    requires { ⌜ BlocksHeld count prices quantities × Small maxPrice root ⌝ }
+    requires { ⌜ BlocksHeld count prices quantities × DayPrices root × (day ≤ autumnHours) ⌝ }
     ensures small { λ r. ⌜ ((i : ℕ) → i < mostBlocks → quantityAt r i ≤ mostQuantity) ⌝ }
-    ensures blocks { λ r. ⌜ ((i : ℕ) → i < count → Written sides hours prices quantities root r i) ⌝ }
+    ensures blocks { λ r. ⌜ ((i : ℕ) → i < count → Written day sides hours prices quantities root r i) ⌝ }
 {
     let mut columns = [0; SIX_COLUMNS];
     let mut i: usize = 0;
     while i < count {
-        let limit = prices[i] * hour_count(hours[i]);
+        let limit = prices[i] * counted_hours(day, hours[i]);
         let more = with_block(
             columns,
             i,

@@ -5,6 +5,7 @@ ghost use Prim.Native.Nat.{_+_, _≤_};
 ghost use Rattle.places.specs.Layout.{lastPlace, lastAndAbove};
 ghost use Rattle.places.specs.Hours.{Small, rowWidth, HasRows};
 ghost use Rattle.rules.specs.Orders.{maxPrice};
+ghost use Rattle.rules.specs.Day.{autumnHours};
 ghost use Rattle.search.specs.Tables.{tablesOf};
 ghost use Rattle.search.specs.Meaning.{Sized};
 ghost use Rattle.setup.specs.Setup.{StepsHeld, BlocksHeld, BlocksFit, ReadyFor};
@@ -17,7 +18,9 @@ use crate::rows::fill_ranges;
 use crate::rows::fill_tables;
 use crate::rows::joined;
 use crate::twins::with_twins;
+use book::hours::change_weight;
 use orders::Blocks;
+use places::cells::counted_prices;
 use places::layout::BLOCK_LIST;
 use places::layout::HOUR_LIST;
 use places::layout::HOURS;
@@ -47,8 +50,9 @@ pub fn row_needed(blocks: Blocks) -> usize
     (largest(most) as usize) + LAST_AND_ABOVE
 }
 
-// All that the search is given, from the columns of a book's steps and blocks; unit_prices and gap are its two tables, a row of places for each hour.
+// All that the search is given on a day of so many hours, from the columns of a book's steps and blocks; unit_prices and gap are its two tables, a row of places for each hour.
 pub fn prepare(
+    day: u8,
     sides: &[u8],
     prices: &[u32],
     quantities: &[u32],
@@ -57,12 +61,13 @@ pub fn prepare(
     unit_prices: &mut [u32],
     gap: &mut [u32],
 ) -> Prepared
+    requires day { ⌜ day ≤ autumnHours ⌝ }
     requires steps { ⌜ StepsHeld (now sides) (now prices) (now quantities) ends ⌝ }
     requires blocks { ⌜ BlocksHeld (blocks .count) (blocks .prices) (blocks .quantities) ⌝ }
     requires tables { ⌜ HasRows (now «unit_prices») × (length (now gap) ≡ length (now «unit_prices»)) × Small maxPrice (now «unit_prices») ⌝ }
     requires room { ⌜ BlocksFit (rowWidth (now «unit_prices»)) blocks ⌝ }
     ensures sized { λ r. ⌜ Sized (tablesOf (now («unit_prices» .exit)) (now (gap .exit)) (r .hours) (r .columns) (blocks .count)) ⌝ }
-    ensures ready { λ r. ⌜ ReadyFor (now (sides .entry)) (now (prices .entry)) (now (quantities .entry)) ends
+    ensures ready { λ r. ⌜ ReadyFor day (now (sides .entry)) (now (prices .entry)) (now (quantities .entry)) ends
         (blocks .records) (blocks .sides) (blocks .hours) (blocks .prices) (blocks .quantities)
         (tablesOf (now («unit_prices» .exit)) (now (gap .exit)) (r .hours) (r .columns) (blocks .count)) ⌝ }
 {
@@ -74,7 +79,7 @@ pub fn prepare(
     let off = traded_by_hour(count, block_sides, hours, amounts, false);
     let most = traded_by_hour(count, block_sides, hours, amounts, true);
     fill_tables(sides, prices, quantities, ends, off, most, unit_prices);
-    let root = root_prices(unit_prices, off, count, block_sides, hours, limits, amounts);
+    let root = root_prices(day, unit_prices, off, count, block_sides, hours, limits, amounts);
     let ranges = fill_ranges(
         sides,
         prices,
@@ -86,14 +91,16 @@ pub fn prepare(
         unit_prices,
         gap,
     );
-    let columns = block_columns(count, block_sides, hours, limits, amounts, root);
+    let often = change_weight(day);
+    let counted = counted_prices(root, often);
+    let columns = block_columns(day, count, block_sides, hours, limits, amounts, counted);
     let first = ranges.first;
     let last = ranges.last;
     let turn = ranges.turn;
     let wide = widened(columns);
     let traded = with_rows(count, wide);
     Prepared {
-        hours: joined(first, last, turn),
+        hours: joined(first, last, turn, often),
         columns: with_twins(count, traded),
     }
 }

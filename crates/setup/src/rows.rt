@@ -4,8 +4,9 @@ ghost use Prim.Native.Nat.{ℕ, _+_, _≤_, _<_};
 ghost use lib.ListN.{length, getD};
 ghost use Rattle.rules.specs.Orders.{maxPrice};
 ghost use Rattle.places.specs.Layout.{hourPlaces, lastPlace, lastAndAbove};
-ghost use Rattle.places.specs.Hours.{Small, rowWidth, lastIn, HasRows, clearsFirst, clearsLast, gapsTurn};
+ghost use Rattle.places.specs.Hours.{Small, rowWidth, lastIn, HasRows, clearsFirst, clearsLast, gapsTurn, changeOften};
 ghost use Rattle.setup.specs.Setup.{rowPlaces, RowsFit, StepsHeld, PartHeld, TableOf, RowsAre, RangedOf, RangesAre};
+use places::layout::CHANGE;
 use places::layout::HOUR_LIST;
 use places::layout::HOURS;
 use places::layout::LAST;
@@ -156,11 +157,17 @@ pub fn fill_ranges(
     Ranges { first, last, turn }
 }
 
-// The hours' three columns in one list.
-pub fn joined(first: [u32; HOURS], last: [u32; HOURS], turn: [u32; HOURS]) -> [u32; HOUR_LIST]
-    ensures { λ r. ⌜ (clearsFirst r ≡ first) × (clearsLast r ≡ last) × (gapsTurn r ≡ turn) ⌝ }
+// The hours' three columns in one list, and how often hour 3 counts.
+pub fn joined(
+    first: [u32; HOURS],
+    last: [u32; HOURS],
+    turn: [u32; HOURS],
+    often: u32,
+) -> [u32; HOUR_LIST]
+    ensures { λ r. ⌜ (clearsFirst r ≡ first) × (clearsLast r ≡ last) × (gapsTurn r ≡ turn) × (changeOften r ≡ often) ⌝ }
 {
     let mut r = [0; HOUR_LIST];
+    r[CHANGE] = often;
     let mut h: usize = 0;
     while h < HOURS {
         r[h] = first[h];

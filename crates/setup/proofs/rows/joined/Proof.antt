@@ -7,13 +7,13 @@ use Rattle.setup.proofs.rows.joined.Statement.{statement}
 use Rattle.setup.proofs.rows.joined.Tie as tie
 
 abbrev Inv-loop : tie.InvT-loop
-Inv-loop first last turn r₀ h₀ r h = JoinedTo first last turn h r
+Inv-loop first last turn often r₀ h₀ r h = JoinedTo first last turn often h r
 
 abbrev μ-loop : tie.MeasureT-loop
-μ-loop first last turn r₀ h₀ r h = hourPlaces - h
+μ-loop first last turn often r₀ h₀ r h = hourPlaces - h
 
 loop-holds : tie.Need-loop-holds Inv-loop μ-loop
-loop-holds c = joined-start _ _ _
+loop-holds c = joined-start _ _ _ _
 
 mul-r : tie.Need-mul-r Inv-loop μ-loop
 mul-r c = search needs
@@ -64,11 +64,11 @@ loop-less : tie.Need-loop-less Inv-loop μ-loop
 loop-less c = search needs
 
 loop-again : tie.Need-loop-again Inv-loop μ-loop
-loop-again c = joined-next _ _ _ _ _ (c .before .loop .inv) (c .loop-test .taken)
+loop-again c = joined-next _ _ _ _ _ _ (c .before .loop .inv) (c .loop-test .taken)
 
 returns : tie.Need-returns Inv-loop μ-loop
 returns c =
-    joined-all _ _ _ _ _ (c .before .loop .inv) (c .loop-test .left) (search needs) (search needs) (search needs)
+    joined-all _ _ _ _ _ _ (c .before .loop .inv) (c .loop-test .left) (search needs) (search needs) (search needs)
 
 pub joined-spec : {M : Type 1} → statement M
 joined-spec =
