@@ -1,6 +1,6 @@
 -- The hours one after another: what an hour's steps get goes to its part of the columns, and so hour after hour. Assumes nothing.
-use Prim.Native.Nat.{ℕ, _+_, _-_, _≤_, _<_}
-use mathlib.Core.Path.{_≡_, refl, sym, _∙_}
+use Prim.Native.Nat.{ℕ, _+_, _-_, _*_, _≤_, _<_}
+use mathlib.Core.Path.{_≡_, refl, sym, ap₂, _∙_}
 use mathlib.Core.List.{List, _++_, append-assoc}
 use native.Mathlib.Omega.{arith}
 use native.Mathlib.Numerals.{add-one}
@@ -9,12 +9,14 @@ use lib.Seq.{slice, take-take, take-at, drop-at, length-take-le}
 use borrow.Rule.Slice.PartMut.{putMid, postOf, same-len-mid, mid-len, take-put}
 use Rattle.rules.specs.Orders.{Step}
 use Rattle.rules.specs.Day.{sumTo}
+use Rattle.rules.proofs.BoundsLaws.{product-le}
 use Rattle.rules.proofs.DualityLaws.{value, cost}
 use Rattle.pricing.specs.Curves.{TradesOf}
 use Rattle.places.specs.Layout.{lastPlace}
+use Rattle.places.specs.Hours.{timesIn}
 use Rattle.places.specs.Steps.{stepsAt}
 use Rattle.places.proofs.StepLaws.{mid-slice, steps-next}
-use Rattle.clearing.specs.Publish.{HourDone, HourPut, TradersSized, HoursDone, salesAt, buysAt, inTurn, getsAt}
+use Rattle.clearing.specs.Publish.{mostWorth, HourDone, HourPut, TradersSized, HoursDone, salesAt, buysAt, inTurn, getsAt}
 use Rattle.clearing.proofs.WorthLaws.{trades-fit}
 
 -- what is put into a part stands there
@@ -61,23 +63,23 @@ trades-most sides hours quantities set h sales purchases z t =
     let f = trades-fit sides hours quantities set h z in
     (omega arith, omega arith)
 
-module _ (ends sides prices quantities : List ℕ) (sales purchases price : ℕ → ℕ) where
+module _ (often : ℕ) (few : often ≤ 2) (ends sides prices quantities : List ℕ) (sales purchases price : ℕ → ℕ) where
   abbrev steps : ℕ → List Step
   steps = stepsAt ends sides prices quantities
 
   abbrev gets : ℕ → List ℕ
   gets = getsAt (stepsAt ends sides prices quantities) sales purchases price
 
-  pub hours-none : (values : List ℕ) → getD ends 0 0 ≡ 0 → HoursDone ends (stepsAt ends sides prices quantities) sales purchases price 0 values 0 0
+  pub hours-none : (values : List ℕ) → getD ends 0 0 ≡ 0 → HoursDone often ends (stepsAt ends sides prices quantities) sales purchases price 0 values 0 0
   unfolding inTurn sumTo
   hours-none values e = record { gets = rw e; valueIs = refl; costIs = refl; valueFits = omega arith; costFits = omega arith }
 
-  pub hours-more : (h : ℕ) (values values′ : List ℕ) (v c v′ c′ s u p : ℕ) → h < 24 →
+  pub hours-more : (h : ℕ) (values values′ : List ℕ) (v c v′ c′ s u p times : ℕ) → h < 24 → times ≡ timesIn often (h + 1) → times ≤ 2 →
       s ≡ sales (h + 1) → u ≡ purchases (h + 1) → p ≡ price (h + 1) → getD ends h 0 ≤ getD ends (h + 1) 0 →
-      HoursDone ends (stepsAt ends sides prices quantities) sales purchases price h values v c →
+      HoursDone often ends (stepsAt ends sides prices quantities) sales purchases price h values v c →
       HourPut sides prices quantities (getD ends h 0) (getD ends (h + 1) 0) s u p values values′ v′ c′ →
-      HoursDone ends (stepsAt ends sides prices quantities) sales purchases price (h + 1) values′ (v + v′) (c + c′)
-  hours-more h values values′ v c v′ c′ s u p k es eu ep rise d put =
+      HoursDone often ends (stepsAt ends sides prices quantities) sales purchases price (h + 1) values′ (v + times * v′) (c + times * c′)
+  hours-more h values values′ v c v′ c′ s u p times k et most es eu ep rise d put =
       let from = getD ends h 0 in
       let to = getD ends (h + 1) 0 in
       let next = steps-next ends sides prices quantities h in
@@ -86,8 +88,8 @@ module _ (ends sides prices quantities : List ℕ) (sales purchases price : ℕ 
       let cost-is : c′ ≡ cost (steps (h + 1)) (gets (h + 1)) = put .done .costIs (h + 1) ∙ rw (got, next) in
       record {
         gets = take-split from to values′ rise ∙ rw (put .front, d .gets, got, inTurn-more gets h);
-        valueIs = omega (arith, d .valueIs, sumTo-more h (λ j. value (steps j) (gets j)));
-        costIs = omega (arith, d .costIs, sumTo-more h (λ j. cost (steps j) (gets j)));
-        valueFits = omega (arith, d .valueFits, put .done .valueFits);
-        costFits = omega (arith, d .costFits, put .done .costFits);
+        valueIs = omega (arith, d .valueIs, ap₂ _*_ et value-is, sumTo-more h (λ j. timesIn often j * value (steps j) (gets j)));
+        costIs = omega (arith, d .costIs, ap₂ _*_ et cost-is, sumTo-more h (λ j. timesIn often j * cost (steps j) (gets j)));
+        valueFits = omega (arith, d .valueFits, product-le times v′ 2 mostWorth most (put .done .valueFits));
+        costFits = omega (arith, d .costFits, product-le times c′ 2 mostWorth most (put .done .costFits));
       }

@@ -1,6 +1,6 @@
 -- THE PUBLICATION IS THE RESULT: what is computed out of an accepted book's columns with the published set and its prices is what the definition
 -- publishes: the steps' quantities hour after hour, the welfare and the rows. Assumes nothing.
-use Prim.Native.Nat.{ℕ, zero, suc, _+_, _-_, _/_, _%_, _^_, _≤_, _<_}
+use Prim.Native.Nat.{ℕ, zero, suc, _+_, _-_, _*_, _/_, _%_, _^_, _≤_, _<_}
 use mathlib.Core.Bool.{Bool, false, cond}
 use mathlib.Core.Path.{_≡_, refl, sym, ap, ap₂, _∙_}
 use mathlib.Core.List.{List, _++_}
@@ -12,7 +12,7 @@ use Rattle.records.specs.Records.{recordCount, blockAt}
 use Rattle.book.specs.Chains.{blockOrder}
 use Rattle.book.specs.Refusals.{Accepted}
 use Rattle.rules.specs.Orders.{Step, Block}
-use Rattle.rules.specs.Day.{taken, decisions, overBlocks, sells, buys, stepsIn, sumTo, setPrices, traded, executed, welfare, dayValue, dayCost}
+use Rattle.rules.specs.Day.{changeHour, weight, isCounted, taken, decisions, overBlocks, sells, buys, stepsIn, sumTo, daySum, setPrices, traded, executed, welfare, dayValue, dayCost}
 use Rattle.rules.specs.Day.{blocksValue, blocksCost}
 use Rattle.rules.specs.Outcome.{outcome, forHours}
 use Rattle.rules.specs.Contender.{quantitiesIn}
@@ -27,16 +27,17 @@ use Rattle.orders.proofs.HourLaws.{hour-from-columns}
 use Rattle.orders.proofs.PlaceLaws.{block-place}
 use Rattle.orders.proofs.BridgeLaws.{blocks-from-columns, prices-in-range, hours-in-range}
 use Rattle.places.specs.Layout.{mostQuantity}
-use Rattle.places.specs.Hours.{FirstSmall, ofHour}
+use Rattle.places.specs.Hours.{FirstSmall, timesIn, sumOver, ofHour}
 use Rattle.places.specs.Steps.{stepsAt}
-use Rattle.search.specs.Meaning.{DayOf, StepsAre}
+use Rattle.search.specs.Meaning.{AnHour, DayOf, StepsAre}
 use Rattle.search.specs.declared.Day as code-day
 use Rattle.result.specs.Rows.{rowAt}
 use Rattle.result.specs.Result.{bytesOf, hourRows, recordRows, beside, blockRows, rowOf, resultBytes}
-use Rattle.clearing.specs.Publish.{TradersSized, HoursDone, WorthOf, RowsOf, salesAt, buysAt, inTurn, getsAt}
+use Rattle.clearing.specs.Publish.{TradersSized, HoursDone, WorthOf, WhereCounted, RowsOf, salesAt, buysAt, inTurn, getsAt}
 use Rattle.result.proofs.RowLaws.{records-same}
 use Rattle.places.proofs.StepLaws.{small-take}
-use Rattle.search.proofs.CountsOnce.{counts, in-each, sumTo-in, daySum-plain}
+use Rattle.rules.proofs.HourSums.{sumTo-in}
+use Rattle.places.proofs.CountedLaws.{times-are, day-sum}
 use Rattle.result.proofs.RowsLaws.{
   hourAfterHour,
   publishedBlocks,
@@ -48,7 +49,7 @@ use Rattle.result.proofs.RowsLaws.{
   blockRows-at,
 }
 use Rattle.pricing.proofs.TraderLaws.{traders-same}
-use Rattle.result.proofs.PromiseLaws.{outcome-count, hours-length, hour-at, bytes-are}
+use Rattle.result.proofs.PromiseLaws.{whereCounted, outcome-count, hours-length, hour-at, bytes-are}
 
 -- THE STEPS of the hours are the day's
 pub columns-steps : (b ends records sides prices quantities : List ℕ) → StepColumns b ends records sides prices quantities → Accepted b →
@@ -138,12 +139,12 @@ module _ (b ends records sides prices quantities brecords bsides bhours bprices 
 
   gets-are : (h : ℕ) → 1 ≤ h → h ≤ 24 → gets h ≡ executedIn b h
   unfolding executedIn
-  gets-are h first last = rw (steps-are h first last, sales-are h, purchases-are h, of .pricesAre h (counts _ h first last))
+  gets-are h first last = rw (steps-are h first last, sales-are h, purchases-are h, of .pricesAre h record { first = first; last = last })
 
-  module _ (values : List ℕ) (v c wv wc : ℕ)
-      (hours : HoursDone ends (stepsAt ends sides prices quantities) (salesAt bsides bhours bquantities set) (buysAt bsides bhours bquantities set)
+  module _ (often : ℕ) (counts : often ≡ weight (dayFrom b .hours) changeHour) (values : List ℕ) (v c wv wc : ℕ)
+      (hours : HoursDone often ends (stepsAt ends sides prices quantities) (salesAt bsides bhours bquantities set) (buysAt bsides bhours bquantities set)
       (ofHour (found .prices)) 24 values v c)
-      (worth : WorthOf bsides bhours bprices bquantities set wv wc) where
+      (worth : WorthOf (dayFrom b .hours) bsides bhours bprices bquantities set wv wc) where
     values-are : take (getD ends 24 0) values ≡ executedByHour b 24
     unfolding executedByHour
     values-are = hours .gets ∙ inTurn-same 24 gets (executedIn b) gets-are
@@ -156,23 +157,28 @@ module _ (b ends records sides prices quantities brecords bsides bhours bprices 
     unfolding executedIn
     executed-here h = executed-in (dayFrom b) (prices-in-range b a) (hours-in-range b a) (publishedBlocks b) h
 
+    -- the day's sum, hour 3 as often as it counts
+    over-day : (f : ℕ → ℕ) → daySum (dayFrom b .hours) f ≡ sumTo 24 (λ h. timesIn (weight (dayFrom b .hours) changeHour) h * f h)
+    unfolding sumOver
+    over-day f = day-sum (dayFrom b .hours) f
+
     value-is : v + wv ≡ dayValue (dayFrom b) (publishedBlocks b) (executed (dayFrom b) (publishedBlocks b))
     value-is =
         let d = dayFrom b in
-        let sum : v ≡ sumTo 24 (λ h. value (stepsIn h (d .steps)) (quantitiesIn h (d .steps) (executed d S))) =
-        hours .valueIs ∙ sumTo-in 24 _ _ (λ h x y. rw (gets-are h x y, steps-are h x y, executed-here h)) in
-        let of : wv ≡ blocksValue (d .hours) S = worth .valueIs b brecords (d .hours) (sym sizeR) ∙ rw taken-are in
+        let sum : v ≡ daySum (d .hours) (λ h. value (stepsIn h (d .steps)) (quantitiesIn h (d .steps) (executed d S))) =
+        hours .valueIs ∙ sumTo-in 24 _ _ (λ h x y. rw (gets-are h x y, steps-are h x y, executed-here h, counts)) ∙ sym (over-day _) in
+        let of : wv ≡ blocksValue (d .hours) S = worth .valueIs b brecords (sym sizeR) ∙ rw taken-are in
         rw (sum, of)
-        (sym (value-by-hour d (prices-in-range b a) (hours-in-range b a) S (executed d S) ∙ rw (daySum-plain (d .hours))))
+        (sym (value-by-hour d (prices-in-range b a) (hours-in-range b a) S (executed d S)))
 
     cost-is : c + wc ≡ dayCost (dayFrom b) (publishedBlocks b) (executed (dayFrom b) (publishedBlocks b))
     cost-is =
         let d = dayFrom b in
-        let sum : c ≡ sumTo 24 (λ h. cost (stepsIn h (d .steps)) (quantitiesIn h (d .steps) (executed d S))) =
-        hours .costIs ∙ sumTo-in 24 _ _ (λ h x y. rw (gets-are h x y, steps-are h x y, executed-here h)) in
-        let of : wc ≡ blocksCost (d .hours) S = worth .costIs b brecords (d .hours) (sym sizeR) ∙ rw taken-are in
+        let sum : c ≡ daySum (d .hours) (λ h. cost (stepsIn h (d .steps)) (quantitiesIn h (d .steps) (executed d S))) =
+        hours .costIs ∙ sumTo-in 24 _ _ (λ h x y. rw (gets-are h x y, steps-are h x y, executed-here h, counts)) ∙ sym (over-day _) in
+        let of : wc ≡ blocksCost (d .hours) S = worth .costIs b brecords (sym sizeR) ∙ rw taken-are in
         rw (sum, of)
-        (sym (cost-by-hour d (prices-in-range b a) (hours-in-range b a) S (executed d S) ∙ rw (daySum-plain (d .hours))))
+        (sym (cost-by-hour d (prices-in-range b a) (hours-in-range b a) S (executed d S)))
 
     welfare-are : v + wv - (c + wc) ≡ welfare (dayFrom b) (outcome (dayFrom b))
     unfolding welfare
@@ -205,16 +211,24 @@ module _ (b ends records sides prices quantities brecords bsides bhours bprices 
           ∙ rw (r, values-are, brecords-here) (rows-by-hour b a bvalues (rw (chosen-is b)) k)
 
       -- THE WHOLE
-      pub published-from : (result : List ℕ) (count w : ℕ) → length (found .prices) ≡ 24 → length (found .quantities) ≡ 24 → count ≡ recordCount b → count ≤ 2048 →
+      -- a column of the hours that count
+      counted-column : (f : ℕ → ℕ) (column r : List ℕ) → ((h : ℕ) → AnHour h → ofHour column h ≡ f h) → WhereCounted often column r → r ≡ forHours 24 (whereCounted b f)
+      unfolding isCounted
+      counted-column f column r is w =
+          column-is r (whereCounted b f) (w .size) (λ h x y.
+          w .are h x y ∙ rw (counts, ← (times-are (dayFrom b .hours) h), is h record { first = x; last = y }))
+
+      pub published-from : (result prices-r traded-r : List ℕ) (count w : ℕ) → WhereCounted often (found .prices) prices-r →
+          WhereCounted often (found .quantities) traded-r → count ≡ recordCount b → count ≤ 2048 →
           w ≡ v + wv - (c + wc) →
-          result ≡ bytesOf 8 w ++ (hourRows (found .prices) (found .quantities) ++ recordRows (rowAt rows) (count - 1) 1) → result ≡ resultBytes b
-      published-from result count w lm lt same small ew e =
+          result ≡ bytesOf 8 w ++ (hourRows prices-r traded-r ++ recordRows (rowAt rows) (count - 1) 1) → result ≡ resultBytes b
+      published-from result prices-r traded-r count w pr tr same small ew e =
           e ∙ rw (
             bytes-are b a,
             ew,
             welfare-are,
-            column-is (found .prices) (setPrices (dayFrom b) (publishedBlocks b)) lm (in-each _ (of .pricesAre)),
-            column-is (found .quantities) (traded (dayFrom b) (publishedBlocks b)) lt (in-each _ (of .tradedAre)),
+            counted-column (setPrices (dayFrom b) (publishedBlocks b)) (found .prices) prices-r (of .pricesAre) pr,
+            counted-column (traded (dayFrom b) (publishedBlocks b)) (found .quantities) traded-r (of .tradedAre) tr,
             records-same (rowAt rows) (rowOf b) (count - 1) 1 (λ i x y. row-is i (omega arith)),
             same,
           )

@@ -9,34 +9,34 @@ use lib.Dec.{eqb}
 use lib.ListN.{length, drop, getD, drop-of-length-le}
 use lib.Seq.{drop-cons}
 use borrow.Author.Tests.{eq-eqb, ne-eqb}
-use Rattle.records.specs.Records.{number, hoursSet}
-use Rattle.records.proofs.Laws.{hours-few}
-use Rattle.rules.specs.Orders.{Side, buy, sell, Block}
+use Rattle.records.specs.Records.{number}
+use Rattle.book.specs.Hours.{countedHours}
+use Rattle.roots.proofs.SizeLaws.{limit-fits}
+use Rattle.rules.specs.Orders.{Side, buy, sell, Block, maxPrice}
 use Rattle.rules.specs.Hour.{bySide, when}
-use Rattle.rules.specs.Day.{taken, decisions, overBlocks, blocksValue, blocksCost}
+use Rattle.rules.specs.Day.{autumnHours, taken, decisions, overBlocks, blocksValue, blocksCost}
 use Rattle.rules.specs.Day as day
 use Rattle.orders.specs.Columns.{sideFor, blockOf, blocksFrom}
 use Rattle.orders.proofs.BridgeLaws.{hour-count}
 use Rattle.clearing.specs.Publish.{WorthOf, TradersSized, salesAt, buysAt}
 use Rattle.book.specs.Bounds.{mostBlocks}
-use Rattle.places.specs.Layout.{mostQuantity, lastPlace}
+use Rattle.places.specs.Layout.{mostQuantity, mostLimit, lastPlace}
 use Rattle.rules.proofs.CurveLaws.{bySide-le}
 use Rattle.rules.proofs.TradeBounds.{take-one}
 use Rattle.rules.proofs.BoundsLaws.{product-le}
 use Rattle.pricing.proofs.TraderLaws.{traders-within}
 
--- ONE BLOCK
-module _ (p q x : ℕ) (fp : p ≤ 300000) (fq : q ≤ mostQuantity) where
-  pub limit-fits : (c : ℕ) → c ≡ hoursSet 24 x → p * c ≤ 7200000
-  limit-fits c e = product-le p c 300000 24 fp (omega (arith, hours-few 24 x))
+-- ONE BLOCK, on a day of so many hours
+module _ (d p q x : ℕ) (fd : d ≤ autumnHours) (fp : p ≤ maxPrice) (fq : q ≤ mostQuantity) where
+  pub worth-fits : (c : ℕ) → c ≡ countedHours d x → (p * c ≤ mostLimit) × (q * (p * c) ≤ mostQuantity * mostLimit)
+  worth-fits c e =
+      let limit : p * c ≤ mostLimit = rw e (limit-fits p d x fd fp) in
+      (limit, product-le q (p * c) mostQuantity mostLimit fq limit)
 
-  pub worth-fits : (c : ℕ) → c ≡ hoursSet 24 x → q * (p * c) ≤ mostQuantity * 7200000
-  worth-fits c e = product-le q (p * c) mostQuantity 7200000 fq (limit-fits c e)
-
-  pub worth-chosen : (t c : ℕ) → c ≡ hoursSet 24 x → t ≡ 1 → q * (p * c) ≡ when (eqb t 1) (q * (p * hoursSet 24 x))
+  pub worth-chosen : (t c : ℕ) → c ≡ countedHours d x → t ≡ 1 → q * (p * c) ≡ when (eqb t 1) (q * (p * countedHours d x))
   worth-chosen t c e o = rw (eq-eqb t 1 o, e)
 
-  pub worth-not : (t : ℕ) → (t ≡ 1 → ⊥) → _≡_ {A = ℕ} 0 (when (eqb t 1) (q * (p * hoursSet 24 x)))
+  pub worth-not : (t : ℕ) → (t ≡ 1 → ⊥) → _≡_ {A = ℕ} 0 (when (eqb t 1) (q * (p * countedHours d x)))
   worth-not t o = rw (ne-eqb t 1 o)
 
 -- ALL BLOCKS
@@ -50,7 +50,7 @@ second-when true side w = refl
 second-when false buy w = refl
 second-when false sell w = refl
 
-module _ (sides hours prices quantities : List ℕ) where
+module _ (d : ℕ) (sides hours prices quantities : List ℕ) where
   -- the blocks not yet counted, with what is left of the set
   abbrev restFrom : List ℕ → List ℕ → ℕ → ℕ → List Block
   restFrom b records i rest =
@@ -61,20 +61,20 @@ module _ (sides hours prices quantities : List ℕ) where
 
   pub record Worthed (set value-r cost-r rest i : ℕ) : Type 0 where
     pub inside : i ≤ length sides
-    pub valueIs : (b records : List ℕ) (day-hours : ℕ) → length records ≡ length sides →
-        blocksValue day-hours (allFrom b records set) ≡ value-r + blocksValue day-hours (restFrom b records i rest)
-    pub costIs : (b records : List ℕ) (day-hours : ℕ) → length records ≡ length sides →
-        blocksCost day-hours (allFrom b records set) ≡ cost-r + blocksCost day-hours (restFrom b records i rest)
-    pub valueFits : value-r ≤ i * (mostQuantity * 7200000)
-    pub costFits : cost-r ≤ i * (mostQuantity * 7200000)
+    pub valueIs : (b records : List ℕ) → length records ≡ length sides →
+        blocksValue d (allFrom b records set) ≡ value-r + blocksValue d (restFrom b records i rest)
+    pub costIs : (b records : List ℕ) → length records ≡ length sides →
+        blocksCost d (allFrom b records set) ≡ cost-r + blocksCost d (restFrom b records i rest)
+    pub valueFits : value-r ≤ i * (mostQuantity * mostLimit)
+    pub costFits : cost-r ≤ i * (mostQuantity * mostLimit)
 
   pub worthed-none : (set : ℕ) → Worthed set 0 0 set 0
   worthed-none set =
       let e : length sides - 0 ≡ length sides = omega arith in
       record {
         inside = omega arith;
-        valueIs = λ b records d same. rw e (omega arith);
-        costIs = λ b records d same. rw e (omega arith);
+        valueIs = λ b records same. rw e (omega arith);
+        costIs = λ b records same. rw e (omega arith);
         valueFits = omega arith;
         costFits = omega arith;
       }
@@ -106,53 +106,53 @@ module _ (sides hours prices quantities : List ℕ) where
       side = sideFor (getD sides i 0)
 
       abbrev w : ℕ
-      w = getD quantities i 0 * (getD prices i 0 * hoursSet 24 (getD hours i 0))
+      w = getD quantities i 0 * (getD prices i 0 * countedHours d (getD hours i 0))
 
-      value-more : (b records : List ℕ) (d : ℕ) → length records ≡ length sides →
+      value-more : (b records : List ℕ) → length records ≡ length sides →
           blocksValue d (restFrom b records i rest)
           ≡ bySide side (when (eqb (rest % 2) 1) w) 0 + blocksValue d (restFrom b records (i + 1) (rest / 2))
       unfolding blocksValue
-      value-more b records d same =
+      value-more b records same =
           rest-more (λ b. bySide (b .side) (b .quantity * (b .price * day.hourCount d b)) 0) b records i rest same k
           ∙ rw (hour-count d (number b (getD records i 0)) (getD sides i 0) (getD hours i 0) (getD prices i 0) (getD quantities i 0), first-when)
 
-      cost-more : (b records : List ℕ) (d : ℕ) → length records ≡ length sides →
+      cost-more : (b records : List ℕ) → length records ≡ length sides →
           blocksCost d (restFrom b records i rest)
           ≡ bySide side 0 (when (eqb (rest % 2) 1) w) + blocksCost d (restFrom b records (i + 1) (rest / 2))
       unfolding blocksCost
-      cost-more b records d same =
+      cost-more b records same =
           rest-more (λ b. bySide (b .side) 0 (b .quantity * (b .price * day.hourCount d b))) b records i rest same k
           ∙ rw (hour-count d (number b (getD records i 0)) (getD sides i 0) (getD hours i 0) (getD prices i 0) (getD quantities i 0), second-when)
 
-    pub worthed-next : (set v c rest i worth v′ c′ : ℕ) → Worthed set v c rest i → i < length sides → worth ≤ mostQuantity * 7200000 →
-        worth ≡ when (eqb (rest % 2) 1) (getD quantities i 0 * (getD prices i 0 * hoursSet 24 (getD hours i 0))) →
+    pub worthed-next : (set v c rest i worth v′ c′ : ℕ) → Worthed set v c rest i → i < length sides → worth ≤ mostQuantity * mostLimit →
+        worth ≡ when (eqb (rest % 2) 1) (getD quantities i 0 * (getD prices i 0 * countedHours d (getD hours i 0))) →
         v′ ≡ v + bySide (sideFor (getD sides i 0)) worth 0 →
         c′ ≡ c + bySide (sideFor (getD sides i 0)) 0 worth → Worthed set v′ c′ (rest / 2) (i + 1)
     worthed-next set v c rest i worth v′ c′ s k small ew ev ec =
         let sd = sideFor (getD sides i 0) in
         record {
           inside = omega arith;
-          valueIs = λ b records d same. s .valueIs b records d same ∙ rw (value-more i rest k b records d same, ev, ew) (omega arith);
-          costIs = λ b records d same. s .costIs b records d same ∙ rw (cost-more i rest k b records d same, ec, ew) (omega arith);
+          valueIs = λ b records same. s .valueIs b records same ∙ rw (value-more i rest k b records same, ev, ew) (omega arith);
+          costIs = λ b records same. s .costIs b records same ∙ rw (cost-more i rest k b records same, ec, ew) (omega arith);
           valueFits = omega (arith, s .valueFits, bySide-le sd worth);
           costFits = omega (arith, s .costFits, bySide-le sd worth);
         }
 
-    value-none : (b records : List ℕ) (d i rest : ℕ) → length records ≡ length sides → length sides ≤ i →
+    value-none : (b records : List ℕ) (i rest : ℕ) → length records ≡ length sides → length sides ≤ i →
         blocksValue d (restFrom b records i rest) ≡ 0
     unfolding blocksValue
-    value-none b records d i rest same k = rest-none _ b records i rest same k
+    value-none b records i rest same k = rest-none _ b records i rest same k
 
-    cost-none : (b records : List ℕ) (d i rest : ℕ) → length records ≡ length sides → length sides ≤ i →
+    cost-none : (b records : List ℕ) (i rest : ℕ) → length records ≡ length sides → length sides ≤ i →
         blocksCost d (restFrom b records i rest) ≡ 0
     unfolding blocksCost
-    cost-none b records d i rest same k = rest-none _ b records i rest same k
+    cost-none b records i rest same k = rest-none _ b records i rest same k
 
-    pub worthed-all : (set v c rest i : ℕ) → Worthed set v c rest i → length sides ≤ i → WorthOf sides hours prices quantities set v c
+    pub worthed-all : (set v c rest i : ℕ) → Worthed set v c rest i → length sides ≤ i → WorthOf d sides hours prices quantities set v c
     worthed-all set v c rest i s k =
         record {
-          valueIs = λ b records d same. omega (arith, s .valueIs b records d same, value-none b records d i rest same k);
-          costIs = λ b records d same. omega (arith, s .costIs b records d same, cost-none b records d i rest same k);
+          valueIs = λ b records same. omega (arith, s .valueIs b records same, value-none b records i rest same k);
+          costIs = λ b records same. omega (arith, s .costIs b records same, cost-none b records i rest same k);
           valueFits = omega (arith, s .valueFits, s .inside, sized .few);
           costFits = omega (arith, s .costFits, s .inside, sized .few);
         }

@@ -1,18 +1,19 @@
 -- THE PUBLICATION out of columns: what the steps of each hour get, hour after hour, and what it is worth; the result's bytes from them and from the day.
 -- These are the contracts of the functions of src/publish.rt; the promise of the clearing itself is in Promise. Definitions only. Assumes nothing.
 use Prim.Native.Nat.{ℕ, zero, suc, _*_, _/_, _%_, _^_, _≤_, _<_}
-use mathlib.Core.Bool.{cond}
+use mathlib.Core.Bool.{cond, not}
 use mathlib.Core.List.{List, [], _++_}
 use mathlib.Core.Path.{_≡_}
 use lib.Dec.{eqb}
 use lib.ListN.{length, take, getD}
 use lib.Seq.{slice}
-use Rattle.records.specs.Records.{recordCount}
+use Rattle.records.specs.Records.{recordCount, dayHours}
 use Rattle.book.specs.Refusals.{Accepted}
 use Rattle.records.specs.Layout.{lastHour}
 use Rattle.rules.specs.Orders.{Step, maxPrice}
+use Rattle.rules.specs.Hour.{when}
 use Rattle.rules.specs.Execution.{execution}
-use Rattle.rules.specs.Day.{taken, decisions, overBlocks, sells, buys, sumTo, blocksValue, blocksCost}
+use Rattle.rules.specs.Day.{autumnHours, taken, decisions, overBlocks, sells, buys, sumTo, blocksValue, blocksCost}
 use Rattle.rules.specs.Outcome.{outcome}
 use Rattle.rules.proofs.PricingLaws.{net}
 use Rattle.rules.proofs.DualityLaws.{value, cost}
@@ -23,7 +24,7 @@ use Rattle.orders.specs.declared.Steps.{Steps}
 use Rattle.orders.specs.declared.Blocks.{Blocks}
 use Rattle.pricing.specs.Curves.{tradersFrom}
 use Rattle.places.specs.Layout.{mostQuantity}
-use Rattle.places.specs.Hours.{Small, FirstSmall}
+use Rattle.places.specs.Hours.{Small, FirstSmall, timesIn, ofHour}
 use Rattle.places.specs.Steps.{StepsSized}
 use Rattle.search.specs.Meaning.{DayOf}
 use Rattle.result.specs.Layout.{resultSize}
@@ -75,20 +76,20 @@ inTurn q (suc n) = inTurn q n ++ q (suc n)
 abbrev pub getsAt : (steps : ℕ → List Step) (sales purchases price : ℕ → ℕ) → ℕ → List ℕ
 getsAt steps sales purchases price h = execution (net (steps h) (sales h) (purchases h)) (price h)
 
--- The hours 1 to n are done: what the steps get stands in front of the values, and with it its value and its cost.
-pub record HoursDone (ends : List ℕ) (steps : ℕ → List Step) (sales purchases price : ℕ → ℕ) (n : ℕ) (values : List ℕ) (value-r cost-r : ℕ) :
-    Type 0 where
+-- The hours 1 to n are done: what the steps get stands in front of the values, and with it its value and its cost, hour 3's so often.
+pub record HoursDone (often : ℕ) (ends : List ℕ) (steps : ℕ → List Step) (sales purchases price : ℕ → ℕ) (n : ℕ) (values : List ℕ)
+    (value-r cost-r : ℕ) : Type 0 where
   pub gets : take (getD ends n 0) values ≡ inTurn (getsAt steps sales purchases price) n
-  pub valueIs : value-r ≡ sumTo n (λ h. value (steps h) (getsAt steps sales purchases price h))
-  pub costIs : cost-r ≡ sumTo n (λ h. cost (steps h) (getsAt steps sales purchases price h))
-  pub valueFits : value-r ≤ n * mostWorth
-  pub costFits : cost-r ≤ n * mostWorth
+  pub valueIs : value-r ≡ sumTo n (λ h. timesIn often h * value (steps h) (getsAt steps sales purchases price h))
+  pub costIs : cost-r ≡ sumTo n (λ h. timesIn often h * cost (steps h) (getsAt steps sales purchases price h))
+  pub valueFits : value-r ≤ n * (2 * mostWorth)
+  pub costFits : cost-r ≤ n * (2 * mostWorth)
 
--- THE BLOCKS of a set given as bits: their value and cost, whatever their numbers.
-pub record WorthOf (sides hours prices quantities : List ℕ) (set value-r cost-r : ℕ) : Type 0 where
-  pub valueIs : (b records : List ℕ) (day-hours : ℕ) → length records ≡ length sides →
+-- THE BLOCKS of a set given as bits, on a day of so many hours: their value and cost, whatever their numbers.
+pub record WorthOf (day-hours : ℕ) (sides hours prices quantities : List ℕ) (set value-r cost-r : ℕ) : Type 0 where
+  pub valueIs : (b records : List ℕ) → length records ≡ length sides →
       value-r ≡ blocksValue day-hours (taken (blocksFrom b records sides hours prices quantities) (decisions (length sides) set))
-  pub costIs : (b records : List ℕ) (day-hours : ℕ) → length records ≡ length sides →
+  pub costIs : (b records : List ℕ) → length records ≡ length sides →
       cost-r ≡ blocksCost day-hours (taken (blocksFrom b records sides hours prices quantities) (decisions (length sides) set))
   pub valueFits : value-r ≤ mostWorth
   pub costFits : cost-r ≤ mostWorth
@@ -108,6 +109,11 @@ HoursPriced prices = (h : ℕ) → h < lastHour → 1 ≤ getD prices h 0
 abbrev pub Buffer : ℕ → List ℕ → Type 0
 Buffer count result = (1 ≤ count) × (count ≤ stepPlaces) × (length result ≡ resultSize count)
 
+-- THE HOURS' ROWS: a number of each hour that counts, 0 for hour 3 where it does not.
+pub record WhereCounted (often : ℕ) (column r : List ℕ) : Type 0 where
+  pub size : length r ≡ lastHour
+  pub are : (h : ℕ) → 1 ≤ h → h ≤ lastHour → ofHour r h ≡ when (not (eqb (timesIn often h) 0)) (ofHour column h)
+
 -- THE ROWS: each step's value beside its record, and each taken block's quantity beside its own.
 abbrev pub RowsOf : (records values brecords bquantities : List ℕ) (set : ℕ) (rows : List ℕ) → Type 0
 RowsOf records values brecords bquantities set rows =
@@ -122,20 +128,21 @@ StepsOf b steps = StepColumns b (steps .ends) (steps .records) (steps .sides) (s
 abbrev pub BlocksOf : List ℕ → Blocks → Type 0
 BlocksOf b blocks = BlockColumns blockPlaces b (blocks .count) (blocks .records) (blocks .sides) (blocks .hours) (blocks .prices) (blocks .quantities)
 
-abbrev pub PublishedFrom : (count : ℕ) (steps : Steps) (brecords bsides bhours bprices bquantities : List ℕ) (set : ℕ) (day : code-day.Day)
+abbrev pub PublishedFrom : (day-hours count : ℕ) (steps : Steps) (brecords bsides bhours bprices bquantities : List ℕ) (set : ℕ) (day : code-day.Day)
     (result : List ℕ) → Type 0
-PublishedFrom count steps brecords bsides bhours bprices bquantities set day result =
-    (b : List ℕ) → Accepted b → StepsOf b steps →
+PublishedFrom day-hours count steps brecords bsides bhours bprices bquantities set day result =
+    (b : List ℕ) → Accepted b → dayHours b ≡ day-hours → StepsOf b steps →
     BlockColumns (length bsides) b (length bsides) brecords bsides bhours bprices bquantities → decisions (length bsides) set ≡ outcome (dayFrom b) →
     DayOf (dayFrom b) (outcome (dayFrom b)) day → count ≡ recordCount b → result ≡ resultBytes b
 
-abbrev pub PublishedIn : (count : ℕ) (steps : Steps) (blocks : Blocks) (set : ℕ) (day : code-day.Day) (result : List ℕ) → Type 0
-PublishedIn count steps blocks set day result =
-    (b : List ℕ) → Accepted b → StepsOf b steps → BlocksOf b blocks → decisions (blocks .count) set ≡ outcome (dayFrom b) →
+abbrev pub PublishedIn : (day-hours count : ℕ) (steps : Steps) (blocks : Blocks) (set : ℕ) (day : code-day.Day) (result : List ℕ) → Type 0
+PublishedIn day-hours count steps blocks set day result =
+    (b : List ℕ) → Accepted b → dayHours b ≡ day-hours → StepsOf b steps → BlocksOf b blocks → decisions (blocks .count) set ≡ outcome (dayFrom b) →
     DayOf (dayFrom b) (outcome (dayFrom b)) day → count ≡ recordCount b → result ≡ resultBytes b
 
 -- WHAT IS ASKED of a call, all of it for safe arithmetic and indexing: it holds of an accepted book's columns, set and day.
-pub record Publishable (count : ℕ) (steps : Steps) (blocks : Blocks) (day : code-day.Day) (result : List ℕ) : Type 0 where
+pub record Publishable (day-hours count : ℕ) (steps : Steps) (blocks : Blocks) (day : code-day.Day) (result : List ℕ) : Type 0 where
+  pub short : day-hours ≤ autumnHours
   pub stepsFit : StepsSized (steps .ends) (steps .sides) (steps .prices) (steps .quantities)
   pub inRecords : getD (steps .ends) lastHour 0 ≤ length (steps .records)
   pub fewBlocks : blocks .count ≤ blockPlaces

@@ -18,6 +18,7 @@ use orders::Steps;
 use orders::blocks_of;
 use orders::layout::HOURS;
 use orders::steps_of;
+use records::day_hours;
 use records::record_count;
 use result::Clearing;
 use result::RECORD_ROW;
@@ -50,12 +51,22 @@ fn clear_within(
         × BlocksFit (rowWidth (now «unit_prices»)) blocks ⌝ }
     ensures { λ _. ⌜ now (result .exit) ≡ resultBytes (now (book .entry)) ⌝ }
 {
+    let day = day_hours(book);
     let count = record_count(book) as usize;
     let sides = steps.sides;
     let prices = steps.prices;
     let quantities = steps.quantities;
     let ends = steps.ends;
-    let prepared = prepare(&sides, &prices, &quantities, ends, blocks, unit_prices, gap);
+    let prepared = prepare(
+        day,
+        &sides,
+        &prices,
+        &quantities,
+        ends,
+        blocks,
+        unit_prices,
+        gap,
+    );
     let hours = prepared.hours;
     let columns = prepared.columns;
     let best = find(
@@ -69,7 +80,7 @@ fn clear_within(
         &ends,
         blocks.count as u32,
     );
-    publish(count, steps, blocks, best.set, best.day, result);
+    publish(day, count, steps, blocks, best.set, best.day, result);
 }
 
 // The same in small tables, where the blocks reach no further.

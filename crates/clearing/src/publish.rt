@@ -4,29 +4,32 @@ ghost use mathlib.Core.Path.{_≡_};
 ghost use Prim.Native.Nat.{_+_, _*_, _^_, _≤_};
 ghost use lib.ListN.{length, getD};
 ghost use lib.Dec.{eqb};
-ghost use Rattle.records.specs.Records.{hoursSet};
+ghost use Rattle.book.specs.Hours.{countedHours};
 ghost use Rattle.records.specs.Layout.{lastHour};
 ghost use Rattle.book.specs.Bounds.{mostStepQuantity};
 ghost use Rattle.rules.specs.Orders.{maxPrice};
 ghost use Rattle.rules.specs.Hour.{bySide, when};
+ghost use Rattle.rules.specs.Day.{autumnHours};
 ghost use Rattle.orders.specs.Columns.{sideFor};
 ghost use Rattle.pricing.specs.Curves.{Columns};
 ghost use Rattle.orders.specs.Layout.{blockPlaces};
 ghost use Rattle.places.specs.Layout.{lastPlace, mostLimit, mostQuantity};
-ghost use Rattle.places.specs.Hours.{Small, ofHour};
+ghost use Rattle.places.specs.Hours.{Small, timesIn, ofHour};
 ghost use Rattle.places.specs.Steps.{PartSized, StepsSized, stepsAt};
 ghost use Rattle.clearing.specs.Publish.{HourDone, HourPut, SumsOf, WorthOf, HoursDone, TradersSized, HoursPriced};
-ghost use Rattle.clearing.specs.Publish.{salesAt, buysAt, Buffer, RowsOf, PublishedFrom, PublishedIn, Publishable};
+ghost use Rattle.clearing.specs.Publish.{salesAt, buysAt, Buffer, WhereCounted, RowsOf, PublishedFrom, PublishedIn, Publishable};
+use book::hours::change_weight;
+use book::hours::counted_hours;
 use orders::Blocks;
 use orders::Steps;
 use orders::layout::HOURS;
 use orders::layout::STEP_PLACES;
+use places::layout::CHANGE_ROW;
 use pricing::BIAS;
 use pricing::blocks::trades_of;
 use pricing::execution::amounts_at;
 use pricing::execution::less;
 use pricing::execution::share_out;
-use records::hour_count;
 use result::block_values;
 use result::with_rows;
 use result::write_result;
@@ -117,28 +120,35 @@ fn put_hour(
     )
 }
 
-// What a block is worth: its quantity times its limit over all its hours, if it is chosen (1 for yes).
-fn block_worth(chosen: u32, hours: u32, price: u32, quantity: u32) -> u64
-    requires { ⌜ (price ≤ maxPrice) × (quantity ≤ mostQuantity) ⌝ }
-    ensures { λ r. ⌜ (r ≡ when (eqb chosen 1) (quantity * (price * hoursSet lastHour hours))) × (r ≤ mostQuantity * mostLimit) ⌝ }
+// What a block is worth on a day of so many hours: its quantity times its limit over all its hours, if it is chosen (1 for yes).
+fn block_worth(day: u8, chosen: u32, hours: u32, price: u32, quantity: u32) -> u64
+    requires { ⌜ (day ≤ autumnHours) × (price ≤ maxPrice) × (quantity ≤ mostQuantity) ⌝ }
+    ensures { λ r. ⌜ (r ≡ when (eqb chosen 1) (quantity * (price * countedHours day hours))) × (r ≤ mostQuantity * mostLimit) ⌝ }
 {
     if chosen == 1 {
-        let limit = price * hour_count(hours);
+        let limit = price * counted_hours(day, hours);
         return (quantity * limit) as u64;
     }
     0
 }
 
-// The value and the cost of the blocks that the set holds, the lowest bit for the first block.
-fn blocks_worth(sides: &[u8], hours: &[u32], prices: &[u32], quantities: &[u32], set: u32) -> Sums
-    requires { ⌜ TradersSized (now sides) (now hours) (now quantities) × (length (now sides) ≡ length (now prices)) × Small maxPrice (now prices) ⌝ }
-    ensures { λ r. ⌜ WorthOf (now (sides .entry)) (now (hours .entry)) (now (prices .entry)) (now (quantities .entry)) set (r .value) (r .cost) ⌝ }
+// The value and the cost of the blocks that the set holds, the lowest bit for the first block, on a day of so many hours.
+fn blocks_worth(
+    day: u8,
+    sides: &[u8],
+    hours: &[u32],
+    prices: &[u32],
+    quantities: &[u32],
+    set: u32,
+) -> Sums
+    requires { ⌜ (day ≤ autumnHours) × TradersSized (now sides) (now hours) (now quantities) × (length (now sides) ≡ length (now prices)) × Small maxPrice (now prices) ⌝ }
+    ensures { λ r. ⌜ WorthOf day (now (sides .entry)) (now (hours .entry)) (now (prices .entry)) (now (quantities .entry)) set (r .value) (r .cost) ⌝ }
 {
     let mut sums = Sums { value: 0, cost: 0 };
     let mut rest = set;
     let mut i: usize = 0;
     while i < sides.len() {
-        let worth = block_worth(rest % 2, hours[i], prices[i], quantities[i]);
+        let worth = block_worth(day, rest % 2, hours[i], prices[i], quantities[i]);
         sums = sums.add(sides[i], worth);
         rest = rest / 2;
         i += 1;
@@ -146,8 +156,21 @@ fn blocks_worth(sides: &[u8], hours: &[u32], prices: &[u32], quantities: &[u32],
     sums
 }
 
-// What the steps of each hour get, hour after hour, into values, and the value and the cost of all of it.
+// How often the hour of a row counts.
+fn times_of(row: usize, often: u32) -> u64
+    requires { ⌜ often ≤ 2 ⌝ }
+    ensures { λ r. ⌜ (r ≡ timesIn often (row + 1)) × (r ≤ 2) ⌝ }
+{
+    if row == CHANGE_ROW {
+        often as u64
+    } else {
+        1
+    }
+}
+
+// What the steps of each hour get, hour after hour, into values, and the value and the cost of all of it, hour 3's so often.
 fn fill_hours(
+    often: u32,
     steps: Steps,
     bsides: &[u8],
     bhours: &[u32],
@@ -156,9 +179,9 @@ fn fill_hours(
     middles: [u32; HOURS],
     values: &mut [u32],
 ) -> Sums
-    requires { ⌜ StepsSized (steps .ends) (steps .sides) (steps .prices) (steps .quantities) × TradersSized (now bsides) (now bhours) (now bquantities)
+    requires { ⌜ (often ≤ 2) × StepsSized (steps .ends) (steps .sides) (steps .prices) (steps .quantities) × TradersSized (now bsides) (now bhours) (now bquantities)
         × HoursPriced middles × (getD (steps .ends) lastHour 0 ≤ length (now values)) ⌝ }
-    ensures { λ r. ⌜ HoursDone (steps .ends) (stepsAt (steps .ends) (steps .sides) (steps .prices) (steps .quantities))
+    ensures { λ r. ⌜ HoursDone often (steps .ends) (stepsAt (steps .ends) (steps .sides) (steps .prices) (steps .quantities))
         (salesAt (now (bsides .entry)) (now (bhours .entry)) (now (bquantities .entry)) set)
         (buysAt (now (bsides .entry)) (now (bhours .entry)) (now (bquantities .entry)) set)
         (ofHour middles) lastHour (now (values .exit)) (r .value) (r .cost) ⌝ }
@@ -185,11 +208,23 @@ fn fill_hours(
             middles[h],
             values,
         );
-        value += sums.value;
-        cost += sums.cost;
+        let times = times_of(h, often);
+        value += times * sums.value;
+        cost += times * sums.cost;
         h += 1;
     }
     Sums { value, cost }
+}
+
+// A column of the hours with 0 for hour 3 where it does not count.
+fn where_counted(column: [u32; HOURS], often: u32) -> [u32; HOURS]
+    ensures { λ r. ⌜ WhereCounted often column r ⌝ }
+{
+    let mut r = column;
+    if often == 0 {
+        r[CHANGE_ROW] = 0;
+    }
+    r
 }
 
 // The row of each record: a step's value, a block's quantity if the set holds it, else 0.
@@ -209,8 +244,9 @@ fn rows_of(
     with_rows(rows, records, values)
 }
 
-// The result out of the steps, the blocks' columns, the set and its day.
+// The result of a day of so many hours, out of the steps, the blocks' columns, the set and its day.
 fn publish_columns(
+    day: u8,
     count: usize,
     steps: Steps,
     brecords: &[u16],
@@ -219,22 +255,24 @@ fn publish_columns(
     bprices: &[u32],
     bquantities: &[u32],
     set: u32,
-    day: Day,
+    found: Day,
     result: &mut [u8],
 )
-    requires { ⌜ StepsSized (steps .ends) (steps .sides) (steps .prices) (steps .quantities) × (getD (steps .ends) lastHour 0 ≤ length (steps .records))
+    requires { ⌜ (day ≤ autumnHours) × StepsSized (steps .ends) (steps .sides) (steps .prices) (steps .quantities) × (getD (steps .ends) lastHour 0 ≤ length (steps .records))
         × TradersSized (now bsides) (now bhours) (now bquantities) × (length (now bsides) ≡ length (now brecords))
-        × (length (now bsides) ≡ length (now bprices)) × Small maxPrice (now bprices) × HoursPriced (day .prices) × Buffer count (now result) ⌝ }
-    ensures { λ _. ⌜ PublishedFrom count steps (now (brecords .entry)) (now (bsides .entry)) (now (bhours .entry)) (now (bprices .entry))
-        (now (bquantities .entry)) set day (now (result .exit)) ⌝ }
+        × (length (now bsides) ≡ length (now bprices)) × Small maxPrice (now bprices) × HoursPriced (found .prices) × Buffer count (now result) ⌝ }
+    ensures { λ _. ⌜ PublishedFrom day count steps (now (brecords .entry)) (now (bsides .entry)) (now (bhours .entry)) (now (bprices .entry))
+        (now (bquantities .entry)) set found (now (result .exit)) ⌝ }
 {
     let records = steps.records;
     let ends = steps.ends;
     let n = ends[HOURS] as usize;
-    let middles = day.prices;
-    let traded = day.quantities;
+    let middles = found.prices;
+    let traded = found.quantities;
+    let often = change_weight(day);
     let mut values = [0; STEP_PLACES];
     let sums = fill_hours(
+        often,
         steps,
         bsides,
         bhours,
@@ -243,16 +281,26 @@ fn publish_columns(
         middles,
         &mut values,
     );
-    let worth = blocks_worth(bsides, bhours, bprices, bquantities, set);
+    let worth = blocks_worth(day, bsides, bhours, bprices, bquantities, set);
     let welfare = less(sums.value + worth.value, sums.cost + worth.cost);
     let rows = rows_of(&records[..n], &values[..n], brecords, bquantities, set);
-    write_result(result, count, welfare, middles, traded, &rows);
+    let price_column = where_counted(middles, often);
+    let traded_column = where_counted(traded, often);
+    write_result(result, count, welfare, price_column, traded_column, &rows);
 }
 
-// The result of a book of so many records: its steps, its blocks, the published set and its day.
-pub fn publish(count: usize, steps: Steps, blocks: Blocks, set: u32, day: Day, result: &mut [u8])
-    requires { ⌜ Publishable count steps blocks day (now result) ⌝ }
-    ensures { λ _. ⌜ PublishedIn count steps blocks set day (now (result .exit)) ⌝ }
+// The result of a book of so many records on a day of so many hours: its steps, its blocks, the published set and its day.
+pub fn publish(
+    day: u8,
+    count: usize,
+    steps: Steps,
+    blocks: Blocks,
+    set: u32,
+    found: Day,
+    result: &mut [u8],
+)
+    requires { ⌜ Publishable day count steps blocks found (now result) ⌝ }
+    ensures { λ _. ⌜ PublishedIn day count steps blocks set found (now (result .exit)) ⌝ }
 {
     let m = blocks.count;
     let brecords = blocks.records;
@@ -261,6 +309,7 @@ pub fn publish(count: usize, steps: Steps, blocks: Blocks, set: u32, day: Day, r
     let bprices = blocks.prices;
     let bquantities = blocks.quantities;
     publish_columns(
+        day,
         count,
         steps,
         &brecords[..m],
@@ -269,7 +318,7 @@ pub fn publish(count: usize, steps: Steps, blocks: Blocks, set: u32, day: Day, r
         &bprices[..m],
         &bquantities[..m],
         set,
-        day,
+        found,
         result,
     );
 }
