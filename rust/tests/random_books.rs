@@ -104,7 +104,7 @@ fn results_obey_the_outcome_properties() {
             let taken = (set >> position) & 1 == 1;
             let row = published.row(block.record);
             assert_eq!(row, if taken { block.quantity } else { 0 }, "{name}");
-            assert!(!taken || keeps_limit(block, &prices), "{name}");
+            assert!(!taken || keeps_limit(&book, block, &prices), "{name}");
         }
         for hour in 1..=24 {
             check_hour(&book, &published, set, hour, &name);
@@ -271,8 +271,9 @@ impl Variety {
         self.both_sides_taken += u32::from(takes(Side::Buy) && takes(Side::Sell));
         self.tie_between_sets +=
             u32::from((0..1 << book.blocks.len()).any(|other| other != set && ties(other)));
-        self.paid_but_left_out +=
-            u32::from(blocks().any(|(p, block)| !is_taken(p) && keeps_limit(block, &prices)));
+        self.paid_but_left_out += u32::from(
+            blocks().any(|(p, block)| !is_taken(p) && keeps_limit(&book, block, &prices)),
+        );
         let of_one = |wanted: &dyn Fn(usize) -> bool| {
             let count = |portfolio| {
                 blocks().filter(|&(p, b)| b.portfolio == portfolio && wanted(p)).count()
