@@ -16,7 +16,7 @@ mod sheet;
 pub use contenders::{contenders, for_each_contender, BestContender, Contender};
 pub use day::{
     clear, is_better, keeps_limit, net_block_sales, outcome, result_bytes, result_length,
-    tie_goes_to, Outcome, Published,
+    result_length_for, tie_goes_to, Outcome, Published,
 };
 pub use hour::{
     beyond_totals, candidates, clears, executed, price_hour, price_hour_by_scan, scan, HourAnswer,

@@ -23,6 +23,12 @@ pub fn result_length(record_count: usize) -> usize {
     196 + 4 * record_count
 }
 
+/// The result buffer's length for what any bytes say of themselves, if they say anything.
+pub fn result_length_for(book: &[u8]) -> usize {
+    let record_count = book.get(..2).map_or(0, |r| u16::from_be_bytes([r[0], r[1]]));
+    result_length(usize::from(record_count))
+}
+
 /// Clears the day: the bytes of the result, or a refusal.
 ///
 /// Every set of blocks is looked at, so the time doubles with each block.
