@@ -32,7 +32,7 @@ class Missing(Exception):
 
 
 class Refused(Exception):
-    """A book or a call that is refused: `number`, 1 to 8, and the `words` of the cause."""
+    """A book or a call that is refused: `number`, 1 to 9, and the `words` of the cause."""
 
     def __init__(self, number: int):
         self.number = number
@@ -95,7 +95,7 @@ class Price:
 
 @dataclass(frozen=True)
 class Hour:
-    """What is published of an hour: cents per MWh and tenths of a MW."""
+    """What is published of an hour: cents per MWh and tenths of a MW; 0 and 0 of hour 3 on a day of 23 hours."""
 
     price: int
     traded: int
@@ -156,7 +156,7 @@ def read(book: bytes) -> None:
 
 def price(book: bytes, set: int, hour: int) -> Optional[Price]:
     """The price of an hour, 1 to 24, under a set of blocks, whose lowest bit is the first block of the chain; None
-    where no price clears the hour. Raises Refused."""
+    where no price clears the hour. Raises Refused, also for hour 3 of a day of 23 hours."""
     for number in (set, hour):
         if not isinstance(number, int) or not 0 <= number < 1 << 32:
             raise ValueError(f"expected a number of 32 bits, and not {number!r}")

@@ -35,10 +35,15 @@ def said(book: bytes) -> tuple:
     try:
         outcome = auction.clear(book)
         auction.read(book)
-        prices = [auction.price(book, outcome.set, hour) for hour in range(1, 25)]
+        prices = [auction.price(book, outcome.set, hour) for hour in hours_of(book)]
     except auction.Refused as refused:
         outcome, prices = refused.number, None
     return outcome, prices, auction.sheet(book)
+
+
+def hours_of(book: bytes) -> list:
+    """The hours of an accepted book that have a price."""
+    return [hour for hour in range(1, 25) if (book[6], hour) != (23, 3)]
 
 
 def refusal(call, *words) -> int:
@@ -68,6 +73,16 @@ class Calls(unittest.TestCase):
         self.assertEqual(outcome.taken, (1, 2, 3, 4, 5, 7, 8, 9, 10))
         self.assertEqual([outcome.block(number) for number in (1, 5, 6)], [250, 51, 0])
 
+    def test_the_outcomes_of_days_of_25_and_23_hours(self):
+        outcome = auction.clear(sample("day-25.book"))
+        self.assertEqual((outcome.welfare, outcome.taken), (615_000, (1,)))
+        self.assertEqual(outcome.hours[2], auction.Hour(price=3000, traded=100))
+        outcome = auction.clear(sample("day-23.book"))
+        self.assertEqual((outcome.welfare, outcome.block(1)), (410_000, 50))
+        self.assertEqual(outcome.hours[2], auction.Hour(price=0, traded=0))
+        for set_ in 0, 1:
+            self.assertEqual(refusal(auction.price, sample("day-23.book"), set_, 3), 8)
+
     def test_the_sheets_of_the_samples(self):
         for path in SAMPLES.glob("*.sheet"):
             book = path.with_suffix(".book").read_bytes()
@@ -84,7 +99,8 @@ class Calls(unittest.TestCase):
             taken = [f"{number};{int(number in outcome.taken)}" for number in blocks]
             lines = ["hour;cents;tenths", *hours, "block;taken", *taken, f"welfare;{outcome.welfare}", ""]
             self.assertEqual(sheet.split("\n"), lines, name)
-            self.assertEqual([price.price for price in prices], [hour.price for hour in outcome.hours], name)
+            priced = [outcome.hours[hour - 1].price for hour in hours_of(book)]
+            self.assertEqual([price.price for price in prices], priced, name)
 
     def test_prices_under_sets(self):
         both, opposite = sample("S6.book"), sample("opposite-blocks.book")
@@ -96,7 +112,8 @@ class Calls(unittest.TestCase):
 
     def test_each_refusal(self):
         names = {f"refused-{number}": number for number in range(1, 7)}
-        for name, number in {**names, "refused-4-edition-2": 4, "refused-6-edition-2": 6}.items():
+        names.update({"refused-4-edition-2": 4, "refused-6-edition-2": 6, "refused-9-step": 9, "refused-9-block": 9})
+        for name, number in names.items():
             book = sample(f"{name}.book")
             for call, *words in (auction.read,), (auction.clear,), (auction.price, 0, 1):
                 self.assertEqual(refusal(call, book, *words), number)

@@ -11,6 +11,8 @@
 //!
 //! - A line `edition 2` in front of all orders makes a book of edition 2. Without one the
 //!   book is of edition 1.
+//! - A line `day 23` or `day 25` in front of all orders makes the book of a day of so many
+//!   hours. Without one the day has 24.
 //! - A line of an order begins with `step` or `block` and `buy` or `sell`. The fields
 //!   follow, each a word and its value, in any order.
 //! - Prices are whole cents per MWh, 1 to 300000. Quantities are whole tenths of
@@ -25,9 +27,10 @@
 //! So every accepted book has a text that gives back its very bytes. No text
 //! gives a refused book.
 
-use crate::books::{hour_bits, BlockOrder, Orders, StepOrder};
-use crate::paper::{limits, read, Block, Book, Limits, Side, Step};
+use crate::books::{hour_bits, hours_in, BlockOrder, Orders, StepOrder};
+use crate::paper::{limits, passing_hours, read, Block, Book, Limits, Side, Step};
 use std::fmt;
+use std::ops::RangeInclusive;
 
 /// What is wrong with a text, and on which line.
 #[derive(Clone, Debug, PartialEq, Eq)]
@@ -47,13 +50,14 @@ impl fmt::Display for TextError {
 pub fn refusal_meaning(refusal: u8) -> &'static str {
     match refusal {
         1 => "the length is not 16 x R, below 16 bytes, or R is outside 1 to 2048",
-        2 => "head: hours not 24, edition not 1 or 2, or bytes 8 to 15 not all 0",
+        2 => "head: hours not 23, 24 or 25, edition not 1 or 2, or bytes 8 to 15 not all 0",
         3 => "on a chain: an index of R or more, a kind not the chain's, or a number that does not rise",
         4 => "on a chain: a field outside its range",
         5 => "a record is on no chain",
         6 => "more than 32 blocks, or of one portfolio more than 5 in edition 1, 10 in edition 2",
         7 => "the result buffer is not 196 + 4 x R bytes",
-        8 => "the hour is outside 1 to 24, or the set names a block position not there",
+        8 => "the hour is outside 1 to 24, or 3 on a day of 23 hours, or the set names a block position not there",
+        9 => "on a day of 23 hours: a step for hour 3, or a block with fewer than two other hours",
         _ => "not a refusal of documents 01 and 02",
     }
 }
@@ -69,6 +73,10 @@ struct Line<T> {
 /// The edition of a text that names none, and the latest that it can name.
 const FIRST_EDITION: u32 = 1;
 const LAST_EDITION: u32 = 2;
+
+/// The hours of a day, where a text says nothing of them, and those that it can name.
+const USUAL_DAY: u32 = 24;
+const DAYS: RangeInclusive<u32> = 23..=25;
 
 /// Turns a text into the bytes of a book.
 pub fn to_book(text: &str) -> Result<Vec<u8>, TextError> {
@@ -86,6 +94,7 @@ pub fn to_book(text: &str) -> Result<Vec<u8>, TextError> {
 #[derive(Default)]
 struct Lines {
     edition: Option<u32>,
+    day: Option<u32>,
     steps: Vec<Line<StepOrder>>,
     blocks: Vec<Line<BlockOrder>>,
 }
@@ -93,24 +102,25 @@ struct Lines {
 impl Lines {
     /// Adds the line that begins with the word `kind`.
     fn add(&mut self, line: usize, kind: &str, words: &[&str]) -> Result<(), String> {
-        if kind == "edition" {
-            return self.name_edition(words);
-        }
         let record = self.orders() + 1;
         match kind {
+            "edition" => return self.name_edition(words),
+            "day" => return self.name_day(words),
             "step" => {
                 let default = 1 + self.steps.last().map_or(0, |before| before.order.number);
                 let order = step_of(words, default)?;
+                self.check_step(&order)?;
                 self.steps.push(Line { line, record, order });
             }
             "block" => {
                 let default = 1 + self.blocks.last().map_or(0, |before| before.order.number);
                 let order = block_of(words, default, self.limits())?;
+                self.check_block(&order)?;
                 self.blocks.push(Line { line, record, order });
             }
             other => {
                 return Err(format!(
-                    "`{other}` where an order begins; expected `step` or `block`, or `edition` in front of them"
+                    "`{other}` where an order begins; expected `step` or `block`, or `edition` or `day` in front of them"
                 ))
             }
         }
@@ -127,25 +137,75 @@ impl Lines {
 
     /// The line `edition` and its value, on which the ranges of the blocks depend.
     fn name_edition(&mut self, words: &[&str]) -> Result<(), String> {
-        let value = match words {
-            [value] => value,
-            [] => return Err("`edition` has no value; expected one after it".into()),
-            [_, other, ..] => {
-                return Err(format!("`{other}` after the edition; expected the end of the line"))
-            }
-        };
-        if self.edition.is_some() {
-            return Err("`edition` stands twice; expected it once".into());
-        }
-        if self.orders() > 0 {
-            return Err("`edition` after an order; expected it in front of all orders".into());
-        }
+        let value = self.value_in_front("edition", self.edition, words)?;
         self.edition = Some(whole_number("edition", value, LAST_EDITION)?);
         Ok(())
     }
 
+    /// The line `day` and its value, on which the hours of the orders depend.
+    fn name_day(&mut self, words: &[&str]) -> Result<(), String> {
+        let value = self.value_in_front("day", self.day, words)?;
+        self.day = Some(number_within("day", value, DAYS)?);
+        Ok(())
+    }
+
+    /// The value of a line that stands once and in front of all orders, with what the name
+    /// has stood for so far.
+    fn value_in_front<'a>(
+        &self,
+        name: &str,
+        so_far: Option<u32>,
+        words: &[&'a str],
+    ) -> Result<&'a str, String> {
+        let value = match words {
+            [value] => value,
+            [] => return Err(format!("`{name}` has no value; expected one after it")),
+            [_, other, ..] => {
+                return Err(format!("`{other}` after the {name}; expected the end of the line"))
+            }
+        };
+        if so_far.is_some() {
+            return Err(format!("`{name}` stands twice; expected it once"));
+        }
+        if self.orders() > 0 {
+            return Err(format!("`{name}` after an order; expected it in front of all orders"));
+        }
+        Ok(value)
+    }
+
     fn edition(&self) -> u32 {
         self.edition.unwrap_or(FIRST_EDITION)
+    }
+
+    fn day(&self) -> u32 {
+        self.day.unwrap_or(USUAL_DAY)
+    }
+
+    /// How many of some hours the day has.
+    fn hours_within(&self, hours: &[u32]) -> usize {
+        let day = passing_hours(self.day()).expect("only known days are named");
+        hours.iter().filter(|hour| day.contains(hour)).count()
+    }
+
+    /// Refusal 9 at a step.
+    fn check_step(&self, order: &StepOrder) -> Result<(), String> {
+        let (hour, day) = (order.hour, self.day());
+        if self.hours_within(&[hour]) == 0 {
+            return Err(format!("`hour {hour}` is not on a day of {day} hours; expected another"));
+        }
+        Ok(())
+    }
+
+    /// Refusal 9 at a block.
+    fn check_block(&self, order: &BlockOrder) -> Result<(), String> {
+        let hours = hours_in(order.hours);
+        if self.hours_within(&hours) < 2 {
+            let (hours, day) = (hours_text(&hours), self.day());
+            return Err(format!(
+                "`hours {hours}` is one hour on a day of {day} hours; expected at least two"
+            ));
+        }
+        Ok(())
     }
 
     fn limits(&self) -> Limits {
@@ -162,6 +222,7 @@ impl Lines {
         let records: Vec<usize> = step_records.chain(block_records).collect();
         let orders = Orders {
             edition: self.edition(),
+            day: self.day(),
             steps: self.steps.iter().map(|entry| entry.order).collect(),
             blocks: self.blocks.iter().map(|entry| entry.order).collect(),
         };
@@ -307,11 +368,17 @@ impl<'a> Fields<'a> {
     }
 }
 
+/// A whole number from 1 to `most`.
 fn whole_number(name: &str, value: &str, most: u32) -> Result<u32, String> {
+    number_within(name, value, 1..=most)
+}
+
+fn number_within(name: &str, value: &str, range: RangeInclusive<u32>) -> Result<u32, String> {
     let digits_only = value.bytes().all(|byte| byte.is_ascii_digit());
+    let (least, most) = range.clone().into_inner();
     match value.parse() {
-        Ok(number) if digits_only && (1..=most).contains(&number) => Ok(number),
-        _ => Err(format!("`{name} {value}`; expected a whole number from 1 to {most}")),
+        Ok(number) if digits_only && range.contains(&number) => Ok(number),
+        _ => Err(format!("`{name} {value}`; expected a whole number from {least} to {most}")),
     }
 }
 
@@ -351,6 +418,9 @@ pub fn to_text(book: &[u8]) -> Result<String, u8> {
     if book.edition != FIRST_EDITION {
         text += &format!("edition {}\n", book.edition);
     }
+    if book.hours.len() != USUAL_DAY as usize {
+        text += &format!("day {}\n", book.hours.len());
+    }
     for record in 1..book.record_count {
         text += &line_of(&book, record);
         text += "\n";
@@ -378,7 +448,7 @@ fn step_line(step: &Step) -> String {
 fn block_line(block: &Block) -> String {
     let Block { number, portfolio, price, quantity, .. } = block;
     let side = side_word(block.side);
-    let hours = hours_text(&block.hour_list());
+    let hours = hours_text(&hours_in(block.hours));
     format!("block {side} hours {hours} price {price} quantity {quantity} portfolio {portfolio} number {number}")
 }
 

@@ -9,7 +9,8 @@
 mod sample_files;
 
 use auction_listing::books::{
-    count, reader_book_of, small_book_of, small_orders, thirty_two_blocks, Dice, Orders, StepOrder,
+    count, reader_book_of, reader_book_on, small_book_of, small_book_on, small_orders,
+    thirty_two_blocks, Dice, Met, Orders, StepOrder, DAYS,
 };
 use auction_listing::paper::{self, Side};
 use auction_listing::twin::by_value::{clearing, result::Clearing};
@@ -149,26 +150,30 @@ fn the_command_prints_the_samples() {
 #[test]
 fn random_books_are_printed() {
     let wanted = count("BOOKS", 3_000);
-    let mut met = [0u64; 7];
+    let mut met = Met::default();
     let mut seed = FIRST_SEED;
-    while met.iter().sum::<u64>() < wanted {
+    while met.all() < wanted {
         let edition = 1 + (seed % 2) as u32;
+        let day = DAYS[seed as usize % DAYS.len()];
         for (name, book) in [
-            ("small_book_of", small_book_of(edition, seed)),
-            ("reader_book_of", reader_book_of(edition, seed)),
+            (format!("small_book_of({edition}, {seed})"), small_book_of(edition, seed)),
+            (format!("reader_book_of({edition}, {seed})"), reader_book_of(edition, seed)),
+            (format!("small_book_on({day}, {edition}, {seed})"), small_book_on(day, edition, seed)),
+            (
+                format!("reader_book_on({day}, {edition}, {seed})"),
+                reader_book_on(day, edition, seed),
+            ),
         ] {
             let reading = paper::read(&book);
             if reading.as_ref().is_ok_and(|accepted| accepted.blocks.len() > 10) {
                 continue; // the listing of all sets takes too long
             }
-            let name = format!("{name}({edition}, {seed})");
             assert_same(printed(&book), &paper::sheet(&book), &name);
-            met[usize::from(reading.err().unwrap_or(0))] += 1;
+            met.add(reading.err().unwrap_or(0));
         }
         seed += 1;
     }
-    println!("sheets, then refusals 1 to 6: {met:?}");
-    assert!(met.iter().all(|&times| times > 0), "an answer was never met");
+    met.has_each([0, 1, 2, 3, 4, 5, 6, 9], 1);
 }
 
 /// A head of so many records, and zeros up to a length.

@@ -4,7 +4,7 @@
 
 use auction_listing::books::{
     book_with_causes_of, edition_2_day, edition_edges, every_byte_changed, reader_book_of,
-    small_book_of, tiny_book_of, Dice, Orders, FAMILIES,
+    small_book_of, tiny_book_of, Dice, Met, Orders, FAMILIES,
 };
 use auction_listing::paper::Side::{Buy, Sell};
 use auction_listing::paper::{
@@ -184,7 +184,7 @@ fn every_boundary_with_every_other() {
         }
         0
     };
-    let mut met = [0; 7];
+    let mut met = Met::default();
     for edition in [0, 1, 2, 3, 4, 255] {
         for quantity in [0, 1, 50, 51, 250, 251] {
             for of_one in [1, 5, 6, 10, 11] {
@@ -194,13 +194,12 @@ fn every_boundary_with_every_other() {
                     let found = refusal_in(edition, &blocks(quantity, &portfolios));
                     let name = format!("edition {edition}, {quantity}, {of_one} of {in_all}");
                     assert_eq!(found, expected(edition, quantity, of_one, in_all), "{name}");
-                    met[usize::from(found)] += 1;
+                    met.add(found);
                 }
             }
         }
     }
-    println!("accepted, then refusals 1 to 6: {met:?}");
-    assert!([0, 2, 4, 6].iter().all(|&answer| met[answer] > 20), "{met:?}");
+    met.has_each([0, 2, 4, 6], 20);
 }
 
 /// Each cause alone and every pair of causes, in books of edition 2: the lowest is given.
@@ -229,18 +228,13 @@ fn random_books_of_edition_2_are_accepted() {
 /// Every answer is met often among the books for a reader, and at every edge.
 #[test]
 fn every_refusal_is_met_in_edition_2() {
-    let mut met = [0; 7];
-    (0..20_000).for_each(|seed| met[usize::from(refusal(&reader_book_of(2, seed)))] += 1);
-    println!("accepted, then refusals 1 to 6, of 20000: {met:?}");
-    assert!(met.iter().all(|&count| count >= 500), "{met:?}");
-    let mut met = [0; 7];
-    every_byte_changed(&small_book_of(2, 1)).for_each(|book| met[usize::from(refusal(&book))] += 1);
-    println!("accepted, then refusals 1 to 6, with one byte changed: {met:?}");
-    assert!(met[..6].iter().all(|&count| count > 0), "{met:?}");
-    let mut met = [0; 7];
-    edition_edges().iter().for_each(|book| met[usize::from(refusal(book))] += 1);
-    println!("accepted, then refusals 1 to 6, of the editions' edges: {met:?}");
-    assert!([0, 2, 4, 6].iter().all(|&answer| met[answer] >= 50), "{met:?}");
+    let met: Met = (0..20_000).map(|seed| refusal(&reader_book_of(2, seed))).collect();
+    met.has_each(0..=6, 500);
+    let book = small_book_of(2, 1);
+    let met: Met = every_byte_changed(&book).map(|book| refusal(&book)).collect();
+    met.has_each(0..=5, 1);
+    let met: Met = edition_edges().iter().map(|book| refusal(book)).collect();
+    met.has_each([0, 2, 4, 6], 50);
 }
 
 /// What is published of a book, and its prices under a set.
@@ -255,14 +249,14 @@ fn published(book: &[u8]) -> (Vec<u8>, Vec<u8>, Vec<HourAnswer>) {
 /// Where both editions accept the orders, nothing else depends on the edition.
 #[test]
 fn the_same_orders_give_the_same_result() {
-    let mut met = [0; 7];
+    let mut met = Met::default();
     for seed in 0..1_000 {
         for edition in [1, 2] {
             let book = small_book_of(edition, seed);
             let mut other = book.clone();
             other[7] = 3 - book[7];
             let answer = refusal(&other);
-            met[usize::from(answer)] += 1;
+            met.add(answer);
             match (edition, answer) {
                 (_, 0) => assert!(published(&book) == published(&other), "seed {seed}"),
                 (2, 4) | (2, 6) => {}
@@ -270,8 +264,9 @@ fn the_same_orders_give_the_same_result() {
             }
         }
     }
-    println!("accepted by both, then refused with 4 and 6 by edition 1: {met:?}");
-    assert!(met[0] > 1_000 && met[4] > 500 && met[6] > 20, "{met:?}");
+    met.has_each([0], 1_000);
+    met.has_each([4], 500);
+    met.has_each([6], 20);
 }
 
 /// Of ten blocks of one portfolio that together would meet every buy, the one that adds

@@ -1,11 +1,14 @@
 //! The implementation against itself, in slower words, on random books of both
-//! editions: prices by scan, "does not clear" by its rule, demand 2 by its properties,
-//! and demand 3 by the list of all contenders.
+//! editions and of days of 23, 24 and 25 hours: prices by scan, "does not clear" by its
+//! rule, demand 2 by its properties, and demand 3 by the list of all contenders.
 //!
 //! Environment variables raise the counts: SCANS for the slow scan of all prices,
 //! BOOKS for all others.
 
-use auction_listing::books::{count, pricing_case_of, raised, small_book_of, tiny_book_of};
+use auction_listing::books::{
+    count, pricing_case_of, pricing_case_on, raised, small_book_of, small_book_on, tiny_book_of,
+    tiny_book_on, DAYS_AND_EDITIONS,
+};
 use auction_listing::paper::{
     beyond_totals, candidates, clear, clears, contenders, executed, for_each_contender,
     keeps_limit, net_block_sales, outcome, price_hour, price_hour_by_scan, read, result_length,
@@ -22,20 +25,40 @@ fn cleared(book: &[u8]) -> (Book, Published) {
 /// clear" given exactly where N is beyond the totals.
 #[test]
 fn candidates_agree_with_the_scan() {
-    compare_with_the_scan(1);
+    compare_with_the_scan(|seed| of_edition(1, seed));
 }
 
 #[test]
 fn candidates_agree_with_the_scan_in_edition_2() {
-    compare_with_the_scan(2);
+    compare_with_the_scan(|seed| of_edition(2, seed));
 }
 
-fn compare_with_the_scan(edition: u32) {
+#[test]
+fn candidates_agree_with_the_scan_on_all_days() {
+    compare_with_the_scan(|seed| {
+        let (day, edition) = day_and_edition(seed);
+        let name = format!("pricing_case_on({day}, {edition}, {seed})");
+        (name, pricing_case_on(day, edition, seed))
+    });
+}
+
+/// A day and an edition for each seed, all of them in turn.
+fn day_and_edition(seed: u64) -> (u32, u32) {
+    DAYS_AND_EDITIONS[seed as usize % DAYS_AND_EDITIONS.len()]
+}
+
+/// A book with a set and an hour, and its name.
+type Case = (String, (Vec<u8>, u32, u32));
+
+fn of_edition(edition: u32, seed: u64) -> Case {
+    (format!("pricing_case_of({edition}, {seed})"), pricing_case_of(edition, seed))
+}
+
+fn compare_with_the_scan(case: fn(u64) -> Case) {
     let mut met = [0; 3];
     let mut beyond = [0; 2];
     for seed in 0..count("SCANS", 1_200) {
-        let (book, set, hour) = pricing_case_of(edition, seed);
-        let name = format!("pricing_case_of({edition}, {seed})");
+        let (name, (book, set, hour)) = case(seed);
         let answer = price_hour(&book, set, hour);
         assert_eq!(answer, price_hour_by_scan(&book, set, hour), "{name}");
         met[match answer {
@@ -96,18 +119,32 @@ fn all_prices_between_the_ends_execute_the_same() {
 #[test]
 fn results_obey_the_outcome_properties() {
     for (edition, seed) in of_both_editions(count("BOOKS", 1_000)) {
-        let (book, published) = cleared(&small_book_of(edition, seed));
         let name = format!("small_book_of({edition}, {seed})");
-        let set = published.set(&book);
-        let prices: [u32; 24] = published.prices.clone().try_into().unwrap();
-        for (position, block) in book.blocks.iter().enumerate() {
-            let taken = (set >> position) & 1 == 1;
-            let row = published.row(block.record);
-            assert_eq!(row, if taken { block.quantity } else { 0 }, "{name}");
-            assert!(!taken || keeps_limit(block, &prices), "{name}");
-        }
-        for hour in 1..=24 {
-            check_hour(&book, &published, set, hour, &name);
+        check_outcome(&small_book_of(edition, seed), &name);
+    }
+    for seed in 0..count("BOOKS", 1_000) {
+        let (day, edition) = day_and_edition(seed);
+        let name = format!("small_book_on({day}, {edition}, {seed})");
+        check_outcome(&small_book_on(day, edition, seed), &name);
+    }
+}
+
+fn check_outcome(book: &[u8], name: &str) {
+    let (book, published) = cleared(book);
+    let set = published.set(&book);
+    let prices: [u32; 24] = published.prices.clone().try_into().unwrap();
+    for (position, block) in book.blocks.iter().enumerate() {
+        let taken = (set >> position) & 1 == 1;
+        let row = published.row(block.record);
+        assert_eq!(row, if taken { block.quantity } else { 0 }, "{name}");
+        assert!(!taken || keeps_limit(&book, block, &prices), "{name}");
+    }
+    for hour in 1..=24 {
+        if book.hours.contains(&hour) {
+            check_hour(&book, &published, set, hour, name);
+        } else {
+            let index = hour as usize - 1;
+            assert_eq!((prices[index], published.traded[index]), (0, 0), "{name}, hour {hour}");
         }
     }
 }
@@ -152,21 +189,34 @@ fn check_hour(book: &Book, published: &Published, set: u32, hour: u32, name: &st
 /// Demand 3 against the list of every contender.
 #[test]
 fn clearing_agrees_with_all_contenders() {
-    compare_with_contenders(1, count("BOOKS", 400));
+    compare_with_contenders(count("BOOKS", 400), |seed| {
+        (format!("tiny_book({seed})"), tiny_book_of(1, seed))
+    });
 }
 
 /// Their lists are longer: blocks of more than 50 need steps to be traded with.
 #[test]
 fn clearing_agrees_with_all_contenders_in_edition_2() {
-    compare_with_contenders(2, count("BOOKS", 200));
+    compare_with_contenders(count("BOOKS", 200), |seed| {
+        (format!("tiny_book_of(2, {seed})"), tiny_book_of(2, seed))
+    });
 }
 
-fn compare_with_contenders(edition: u32, seeds: u64) {
+/// Contenders, too, need no balance in an hour that counts nowhere.
+#[test]
+fn clearing_agrees_with_all_contenders_on_all_days() {
+    compare_with_contenders(count("BOOKS", 240), |seed| {
+        let (day, edition) = day_and_edition(seed);
+        let name = format!("tiny_book_on({day}, {edition}, {seed})");
+        (name, tiny_book_on(day, edition, seed))
+    });
+}
+
+fn compare_with_contenders(seeds: u64, book: fn(u64) -> (String, Vec<u8>)) {
     let mut ties = 0;
     let mut taken = 0;
     for seed in 0..seeds {
-        let bytes = tiny_book_of(edition, seed);
-        let name = format!("tiny_book_of({edition}, {seed})");
+        let (name, bytes) = book(seed);
         let (book, published) = cleared(&bytes);
         let best = contenders(&bytes).unwrap();
         let set = published.set(&book);
@@ -271,8 +321,9 @@ impl Variety {
         self.both_sides_taken += u32::from(takes(Side::Buy) && takes(Side::Sell));
         self.tie_between_sets +=
             u32::from((0..1 << book.blocks.len()).any(|other| other != set && ties(other)));
-        self.paid_but_left_out +=
-            u32::from(blocks().any(|(p, block)| !is_taken(p) && keeps_limit(block, &prices)));
+        self.paid_but_left_out += u32::from(
+            blocks().any(|(p, block)| !is_taken(p) && keeps_limit(&book, block, &prices)),
+        );
         let of_one = |wanted: &dyn Fn(usize) -> bool| {
             let count = |portfolio| {
                 blocks().filter(|&(p, b)| b.portfolio == portfolio && wanted(p)).count()

@@ -2,7 +2,7 @@
 
 use auction_listing::books::{
     book_with_causes, edge_books, every_byte_changed, reader_book, small_book, tiny_book,
-    worked_days, Dice, Orders,
+    worked_days, Dice, Met, Orders,
 };
 use auction_listing::paper::Side::{Buy, Sell};
 use auction_listing::paper::{clear, price_hour, read, result_length, sheet, HourAnswer};
@@ -72,8 +72,11 @@ fn single_bytes() {
         (0, 5, 0, 5),
         (0, 5, 6, 5),
         (0, 5, 1, 3),
-        (0, 6, 25, 2),
         (0, 6, 0, 2),
+        (0, 6, 22, 2),
+        (0, 6, 23, 0),
+        (0, 6, 25, 0),
+        (0, 6, 26, 2),
         (0, 7, 0, 2),
         (0, 7, 2, 0),
         (0, 7, 3, 2),
@@ -195,31 +198,21 @@ fn steps_of_a_portfolio_are_not_limited() {
 /// Every answer is met often among the books for a reader.
 #[test]
 fn every_refusal_is_met_often() {
-    let mut met = [0; 7];
-    for seed in 0..20_000 {
-        met[usize::from(refusal(&reader_book(seed)))] += 1;
-    }
-    println!("accepted, then refusals 1 to 6, of 20000: {met:?}");
-    assert!(met.iter().all(|&count| count >= 500), "{met:?}");
+    let met: Met = (0..20_000).map(|seed| refusal(&reader_book(seed))).collect();
+    met.has_each(0..=6, 500);
 }
 
 #[test]
 fn every_refusal_is_met_by_one_byte() {
-    let mut met = [0; 7];
-    every_byte_changed(&s6()).for_each(|book| met[usize::from(refusal(&book))] += 1);
-    println!("accepted, then refusals 1 to 6, of S6 with one byte changed: {met:?}");
+    let met: Met = every_byte_changed(&s6()).map(|book| refusal(&book)).collect();
     // One byte cannot make 6 out of two blocks.
-    assert!(met[..6].iter().all(|&count| count > 0), "{met:?}");
+    met.has_each(0..=5, 1);
 }
 
 #[test]
 fn edge_books_have_answers() {
-    let mut met = [0; 7];
-    for book in edge_books() {
-        met[usize::from(refusal(&book))] += 1;
-    }
-    println!("accepted, then refusals 1 to 6, of the edge books: {met:?}");
-    assert!([0, 1, 6].iter().all(|&answer| met[answer] > 0), "{met:?}");
+    let met: Met = edge_books().iter().map(|book| refusal(book)).collect();
+    met.has_each([0, 1, 6], 1);
 }
 
 /// Refusal 7 only for a buffer of a wrong length, and after the book's own.

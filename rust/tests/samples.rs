@@ -4,7 +4,8 @@
 mod sample_files;
 
 use auction_listing::books::{
-    edition_2_day, head_alone, opposite_blocks, thirty_two_blocks, worked_days, Orders,
+    block_beside_the_day, day_of_23_hours, day_of_25_hours, edition_2_day, head_alone,
+    opposite_blocks, step_beside_the_day, thirty_two_blocks, worked_days, Orders,
     THIRTY_TWO_BLOCKS_TAKEN,
 };
 use auction_listing::paper::{outcome, read, result_bytes, sheet, sheet_of};
@@ -19,11 +20,13 @@ fn accepted_samples() -> Vec<(&'static str, Orders)> {
     samples.push(("opposite-blocks", opposite_blocks()));
     samples.push(("thirty-two-blocks", thirty_two_blocks()));
     samples.push(("edition-2", edition_2_day()));
+    samples.push(("day-25", day_of_25_hours()));
+    samples.push(("day-23", day_of_23_hours()));
     samples
 }
 
 /// Each with its refusal.
-const REFUSED_SAMPLES: [(&str, u8); 8] = [
+const REFUSED_SAMPLES: [(&str, u8); 10] = [
     ("refused-1", 1),
     ("refused-2", 2),
     ("refused-3", 3),
@@ -32,6 +35,8 @@ const REFUSED_SAMPLES: [(&str, u8); 8] = [
     ("refused-6", 6),
     ("refused-4-edition-2", 4),
     ("refused-6-edition-2", 6),
+    ("refused-9-step", 9),
+    ("refused-9-block", 9),
 ];
 
 #[test]
@@ -84,6 +89,19 @@ fn refused_samples_of_edition_2() {
         let byte = 16 * record + at;
         assert_eq!((book[7], book[byte]), (2, beyond), "{name}");
         book[byte] = within;
+        assert!(read(&book).is_ok(), "{name}");
+    }
+}
+
+/// Those of a day of 23 hours: right on a day of 24.
+#[test]
+fn refused_samples_of_a_day() {
+    for (name, orders) in
+        [("refused-9-step", step_beside_the_day()), ("refused-9-block", block_beside_the_day())]
+    {
+        let mut book = sample(name, "book");
+        assert_eq!((orders.book(), book[6]), (book.clone(), 23), "{name}");
+        book[6] = 24;
         assert!(read(&book).is_ok(), "{name}");
     }
 }

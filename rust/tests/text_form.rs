@@ -1,7 +1,9 @@
 //! The plain-text form: there and back, and its errors.
 
 use auction_listing::books::{
-    book_with_causes, edition_2_day, small_book_of, worked_days, Dice, Orders,
+    block_beside_the_day, book_with_causes, day_of_23_hours, day_of_25_hours, edition_2_day,
+    small_book_of, small_book_on, step_beside_the_day, worked_days, Dice, Orders,
+    DAYS_AND_EDITIONS,
 };
 use auction_listing::paper::read;
 use auction_listing::paper::Side::{Buy, Sell};
@@ -54,7 +56,76 @@ fn every_accepted_book_comes_back_to_the_byte() {
         assert_eq!(to_text(&to_book(&text).unwrap()).unwrap(), text);
         // A text of edition 1 is what it was before there was another.
         assert_eq!(text.contains("edition"), edition == 2, "{text}");
+        assert!(!text.contains("day"), "{text}");
     }
+}
+
+#[test]
+fn every_accepted_book_of_a_day_comes_back_to_the_byte() {
+    for (day, edition) in DAYS_AND_EDITIONS {
+        for seed in 0..500 {
+            let book = small_book_on(day, edition, seed);
+            let text = to_text(&book).unwrap();
+            let name = format!("small_book_on({day}, {edition}, {seed})");
+            assert_eq!(to_book(&text).unwrap(), book, "{name}\n{text}");
+            assert_eq!(text.contains(&format!("\nday {day}\n")), day != 24, "{text}");
+            assert_eq!(text.contains("\nedition 2\n"), edition == 2, "{text}");
+        }
+    }
+}
+
+#[test]
+fn the_day_is_named_in_front_of_the_orders() {
+    for (orders, blocks) in [(day_of_25_hours(), "hours 2,3"), (day_of_23_hours(), "hours 2-4")] {
+        let text = to_text(&orders.book()).unwrap();
+        let lines: Vec<&str> = text.lines().collect();
+        assert_eq!(lines[..2], ["# 4 steps, 1 blocks", &format!("day {}", orders.day)]);
+        assert!(lines[6].contains(blocks), "{text}");
+        // Edition and day in either order; a day of 24 hours may be named.
+        let both = [format!("edition 2\n{text}"), text.replace("day", "edition 2\nday")];
+        for text in both {
+            assert_eq!(to_book(&text).unwrap(), orders.clone().of_edition(2).book(), "{text}");
+        }
+        let on_24 = text.replace(lines[1], "day 24");
+        assert_eq!(to_book(&on_24).unwrap(), orders.on_day_of(24).book());
+    }
+}
+
+/// What is wrong with a line `day`, and the orders that it does not allow with their lines.
+#[test]
+fn errors_of_days() {
+    let step = "step buy hour 3 price 10 quantity 1 portfolio 9";
+    let block = "block buy hours 2,3 price 10 quantity 1 portfolio 9";
+    for (text, message) in [
+        ("day", "line 1: `day` has no value; expected one after it"),
+        ("day 22", "line 1: `day 22`; expected a whole number from 23 to 25"),
+        ("day 26", "line 1: `day 26`; expected a whole number from 23 to 25"),
+        ("day long", "line 1: `day long`; expected a whole number from 23 to 25"),
+        ("day 23 24", "line 1: `24` after the day; expected the end of the line"),
+        ("day 25\nedition 2\nday 25", "line 3: `day` stands twice; expected it once"),
+        (
+            &format!("{block}\nday 25"),
+            "line 2: `day` after an order; expected it in front of all orders",
+        ),
+        (
+            &format!("day 23\n{step}"),
+            "line 2: `hour 3` is not on a day of 23 hours; expected another",
+        ),
+        (
+            &format!("day 23\n{block}"),
+            "line 2: `hours 2,3` is one hour on a day of 23 hours; expected at least two",
+        ),
+        (
+            &format!("day 25\n{}", block.replace("2,3", "3")),
+            "line 2: `hours 3` is one hour; expected at least two",
+        ),
+    ] {
+        assert_eq!(to_book(text).unwrap_err().to_string(), message, "{text}");
+    }
+    for day in [24, 25] {
+        assert!(to_book(&format!("day {day}\n{step}\n{block}")).is_ok());
+    }
+    assert!(to_book(&format!("day 23\n{}", block.replace("2,3", "2-4"))).is_ok());
 }
 
 #[test]
@@ -141,6 +212,10 @@ fn refused_books_have_no_text() {
     for cause in 1..=6 {
         assert_eq!(to_text(&book_with_causes(&[cause], &mut dice)), Err(cause));
         assert!(!refusal_meaning(cause).is_empty());
+    }
+    for orders in [step_beside_the_day(), block_beside_the_day()] {
+        assert_eq!(to_text(&orders.book()), Err(9));
+        assert!(refusal_meaning(9).starts_with("on a day of 23 hours: "));
     }
 }
 

@@ -1,10 +1,13 @@
 //! The two twins of the proved clearing against the listing of all sets, and
 //! against each other: the same bytes, and the same nodes.
 
+mod large_stack;
+
 use auction_listing::books::{
-    edge_books, edition_edges, reader_book_of, small_book_of, worked_days, FAMILIES,
+    day_edges, edge_books, edition_edges, reader_book_of, reader_book_on, small_book_of,
+    small_book_on, worked_days, DAYS_AND_EDITIONS, FAMILIES,
 };
-use auction_listing::paper::{self, Published};
+use auction_listing::paper::{self, result_length_for, Published};
 use auction_listing::twin::by_value::{clearing, result::Clearing};
 use auction_listing::twin::count::{self, Nodes};
 use auction_listing::twin::in_place::{self, Workspace};
@@ -12,16 +15,12 @@ use auction_listing::twin::source::differences;
 use std::path::Path;
 use std::sync::Mutex;
 
-/// The by-value twin keeps its tables on the stack.
-const STACK: usize = 64 << 20;
-
 /// The counters are shared by all threads.
 static COUNTED: Mutex<()> = Mutex::new(());
 
 fn with_stack(compare: fn()) {
     let alone = COUNTED.lock().unwrap_or_else(|broken| broken.into_inner());
-    let thread = std::thread::Builder::new().stack_size(STACK).spawn(compare);
-    thread.expect("a thread").join().expect("both sides agree");
+    large_stack::with_stack(compare);
     drop(alone);
 }
 
@@ -47,11 +46,6 @@ fn in_place(book: &[u8], size: usize, space: &mut Workspace) -> Run {
     count::taken();
     let answer = in_place::clear(book, &mut result, space);
     (answer, result, count::taken())
-}
-
-fn size_for(book: &[u8]) -> usize {
-    book.get(..2)
-        .map_or(196, |r| paper::result_length(usize::from(u16::from_be_bytes([r[0], r[1]]))))
 }
 
 /// Both twins against each other; the answer and the result.
@@ -81,12 +75,12 @@ fn the_twins_clear_small_books_as_the_listing() {
         let mut space = Workspace::default();
         for (name, orders) in worked_days() {
             let book = orders.book();
-            compare(name, &book, size_for(&book), &mut space);
+            compare(name, &book, result_length_for(&book), &mut space);
         }
         for (edition, seed) in (0..1000).flat_map(|seed| [(1, seed), (2, seed)]) {
             let book = small_book_of(edition, seed);
             let name = format!("small_book_of({edition}, {seed})");
-            compare(&name, &book, size_for(&book), &mut space);
+            compare(&name, &book, result_length_for(&book), &mut space);
         }
     });
 }
@@ -98,11 +92,37 @@ fn the_twins_refuse_as_the_listing() {
         let damaged = (0..400).flat_map(|seed| [1, 2].map(|edition| reader_book_of(edition, seed)));
         let edges = edge_books().into_iter().chain(edition_edges());
         for (i, book) in edges.chain(damaged).enumerate() {
-            if paper::read(&book).is_ok_and(|accepted| accepted.blocks.len() > 10) {
-                continue; // the listing of all sets takes too long
-            }
-            for size in [size_for(&book), size_for(&book) + 1, 0] {
-                compare(&format!("damaged book {i}"), &book, size, &mut space);
+            compare_sizes(&format!("damaged book {i}"), &book, &mut space);
+        }
+    });
+}
+
+/// Into a result of the right size and of others.
+fn compare_sizes(name: &str, book: &[u8], space: &mut Workspace) {
+    if paper::read(book).is_ok_and(|accepted| accepted.blocks.len() > 10) {
+        return; // the listing of all sets takes too long
+    }
+    let right = result_length_for(book);
+    for size in [right, right + 1, 0] {
+        compare(name, book, size, space);
+    }
+}
+
+/// Books of days of 23, 24 and 25 hours, cleared and refused.
+#[test]
+fn the_twins_count_the_hours_as_the_listing() {
+    with_stack(|| {
+        let mut space = Workspace::default();
+        for (i, book) in day_edges().iter().enumerate() {
+            compare_sizes(&format!("edge {i} of the days"), book, &mut space);
+        }
+        for (day, edition) in DAYS_AND_EDITIONS {
+            for seed in 0..300 {
+                let of_seed = format!("on({day}, {edition}, {seed})");
+                let book = small_book_on(day, edition, seed);
+                compare_sizes(&format!("small_book_{of_seed}"), &book, &mut space);
+                let book = reader_book_on(day, edition, seed);
+                compare_sizes(&format!("reader_book_{of_seed}"), &book, &mut space);
             }
         }
     });
@@ -114,7 +134,7 @@ fn the_twins_agree_on_large_books() {
         let mut space = Workspace::default();
         for family in FAMILIES {
             let (name, book) = (family.name, (family.book)(1, family.usual_blocks));
-            let (answer, result) = agreed(name, &book, size_for(&book), &mut space);
+            let (answer, result) = agreed(name, &book, result_length_for(&book), &mut space);
             assert_eq!(answer, 0, "{name}: refused");
             let published = Published::from_bytes(&result);
             let accepted = paper::read(&book).expect("accepted");

@@ -52,7 +52,7 @@ pub fn read(book: &[u8]) -> Result<(), Refusal> {
 }
 
 /// Prices an hour, 1 to 24, under a set of blocks, whose lowest bit is the first block of
-/// the chain.
+/// the chain. Hour 3 of a day of 23 hours is refused.
 pub fn price(book: &[u8], set: u32, hour: u32) -> Result<Price, Refusal> {
     let part = |part| {
         // SAFETY: as in `read`.

@@ -10,9 +10,10 @@ const RECORD_SIZE: usize = header::RECORD_SIZE as usize;
 pub struct Outcome {
     /// In tenths of a cent.
     pub welfare: u64,
-    /// Cents per MWh; the first element is hour 1.
+    /// Cents per MWh; the first element is hour 1. Hour 3 of a day of 23 hours has 0.
     pub prices: [u32; HOURS],
-    /// Tenths of a MW; the first element is hour 1.
+    /// Tenths of a MW; the first element is hour 1. Hour 3 of a day of 25 hours, which is there
+    /// twice, has what is traded each time.
     pub traded: [u32; HOURS],
     /// The orders as they stand in the book; the first element is record 1.
     pub rows: Vec<Row>,

@@ -3,7 +3,8 @@
 use crate::header;
 use std::fmt;
 
-/// The lowest cause that holds. Its number and words are those of `include/auction.h`.
+/// The first cause that holds: 1 to 6, then 9, then 7 or 8. Its number and words are those of
+/// `include/auction.h`.
 #[derive(Clone, Copy, Debug, PartialEq, Eq, PartialOrd, Ord, Hash)]
 #[repr(u32)]
 pub enum Refusal {
@@ -15,11 +16,12 @@ pub enum Refusal {
     Blocks = header::REFUSED_BLOCKS,
     Result = header::REFUSED_RESULT,
     Call = header::REFUSED_CALL,
+    Hours = header::REFUSED_HOURS,
 }
 
 impl Refusal {
     /// All of them, in rising number.
-    pub const ALL: [Refusal; 8] = [
+    pub const ALL: [Refusal; 9] = [
         Refusal::Length,
         Refusal::Head,
         Refusal::Chain,
@@ -28,9 +30,10 @@ impl Refusal {
         Refusal::Blocks,
         Refusal::Result,
         Refusal::Call,
+        Refusal::Hours,
     ];
 
-    /// 1 to 8.
+    /// 1 to 9.
     pub fn number(self) -> u32 {
         self as u32
     }

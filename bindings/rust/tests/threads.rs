@@ -79,8 +79,12 @@ fn outcomes_are_those_of_the_sheets() {
         let mut lines = String::from("hour;cents;tenths\n");
         for hour in 1..=24 {
             lines += &format!("{hour};{};{}\n", outcome.price(hour), outcome.traded(hour));
-            let price = auction::price(&book, outcome.set(), hour as u32);
-            let Ok(Price::Clears { price, .. }) = price else { panic!("{name}: {price:?}") };
+            let price = match auction::price(&book, outcome.set(), hour as u32) {
+                Ok(Price::Clears { price, .. }) => price,
+                // The hour that a day of 23 hours does not have.
+                Err(Refusal::Call) if (book[6], hour) == (23, 3) => 0,
+                other => panic!("{name}, hour {hour}: {other:?}"),
+            };
             assert_eq!(price, outcome.price(hour), "{name}, hour {hour}");
         }
         lines += "block;taken\n";

@@ -14,7 +14,8 @@ book_text: the plain-text form of an order book
 
 The text has one order a line. `#` begins a comment; empty lines are skipped. A
 line `edition 2` in front of all orders makes a book of edition 2; without it the
-book is of edition 1.
+book is of edition 1. A line `day 23` or `day 25` in front of them makes the book
+of a day of so many hours; without it the day has 24.
 
   step buy hour 1 price 5000 quantity 100 portfolio 1
   step sell hour 1 price 3000 quantity 100 portfolio 2 number 7
@@ -24,8 +25,9 @@ book is of edition 1.
 A line of an order begins with `step` or `block` and `buy` or `sell`; the fields
 follow, each a word and its value, in any order:
 
-  hour       of a step, 1 to 24
-  hours      of a block, at least two, as a list of hours and ranges, no spaces
+  hour       of a step, 1 to 24; on a day of 23 hours not 3
+  hours      of a block, at least two, as a list of hours and ranges, no spaces;
+             on a day of 23 hours two besides hour 3
   price      whole cents per MWh, 1 to 300000
   quantity   whole tenths of a MW, 1 to 99999 for a step; for a block 1 to 50 in
              edition 1, 1 to 250 in edition 2

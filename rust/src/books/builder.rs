@@ -31,19 +31,26 @@ pub struct BlockOrder {
 pub struct Orders {
     /// Edition 1, where nothing else is said.
     pub edition: u32,
+    /// The hours of the day; 24, where nothing else is said.
+    pub day: u32,
     pub steps: Vec<StepOrder>,
     pub blocks: Vec<BlockOrder>,
 }
 
 impl Default for Orders {
     fn default() -> Orders {
-        Orders { edition: 1, steps: Vec::new(), blocks: Vec::new() }
+        Orders { edition: 1, day: 24, steps: Vec::new(), blocks: Vec::new() }
     }
 }
 
 /// The 24 bits of a block's hours.
 pub fn hour_bits(hours: &[u32]) -> u32 {
     hours.iter().fold(0, |bits, hour| bits | 1 << (hour - 1))
+}
+
+/// The hours of the 24 bits of a block, rising.
+pub fn hours_in(bits: u32) -> Vec<u32> {
+    (1..=24).filter(|hour| (bits >> (hour - 1)) & 1 == 1).collect()
 }
 
 impl Orders {
@@ -55,6 +62,12 @@ impl Orders {
     /// The same orders in a book of another edition; it is not checked either.
     pub fn of_edition(mut self, edition: u32) -> Orders {
         self.edition = edition;
+        self
+    }
+
+    /// The same orders on a day of so many hours; their number is not checked either.
+    pub fn on_day_of(mut self, hours: u32) -> Orders {
+        self.day = hours;
         self
     }
 
@@ -111,7 +124,7 @@ impl Orders {
         assert_eq!(places.len(), self.count(), "one place for each order");
         let (step_places, block_places) = places.split_at(self.steps.len());
         let mut book = vec![0; 16 * (self.count() + 1)];
-        write_head(&mut book, first(step_places), first(block_places), self.edition);
+        self.write_head(&mut book, first(step_places), first(block_places));
         for (index, step) in self.steps.iter().enumerate() {
             write_step(&mut book, step_places[index], first(&step_places[index + 1..]), step);
         }
@@ -119,6 +132,15 @@ impl Orders {
             write_block(&mut book, block_places[index], first(&block_places[index + 1..]), block);
         }
         book
+    }
+
+    fn write_head(&self, book: &mut [u8], first_step: usize, first_block: usize) {
+        let record_count = book.len() / 16;
+        put(book, 0, 0, 2, record_count as u32);
+        put(book, 0, 2, 2, first_step as u32);
+        put(book, 0, 4, 2, first_block as u32);
+        put(book, 0, 6, 1, self.day);
+        put(book, 0, 7, 1, self.edition);
     }
 }
 
@@ -132,15 +154,6 @@ fn first(places: &[usize]) -> usize {
 pub(super) fn put(book: &mut [u8], k: usize, at: usize, count: usize, number: u32) {
     let start = 16 * k + at;
     book[start..start + count].copy_from_slice(&number.to_be_bytes()[4 - count..]);
-}
-
-fn write_head(book: &mut [u8], first_step: usize, first_block: usize, edition: u32) {
-    let record_count = book.len() / 16;
-    put(book, 0, 0, 2, record_count as u32);
-    put(book, 0, 2, 2, first_step as u32);
-    put(book, 0, 4, 2, first_block as u32);
-    put(book, 0, 6, 1, 24);
-    put(book, 0, 7, 1, edition);
 }
 
 fn write_step(book: &mut [u8], k: usize, next: usize, step: &StepOrder) {

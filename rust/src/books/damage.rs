@@ -4,7 +4,7 @@
 use super::builder::{hour_bits, put, BlockOrder, Orders, StepOrder};
 use super::dice::Dice;
 use super::random::small_orders_of;
-use crate::paper::{limits, Limits, Side};
+use crate::paper::{limits, passing_hours, Limits, Side, CHANGED_HOUR};
 
 /// A book for a reader, settled by its seed: accepted ones, each cause alone,
 /// several causes at once, random changes and plain noise.
@@ -32,7 +32,10 @@ pub fn reader_book_of(edition: u32, seed: u64) -> Vec<u8> {
             let causes = [dice.between(1, 6) as u8, dice.between(1, 6) as u8];
             book_with_causes_of(edition, &causes, &mut dice)
         }
-        14..=16 => bytes_changed(edition, &mut dice),
+        14..=16 => {
+            let orders = small_orders_of(edition, &mut dice);
+            bytes_changed(&orders, &mut dice)
+        }
         17 => length_changed(edition, &mut dice),
         18 => noise(&mut dice),
         _ => loose_records(edition, &mut dice),
@@ -115,9 +118,9 @@ pub fn edition_edges() -> Vec<Vec<u8>> {
                 push(many_blocks(2, count, of_one_portfolio));
             }
         }
-        for at in [6, 8, 15] {
+        for (at, value) in [(6, 26), (8, 1), (15, 1)] {
             let mut book = many_blocks(1, 2, 2).of_edition(edition).book();
-            book[at] += 1;
+            book[at] = value;
             books.push(book);
         }
     }
@@ -132,8 +135,12 @@ pub fn book_with_causes(causes: &[u8], dice: &mut Dice) -> Vec<u8> {
 
 /// The same with a book of an edition.
 pub fn book_with_causes_of(edition: u32, causes: &[u8], dice: &mut Dice) -> Vec<u8> {
-    let mut orders = small_orders_of(edition, dice);
-    let limits = limits(edition).expect("an edition");
+    with_causes(small_orders_of(edition, dice), causes, dice)
+}
+
+/// The book of some orders with each of these causes, 1 to 6 and, on a day of 23 hours, 9.
+pub(super) fn with_causes(mut orders: Orders, causes: &[u8], dice: &mut Dice) -> Vec<u8> {
+    let limits = limits(orders.edition).expect("an edition");
     ensure_orders(&mut orders);
     let holds = |cause: u8| causes.contains(&cause);
     if holds(6) {
@@ -141,8 +148,11 @@ pub fn book_with_causes_of(edition: u32, causes: &[u8], dice: &mut Dice) -> Vec<
     }
     let book = orders.shuffled_book(dice);
     let mut damaged = Damaged { limits, chained: (1..=orders.count()).collect(), book };
-    // From the highest cause down, so that no change undoes a cause with a lower
-    // number than its own. What it does to the higher ones does not matter.
+    // From the last cause back, so that no change undoes one that comes before its own.
+    // What it does to the later ones does not matter.
+    if holds(9) {
+        damaged.leave_the_day(dice);
+    }
     if holds(5) {
         damaged.leave_a_record_stray(dice);
     }
@@ -196,6 +206,17 @@ impl Damaged {
         let nexts = self.chained.iter().map(|&before| (before, 2));
         let mut links = heads.into_iter().chain(nexts);
         links.find(|&(record, at)| self.get(record, at, 2) == k).expect("k is on a chain")
+    }
+
+    /// Cause 9 on a day of 23 hours: a step for hour 3, or a block with one hour besides it.
+    fn leave_the_day(&mut self, dice: &mut Dice) {
+        let k = dice.pick(&self.chained);
+        if self.is_block(k) {
+            let other = dice.pick(&[1, 2, 2, 4, 4, 5, 23, 24]);
+            self.put(k, 8, 3, hour_bits(&[CHANGED_HOUR, other]));
+        } else {
+            self.put(k, 6, 1, CHANGED_HOUR);
+        }
     }
 
     /// Cause 5: a record more, or one that its chain passes by.
@@ -317,7 +338,7 @@ impl Damaged {
 
     /// Cause 2.
     fn break_the_head(&mut self, dice: &mut Dice) {
-        let hours = |value: u32| if value == 24 { 25 } else { value };
+        let hours = |value: u32| if passing_hours(value).is_some() { 26 } else { value };
         let edition = |value: u32| if limits(value).is_some() { 3 } else { value };
         match dice.below(3) {
             0 => self.put(0, 6, 1, hours(dice.between(0, 254))),
@@ -340,7 +361,7 @@ impl Damaged {
 }
 
 /// At least two steps and two blocks, so that every cause can be made.
-fn ensure_orders(orders: &mut Orders) {
+pub(super) fn ensure_orders(orders: &mut Orders) {
     while orders.steps.len() < 2 {
         let number = orders.steps.last().map_or(1, |step| step.number);
         orders.steps.insert(
@@ -421,9 +442,9 @@ fn another_edition(dice: &mut Dice) -> Vec<u8> {
     orders.of_edition(dice.pick(&[0, 1, 1, 1, 2, 2, 2, 3, 4, 255])).shuffled_book(dice)
 }
 
-/// One to three bytes of a small book changed, a little or altogether.
-fn bytes_changed(edition: u32, dice: &mut Dice) -> Vec<u8> {
-    let mut book = small_orders_of(edition, dice).shuffled_book(dice);
+/// The book of some orders with one to three bytes changed, a little or altogether.
+pub(super) fn bytes_changed(orders: &Orders, dice: &mut Dice) -> Vec<u8> {
+    let mut book = orders.shuffled_book(dice);
     for _ in 0..dice.between(1, 3) {
         let place = dice.below(book.len());
         book[place] = match dice.below(4) {

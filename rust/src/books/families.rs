@@ -34,7 +34,7 @@ impl Family {
 }
 
 /// The families of the benchmark.
-pub const FAMILIES: [Family; 10] = [
+pub const FAMILIES: [Family; 12] = [
     Family::new("full days", 32, 32, |seed, blocks| full_day(seed, 2015, blocks)),
     Family::new("full days, odd hours", 32, 32, odd_day),
     Family::new("identical blocks", 30, 32, identical_blocks),
@@ -45,6 +45,8 @@ pub const FAMILIES: [Family; 10] = [
     Family::new("edition 2, large", 32, 32, ed2),
     Family::new("edition 2, widest", 32, 32, ed2_widest),
     Family::new("edition 2, small", 32, 32, ed2_small),
+    Family::new("days of 25 hours", 32, 32, |seed, blocks| changed_day(25, seed, blocks)),
+    Family::new("days of 23 hours", 32, 32, |seed, blocks| changed_day(23, seed, blocks)),
 ];
 
 /// A day with deep curves in every hour and ordinary blocks, most of which have
@@ -187,6 +189,17 @@ fn ed2_small(seed: u64, blocks: usize) -> Vec<u8> {
     orders.book()
 }
 
+/// A full day of so many hours. On one of 23 the steps of hour 3 are in hour 4.
+fn changed_day(day: u32, seed: u64, blocks: usize) -> Vec<u8> {
+    let mut dice = Dice::new(seed);
+    let mut orders = deep_steps(&mut dice, 2015).on_day_of(day);
+    for step in orders.steps.iter_mut().filter(|step| (day, step.hour) == (23, 3)) {
+        step.hour = 4;
+    }
+    add_ordinary_blocks(&mut orders, &mut dice, blocks, usual_hours, 20);
+    orders.book()
+}
+
 /// What the blocks with hour h + 1 trade in it, all of them together.
 fn traded_in(orders: &Orders, h: usize) -> u32 {
     orders.blocks.iter().map(|block| ((block.hours >> h) & 1) * block.quantity).sum()
@@ -245,17 +258,19 @@ fn add_ordinary_blocks(
     }
 }
 
-/// The prices of the steps alone.
-fn empty_prices(orders: &Orders) -> [u32; 24] {
+/// The hours of the day as they pass, each with the price of the steps alone.
+fn empty_prices(orders: &Orders) -> Vec<(u32, u32)> {
     let book = paper::read(&orders.book()).expect("the steps are right");
-    paper::outcome(&book, 0).expect("the empty set is lawful").prices
+    let prices = paper::outcome(&book, 0).expect("the empty set is lawful").prices;
+    book.hours.iter().map(|&hour| (hour, prices[hour as usize - 1])).collect()
 }
 
 /// The average price over hours, moved by up to so many thousandths.
-fn near_average(prices: &[u32; 24], hours: u32, thousandths: u32, dice: &mut Dice) -> u32 {
-    let sum: u32 = (0..24).map(|h| ((hours >> h) & 1) * prices[h]).sum();
+fn near_average(prices: &[(u32, u32)], hours: u32, thousandths: u32, dice: &mut Dice) -> u32 {
+    let of_hours = prices.iter().filter(|(hour, _)| (hours >> (hour - 1)) & 1 == 1);
+    let sum: u32 = of_hours.clone().map(|(_, price)| price).sum();
     let moved = 1000 - thousandths + dice.between(0, 2 * thousandths);
-    (sum / hours.count_ones() * moved / 1000).clamp(1, 300_000)
+    (sum / of_hours.count() as u32 * moved / 1000).clamp(1, 300_000)
 }
 
 const ALL_HOURS: u32 = (1 << 24) - 1;

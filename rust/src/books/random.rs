@@ -2,8 +2,8 @@
 //! both ends, empty and one-sided hours, blocks that meet and miss their limits.
 //!
 //! A function whose name ends with `of` makes books of an edition, 1 or 2; the one
-//! without it those of edition 1. The books of a seed stay as they are: a test holds
-//! them.
+//! without it those of edition 1. All of them are of days of 24 hours; `days` has the
+//! others. The books of a seed stay as they are: a test holds them.
 
 use super::builder::{hour_bits, BlockOrder, Orders, StepOrder};
 use super::dice::Dice;
@@ -47,16 +47,22 @@ pub fn tiny_book(seed: u64) -> Vec<u8> {
 /// than 50.
 pub fn tiny_book_of(edition: u32, seed: u64) -> Vec<u8> {
     let mut dice = Dice::new(seed);
+    let orders = tiny_orders_of(edition, &mut dice);
+    placed(&orders, &mut dice)
+}
+
+/// The orders of a tiny book of an edition, see [`tiny_book_of`].
+pub(super) fn tiny_orders_of(edition: u32, dice: &mut Dice) -> Orders {
     let orders = match edition {
-        1 => tiny_orders(&mut dice),
+        1 => tiny_orders(dice),
         // The lists of the first two are the longest.
         _ => match dice.below(8) {
-            0 => three_large_steps(&mut dice),
-            1 => two_larger_steps(&mut dice),
-            _ => many_tiny_blocks(&mut dice),
+            0 => three_large_steps(dice),
+            1 => two_larger_steps(dice),
+            _ => many_tiny_blocks(dice),
         },
     };
-    placed(&orders.of_edition(edition), &mut dice)
+    orders.of_edition(edition)
 }
 
 fn tiny_orders(dice: &mut Dice) -> Orders {
@@ -169,8 +175,13 @@ pub fn pricing_case(seed: u64) -> (Vec<u8>, u32, u32) {
 pub fn pricing_case_of(edition: u32, seed: u64) -> (Vec<u8>, u32, u32) {
     let mut dice = Dice::new(seed ^ 0x7072_6963_6500_0000);
     let orders = small_orders_of(edition, &mut dice);
+    pricing_case_in(&orders, &mut dice)
+}
+
+/// A book of some orders with a set of blocks and an hour.
+pub(super) fn pricing_case_in(orders: &Orders, dice: &mut Dice) -> (Vec<u8>, u32, u32) {
     let blocks = orders.blocks.len();
-    let book = placed(&orders, &mut dice);
+    let book = placed(orders, dice);
     let known = (1u64 << blocks) as u32 - 1;
     let set = match dice.below(30) {
         0 => dice.bits() as u32,
@@ -183,13 +194,13 @@ pub fn pricing_case_of(edition: u32, seed: u64) -> (Vec<u8>, u32, u32) {
     let hour = match dice.below(30) {
         0 => dice.pick(&[0, 25, 255, 256, 257, 280, u32::MAX, 1 << 31]),
         1..=3 => dice.between(1, 24),
-        _ => some_used_hour(&orders, &mut dice),
+        _ => some_used_hour(orders, dice),
     };
     (book, set, hour)
 }
 
 /// Half of the books have their records in chain order, half in any order.
-fn placed(orders: &Orders, dice: &mut Dice) -> Vec<u8> {
+pub(super) fn placed(orders: &Orders, dice: &mut Dice) -> Vec<u8> {
     if dice.once_in(2) {
         orders.book()
     } else {
@@ -197,7 +208,7 @@ fn placed(orders: &Orders, dice: &mut Dice) -> Vec<u8> {
     }
 }
 
-fn some_used_hour(orders: &Orders, dice: &mut Dice) -> u32 {
+pub(super) fn some_used_hour(orders: &Orders, dice: &mut Dice) -> u32 {
     let step_hours = orders.steps.iter().map(|step| step.hour);
     let block_hours = orders.blocks.iter().map(|block| block.hours.trailing_zeros() + 1);
     let hours: Vec<u32> = step_hours.chain(block_hours).collect();

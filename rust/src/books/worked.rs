@@ -1,4 +1,4 @@
-//! The days of document 01 that are checked by hand, and one of document 02. Numbers
+//! The days of document 01 that are checked by hand, and some of document 02. Numbers
 //! and portfolios follow decision 23: the base book's steps are 1 to 4, portfolio 1 buys,
 //! portfolio 2 sells, portfolio 3 owns the blocks.
 
@@ -23,11 +23,15 @@ pub fn worked_days() -> Vec<(&'static str, Orders)> {
 }
 
 fn base() -> Orders {
-    Orders::new()
-        .step(Buy, 1, 5_000, 100, 1)
-        .step(Sell, 1, 3_000, 100, 2)
-        .step(Buy, 2, 5_000, 100, 1)
-        .step(Sell, 2, 3_000, 100, 2)
+    base_in([1, 2])
+}
+
+/// The base book's steps in two other hours.
+fn base_in(hours: [u32; 2]) -> Orders {
+    let buy_and_sell = |orders: Orders, hour| {
+        orders.step(Buy, hour, 5_000, 100, 1).step(Sell, hour, 3_000, 100, 2)
+    };
+    hours.into_iter().fold(Orders::new(), buy_and_sell)
 }
 
 /// The sell steps have the numbers 1 and 2, so the buy has 3.
@@ -129,4 +133,26 @@ pub fn edition_2_day() -> Orders {
         orders = orders.block(Sell, &[1, 2], price, quantity, 3);
     }
     orders
+}
+
+/// S5 in hours 2 and 3 of a day of 25 hours. Each hour adds 205000, and hour 3 is there
+/// twice.
+pub fn day_of_25_hours() -> Orders {
+    base_in([2, 3]).block(Sell, &[2, 3], 2_900, 50, 3).on_day_of(25)
+}
+
+/// S5 in hours 2 and 4 of a day of 23 hours, its block over hour 3 as well, which is not
+/// there.
+pub fn day_of_23_hours() -> Orders {
+    base_in([2, 4]).block(Sell, &[2, 3, 4], 2_900, 50, 3).on_day_of(23)
+}
+
+/// On a day of 23 hours two steps for hour 3.
+pub fn step_beside_the_day() -> Orders {
+    base_in([2, 3]).on_day_of(23)
+}
+
+/// On a day of 23 hours a block with one hour besides hour 3.
+pub fn block_beside_the_day() -> Orders {
+    base_in([2, 4]).block(Sell, &[2, 3], 2_900, 50, 3).on_day_of(23)
 }

@@ -3,7 +3,7 @@
 use super::day::{is_better, keeps_limit, prices_under, welfare};
 use super::read::{read, Book, Side, Step, HOURS};
 
-/// A set of blocks with a whole quantity for each step, balanced in every hour
+/// A set of blocks with a whole quantity for each step, balanced in every hour of the day
 /// and with every block of the set within its limit.
 #[derive(Clone, Debug, PartialEq, Eq)]
 pub struct Contender {
@@ -55,8 +55,9 @@ pub fn for_each_contender(book: &Book, visit: &mut dyn FnMut(&Contender)) {
             continue;
         };
         let in_set = |position: usize| (set >> position) & 1 == 1;
-        let within_limits = (0..book.blocks.len())
-            .all(|position| !in_set(position) || keeps_limit(&book.blocks[position], &prices));
+        let within_limits = (0..book.blocks.len()).all(|position| {
+            !in_set(position) || keeps_limit(book, &book.blocks[position], &prices)
+        });
         if within_limits {
             for_each_choice(book, &mut Vec::new(), &mut |quantities| {
                 if balances(book, set, quantities) {
@@ -92,7 +93,7 @@ fn for_each_choice(book: &Book, chosen: &mut Vec<i64>, visit: &mut dyn FnMut(&[i
     }
 }
 
-/// Whether buys equal sells in every hour, steps and blocks together.
+/// Whether buys equal sells in every hour of the day, steps and blocks together.
 fn balances(book: &Book, set: u32, quantities: &[i64]) -> bool {
     let mut surplus = [0i64; 24];
     let signed = |side: Side, quantity: i64| match side {
@@ -104,10 +105,10 @@ fn balances(book: &Book, set: u32, quantities: &[i64]) -> bool {
     }
     for (position, block) in book.blocks.iter().enumerate() {
         if (set >> position) & 1 == 1 {
-            for hour in block.hour_list() {
+            for hour in (1..=HOURS).filter(|&hour| block.has_hour(hour)) {
                 surplus[hour as usize - 1] += signed(block.side, i64::from(block.quantity));
             }
         }
     }
-    surplus == [0; 24]
+    book.hours.iter().all(|&hour| surplus[hour as usize - 1] == 0)
 }

@@ -8,9 +8,10 @@ use super::read::{read, Block, Book, Side, Step, HOURS};
 pub struct Outcome {
     /// The lowest bit stands for the first block of the chain.
     pub set: u32,
-    /// Prices of hours 1 to 24.
+    /// Prices of hours 1 to 24; 0 for an hour that the day does not have.
     pub prices: [u32; 24],
-    /// Traded quantities of hours 1 to 24: buy steps and buy blocks.
+    /// Traded quantities of hours 1 to 24: buy steps and buy blocks. An hour that passes
+    /// twice has one row, so what is traded each time.
     pub traded: [i64; 24],
     /// The executed quantity of each step, in chain order.
     pub executed: Vec<i64>,
@@ -20,6 +21,12 @@ pub struct Outcome {
 /// The result buffer's length for a book of R records.
 pub fn result_length(record_count: usize) -> usize {
     196 + 4 * record_count
+}
+
+/// The result buffer's length for what any bytes say of themselves, if they say anything.
+pub fn result_length_for(book: &[u8]) -> usize {
+    let record_count = book.get(..2).map_or(0, |r| u16::from_be_bytes([r[0], r[1]]));
+    result_length(usize::from(record_count))
 }
 
 /// Clears the day: the bytes of the result, or a refusal.
@@ -58,7 +65,7 @@ fn steps_by_hour(book: &Book) -> Vec<Vec<Step>> {
 
 fn outcome_with(book: &Book, hours: &[Vec<Step>], set: u32) -> Option<Outcome> {
     let prices = prices_under(book, hours, set)?;
-    let lawful = taken_blocks(&book.blocks, set).all(|block| keeps_limit(block, &prices));
+    let lawful = taken_blocks(&book.blocks, set).all(|block| keeps_limit(book, block, &prices));
     if !lawful {
         return None;
     }
@@ -88,10 +95,11 @@ pub fn net_block_sales(blocks: &[Block], set: u32, hour: u32) -> i64 {
     signed.sum()
 }
 
-/// The 24 prices under a set, or nothing when some hour does not clear.
+/// The 24 prices under a set, or nothing when some hour of the day does not clear. An hour
+/// that the day does not have needs no balance and has no price.
 pub(super) fn prices_under(book: &Book, hours: &[Vec<Step>], set: u32) -> Option<[u32; 24]> {
     let mut prices = [0; 24];
-    for hour in 1..=HOURS {
+    for &hour in &book.hours {
         let index = hour as usize - 1;
         let n = net_block_sales(&book.blocks, set, hour);
         prices[index] = middle_price(&hours[index], n)?;
@@ -99,10 +107,10 @@ pub(super) fn prices_under(book: &Book, hours: &[Vec<Step>], set: u32) -> Option
     Some(prices)
 }
 
-/// Whether a block keeps its limit: the SUM of prices over its hours against
-/// its price times its hour count.
-pub fn keeps_limit(block: &Block, prices: &[u32; 24]) -> bool {
-    let hours = block.hour_list();
+/// Whether a block of a book keeps its limit: the SUM of prices over its hours of the day
+/// against its price times their count.
+pub fn keeps_limit(book: &Book, block: &Block, prices: &[u32; 24]) -> bool {
+    let hours = book.hours_of(block);
     let sum: u32 = hours.iter().map(|&hour| prices[hour as usize - 1]).sum();
     let limit = block.price * hours.len() as u32;
     match block.side {
@@ -114,7 +122,7 @@ pub fn keeps_limit(block: &Block, prices: &[u32; 24]) -> bool {
 /// The executed quantity of each step of the book, in chain order.
 fn executed_steps(book: &Book, set: u32, prices: &[u32; 24]) -> Vec<i64> {
     let mut quantities = vec![0; book.steps.len()];
-    for hour in 1..=HOURS {
+    for &hour in &book.hours {
         let steps = book.steps_of(hour);
         let n = net_block_sales(&book.blocks, set, hour);
         let of_hour = executed(&steps, n, prices[hour as usize - 1]);
@@ -129,35 +137,54 @@ fn executed_steps(book: &Book, set: u32, prices: &[u32; 24]) -> Vec<i64> {
 /// Executed buy steps and taken buy blocks of each hour.
 fn traded_quantities(book: &Book, set: u32, executed: &[i64]) -> [i64; 24] {
     let mut traded = [0; 24];
-    for (step, quantity) in book.steps.iter().zip(executed) {
-        if step.side == Side::Buy {
-            traded[step.hour as usize - 1] += quantity;
-        }
-    }
-    for block in taken_blocks(&book.blocks, set).filter(|block| block.side == Side::Buy) {
-        for hour in block.hour_list() {
-            traded[hour as usize - 1] += i64::from(block.quantity);
-        }
+    for &hour in &book.hours {
+        let bought = trades_in(book, set, executed, hour)
+            .filter(|trade| trade.side == Side::Buy)
+            .map(|trade| trade.quantity);
+        // Set and not added to: an hour that passes twice trades the same each time.
+        traded[hour as usize - 1] = bought.sum();
     }
     traded
 }
 
-/// Executed quantity times order price, buys less sells, over the steps and
-/// over the taken blocks in each of their hours.
+/// Executed quantity times order price, buys less sells, over the orders that trade in
+/// each hour of the day as it passes.
 pub(super) fn welfare(book: &Book, set: u32, executed: &[i64]) -> i128 {
-    let signed = |side: Side, amount: i128| match side {
-        Side::Buy => amount,
-        Side::Sell => -amount,
+    let worth = |trade: Trade| {
+        let amount = i128::from(trade.quantity) * i128::from(trade.price);
+        match trade.side {
+            Side::Buy => amount,
+            Side::Sell => -amount,
+        }
     };
-    let mut sum = 0;
-    for (step, &quantity) in book.steps.iter().zip(executed) {
-        sum += signed(step.side, i128::from(quantity) * i128::from(step.price));
-    }
-    for block in taken_blocks(&book.blocks, set) {
-        let an_hour = i128::from(block.quantity) * i128::from(block.price);
-        sum += signed(block.side, an_hour * block.hour_list().len() as i128);
-    }
-    sum
+    let in_hour = |&hour: &u32| trades_in(book, set, executed, hour).map(worth).sum::<i128>();
+    book.hours.iter().map(in_hour).sum()
+}
+
+/// What an order trades in an hour.
+struct Trade {
+    side: Side,
+    price: u32,
+    quantity: i64,
+}
+
+/// The trades of an hour: its steps as executed and the taken blocks that have it.
+fn trades_in<'a>(
+    book: &'a Book,
+    set: u32,
+    executed: &'a [i64],
+    hour: u32,
+) -> impl Iterator<Item = Trade> + 'a {
+    let steps = book.steps.iter().zip(executed).filter(move |(step, _)| step.hour == hour);
+    let steps =
+        steps.map(|(step, &quantity)| Trade { side: step.side, price: step.price, quantity });
+    let blocks = taken_blocks(&book.blocks, set).filter(move |block| block.has_hour(hour));
+    let blocks = blocks.map(|block| Trade {
+        side: block.side,
+        price: block.price,
+        quantity: i64::from(block.quantity),
+    });
+    steps.chain(blocks)
 }
 
 /// Whether the first of two (welfare, set) is to be published before the second.

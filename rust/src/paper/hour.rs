@@ -2,7 +2,7 @@
 //! execute at that price.
 
 use super::day::net_block_sales;
-use super::read::{read, Side, Step, HOURS};
+use super::read::{read, Side, Step};
 
 /// Lowest price of the auction, in cents per MWh.
 pub const LOWEST_PRICE: u32 = 1;
@@ -18,6 +18,22 @@ pub enum HourAnswer {
     NotClearing,
     /// Refused with its number.
     Refused(u8),
+}
+
+/// What stands for an hour that does not clear where an answer is one number: no refusal,
+/// since they are bytes.
+pub const DOES_NOT_CLEAR: u32 = 256;
+
+impl HourAnswer {
+    /// The answer in numbers: 0, [`DOES_NOT_CLEAR`] or the refusal; then L, H and the
+    /// price, 0 where there is none.
+    pub fn parts(self) -> [u32; 4] {
+        match self {
+            HourAnswer::Cleared { low, high, price } => [0, low, high, price],
+            HourAnswer::NotClearing => [DOES_NOT_CLEAR, 0, 0, 0],
+            HourAnswer::Refused(refusal) => [u32::from(refusal), 0, 0, 0],
+        }
+    }
 }
 
 /// A way to find the least and the greatest clearing price, if there are any.
@@ -39,7 +55,8 @@ fn price_hour_with(ends: EndFinder, book: &[u8], set: u32, hour: u32) -> HourAns
         Ok(book) => book,
         Err(refusal) => return HourAnswer::Refused(refusal),
     };
-    if !(1..=HOURS).contains(&hour) || names_a_missing_block(set, book.blocks.len()) {
+    // Hours outside 1 to 24 are on no day, and hour 3 is not on one of 23 hours.
+    if !book.hours.contains(&hour) || names_a_missing_block(set, book.blocks.len()) {
         return HourAnswer::Refused(8);
     }
     let n = net_block_sales(&book.blocks, set, hour);

@@ -1,7 +1,10 @@
-//! Layer 1: the book in bytes, and its own refusals 1 to 6.
+//! Layer 1: the book in bytes, and its own refusals 1 to 6 and 9.
 
-/// Hours of a delivery day.
+/// Hours of the clock, each with a row in the result, whatever the day's length.
 pub const HOURS: u32 = 24;
+
+/// The hour that is there twice in autumn and not at all in spring.
+pub const CHANGED_HOUR: u32 = 3;
 
 const RECORD_LENGTH: usize = 16;
 const MOST_RECORDS: usize = 2_048;
@@ -25,6 +28,21 @@ pub fn limits(edition: u32) -> Option<Limits> {
         2 => Some(Limits { block_quantity: 250, blocks_of_a_portfolio: 10 }),
         _ => None,
     }
+}
+
+/// The hours of a day one after another as the clock shows them, where there is a day of
+/// this length. So hour 3 stands in it twice on a day of 25 hours and is missing on one of
+/// 23; what goes over these hours counts each as often as the day does.
+pub fn passing_hours(length: u32) -> Option<Vec<u32>> {
+    let times = match length {
+        23 => 0,
+        24 => 1,
+        25 => 2,
+        _ => return None,
+    };
+    let before = 1..CHANGED_HOUR;
+    let changed = (0..times).map(|_| CHANGED_HOUR);
+    Some(before.chain(changed).chain(CHANGED_HOUR + 1..=HOURS).collect())
 }
 
 /// Buy or sell.
@@ -65,14 +83,9 @@ pub struct Block {
 }
 
 impl Block {
-    /// Whether the block delivers in this hour, 1 to 24.
+    /// Whether the block names this hour, 1 to 24.
     pub fn has_hour(&self, hour: u32) -> bool {
         (self.hours >> (hour - 1)) & 1 == 1
-    }
-
-    /// The block's hours, rising.
-    pub fn hour_list(&self) -> Vec<u32> {
-        (1..=HOURS).filter(|&hour| self.has_hour(hour)).collect()
     }
 }
 
@@ -81,6 +94,8 @@ impl Block {
 pub struct Book {
     /// 1 or 2.
     pub edition: u32,
+    /// The hours of the day as they pass, see [`passing_hours`]; 23, 24 or 25 of them.
+    pub hours: Vec<u32>,
     /// R, the head included.
     pub record_count: usize,
     pub steps: Vec<Step>,
@@ -93,15 +108,20 @@ impl Book {
         let of_hour = self.steps.iter().filter(|step| step.hour == hour);
         of_hour.copied().collect()
     }
+
+    /// The hours of the day in which a block delivers, one that passes twice twice.
+    pub fn hours_of(&self, block: &Block) -> Vec<u32> {
+        self.hours.iter().copied().filter(|&hour| block.has_hour(hour)).collect()
+    }
 }
 
-/// Reads a book, or gives the first of the refusals 1 to 6 whose cause holds.
+/// Reads a book, or gives the first of the refusals 1 to 6 and 9 whose cause holds.
 pub fn read(book: &[u8]) -> Result<Book, u8> {
     if length_is_wrong(book) {
         return Err(1);
     }
-    // The edition is known before any block is looked at: 2 before 4 and 6.
-    let limits = limits_of_head(book).ok_or(2)?;
+    // Edition and day are known before any order is looked at: 2 before 4, 6 and 9.
+    let (limits, hours) = head(book).ok_or(2)?;
     // Both chains are walked before any other field is looked at: 3 before 4.
     let step_records = chain(book, number(book, 2, 2), KIND_STEP)?;
     let block_records = chain(book, number(book, 4, 2), KIND_BLOCK)?;
@@ -118,12 +138,13 @@ pub fn read(book: &[u8]) -> Result<Book, u8> {
     if too_many_blocks(&blocks, limits) {
         return Err(6);
     }
-    Ok(Book {
-        edition: edition(book),
-        record_count: record_count(book),
-        steps: step_records.iter().map(|&k| step_at(book, k)).collect(),
-        blocks,
-    })
+    let steps = step_records.iter().map(|&k| step_at(book, k)).collect();
+    let record_count = record_count(book);
+    let book = Book { edition: edition(book), hours, record_count, steps, blocks };
+    if trades_beside_the_day(&book) {
+        return Err(9);
+    }
+    Ok(book)
 }
 
 /// The number in `count` bytes from byte `at` on, high byte first.
@@ -156,11 +177,12 @@ fn edition(book: &[u8]) -> u32 {
     number(book, 7, 1)
 }
 
-/// The limits of the head's edition; nothing where the head is wrong, refusal 2.
-fn limits_of_head(book: &[u8]) -> Option<Limits> {
-    let hours = number(book, 6, 1);
+/// The limits of the head's edition and the hours of its day; nothing where the head is
+/// wrong, refusal 2.
+fn head(book: &[u8]) -> Option<(Limits, Vec<u32>)> {
     let rest_is_zero = book[8..16].iter().all(|&byte| byte == 0);
-    limits(edition(book)).filter(|_| hours == HOURS && rest_is_zero)
+    let limits = limits(edition(book)).filter(|_| rest_is_zero)?;
+    Some((limits, passing_hours(number(book, 6, 1))?))
 }
 
 /// The records of a chain in its order, or refusal 3.
@@ -221,6 +243,14 @@ fn too_many_blocks(blocks: &[Block], limits: Limits) -> bool {
     let count_of = |portfolio| blocks.iter().filter(|block| block.portfolio == portfolio).count();
     let crowded = (1..=255).any(|portfolio| count_of(portfolio) > limits.blocks_of_a_portfolio);
     blocks.len() > MOST_BLOCKS || crowded
+}
+
+/// Refusal 9: a step for an hour that the day does not have, or a block with fewer than
+/// two hours of the day. Two hours are named by every block, so that this happens on a day
+/// of 23 hours alone.
+fn trades_beside_the_day(book: &Book) -> bool {
+    book.steps.iter().any(|step| !book.hours.contains(&step.hour))
+        || book.blocks.iter().any(|block| book.hours_of(block).len() < 2)
 }
 
 fn side_at(book: &[u8], k: usize) -> Side {

@@ -1,7 +1,7 @@
 //! The result of the published set.
 
 use super::hours::Hours;
-use super::orders::{Block, Orders, Step};
+use super::orders::{Block, Orders, Step, CHANGED};
 use super::search::Best;
 
 /// Writes the result, whose size is right.
@@ -21,6 +21,12 @@ pub fn publish<const ROOM: usize>(
         put(result, at, price);
         put(result, at + 4, (bought + bought_by_blocks(&orders.blocks, best.set, h)) as u32);
         welfare += worth;
+        if h == CHANGED && orders.day.again != 0 {
+            welfare += worth;
+        }
+    }
+    if orders.day.is_short() {
+        put(result, 8 + 8 * CHANGED, 0);
     }
     for (i, block) in orders.blocks.iter().enumerate() {
         let chosen = (best.set >> i) & 1;

@@ -1,21 +1,32 @@
 //! The prices that losses are counted at, by the proved code's rule.
 
 use super::hours::Hours;
-use super::orders::{Block, Orders};
+use super::orders::{Block, Day, Orders, CHANGED};
 use super::ByHour;
 
 /// Times that the prices are looked at, and moves before each.
 const LOOKS: u32 = 8;
 const MOVES: u32 = 7;
 
-/// All ones at the hours of a block.
-pub fn mask_of(hours: u32) -> ByHour<u32> {
-    std::array::from_fn(|h| 0u32.wrapping_sub((hours >> h) & 1))
+/// The hours of a block as the day counts them.
+pub struct Mask {
+    /// All ones at each hour.
+    pub hours: ByHour<u32>,
+    /// All ones where hour 3 counts once more.
+    again: u32,
 }
 
-/// The sum of prices over the hours of a mask.
-pub fn masked_sum(prices: &ByHour<u32>, mask: &ByHour<u32>) -> u32 {
-    prices.iter().zip(mask).map(|(price, mask)| price & mask).sum()
+impl Mask {
+    pub fn of(block: &Block, day: &Day) -> Mask {
+        let hours: ByHour<u32> = std::array::from_fn(|h| 0u32.wrapping_sub((block.hours >> h) & 1));
+        Mask { hours, again: hours[CHANGED] & day.again }
+    }
+
+    /// The sum of prices over the hours.
+    pub fn sum(&self, prices: &ByHour<u32>) -> u32 {
+        let once = prices.iter().zip(&self.hours).map(|(price, mask)| price & mask);
+        once.sum::<u32>() + (prices[CHANGED] & self.again)
+    }
 }
 
 /// The price of each hour at its place.
@@ -26,7 +37,7 @@ pub fn prices_at<const ROOM: usize>(hours: &Hours<ROOM>, places: &ByHour<u16>) -
 /// The prices that the search goes by: of the empty set's own and those after some moves
 /// the first at which it loses least.
 pub fn prices<const ROOM: usize>(orders: &Orders, hours: &Hours<ROOM>) -> ByHour<u32> {
-    let masks: Vec<ByHour<u32>> = orders.blocks.iter().map(|b| mask_of(b.hours)).collect();
+    let masks: Vec<Mask> = orders.blocks.iter().map(|b| Mask::of(b, &orders.day)).collect();
     let mut trail = Trail::new(orders, hours, &masks);
     let mut best = trail.root;
     let mut least = trail.empty_loss();
@@ -45,7 +56,7 @@ pub fn prices<const ROOM: usize>(orders: &Orders, hours: &Hours<ROOM>) -> ByHour
 struct Trail<'a, const ROOM: usize> {
     orders: &'a Orders,
     hours: &'a Hours<ROOM>,
-    masks: &'a [ByHour<u32>],
+    masks: &'a [Mask],
     root: ByHour<u32>,
     /// The sum of `count` places.
     sum: ByHour<u32>,
@@ -56,7 +67,7 @@ struct Trail<'a, const ROOM: usize> {
 }
 
 impl<'a, const ROOM: usize> Trail<'a, ROOM> {
-    fn new(orders: &'a Orders, hours: &'a Hours<ROOM>, masks: &'a [ByHour<u32>]) -> Self {
+    fn new(orders: &'a Orders, hours: &'a Hours<ROOM>, masks: &'a [Mask]) -> Self {
         Trail {
             orders,
             hours,
@@ -71,12 +82,13 @@ impl<'a, const ROOM: usize> Trail<'a, ROOM> {
 
     fn go_on(&mut self) {
         for (i, block) in self.orders.blocks.iter().enumerate() {
-            let moves = block.limit <= masked_sum(&self.root, &self.masks[i]);
+            let mask = &self.masks[i];
+            let moves = block.limit <= mask.sum(&self.root);
             if moves != self.moving[i] {
                 self.moving[i] = moves;
                 let sign = if moves { block.quantity } else { block.quantity.wrapping_neg() };
                 for h in 0..24 {
-                    self.places[h] = self.places[h].wrapping_add(sign & self.masks[i][h]);
+                    self.places[h] = self.places[h].wrapping_add(sign & mask.hours[h]);
                 }
             }
         }
@@ -94,9 +106,11 @@ impl<'a, const ROOM: usize> Trail<'a, ROOM> {
     /// What the empty set loses at the prices: the gaps at its places, and what the blocks
     /// would gain.
     fn empty_loss(&self) -> u64 {
-        let gaps: u64 = (0..24).map(|h| self.hours.gap_at_off(h, self.root[h])).sum();
-        let gain = |(block, mask): (&Block, &ByHour<u32>)| {
-            let sum = masked_sum(&self.root, mask);
+        let gap = |h: usize| self.hours.gap_at_off(h, self.root[h]);
+        let again = if self.orders.day.again == 0 { 0 } else { gap(CHANGED) };
+        let gaps = (0..24).map(gap).sum::<u64>() + again;
+        let gain = |(block, mask): (&Block, &Mask)| {
+            let sum = mask.sum(&self.root);
             let (less, more) = if block.sells { (block.limit, sum) } else { (sum, block.limit) };
             u64::from(block.quantity * more.saturating_sub(less))
         };

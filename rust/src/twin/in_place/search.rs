@@ -1,8 +1,8 @@
 //! The search: the proved code's tree, with one state changed and changed back.
 
 use super::hours::Hours;
-use super::orders::{Block, Orders};
-use super::root::{mask_of, masked_sum, prices_at};
+use super::orders::{Block, Day, Orders, CHANGED};
+use super::root::{prices_at, Mask};
 use super::ByHour;
 use crate::twin::count;
 
@@ -22,7 +22,7 @@ struct Choice {
     left: u64,
     /// Its quantity at its hours.
     row: ByHour<u16>,
-    mask: ByHour<u32>,
+    mask: Mask,
     /// The blocks that have an hour in common with it, itself among them.
     near: u32,
     /// Its place in `Search::order`.
@@ -53,6 +53,7 @@ struct State {
 
 struct Search<'a, const ROOM: usize> {
     hours: &'a Hours<ROOM>,
+    day: Day,
     choices: Vec<Choice>,
     /// The blocks in falling order of loss.
     order: Vec<usize>,
@@ -100,7 +101,8 @@ impl<'a, const ROOM: usize> Search<'a, ROOM> {
         };
         let all = bits_where(&orders.blocks, |_| true);
         let best = Best::default();
-        Search { hours, choices, order, sells, all, limit: 0, found: false, best, state }
+        let day = orders.day;
+        Search { hours, day, choices, order, sells, all, limit: 0, found: false, best, state }
     }
 
     /// Every way to decide the blocks from `at` on, each first taken and then left out.
@@ -172,7 +174,7 @@ impl<'a, const ROOM: usize> Search<'a, ROOM> {
     /// come to the limit, and each taken block could keep its own.
     fn passes(&mut self, set: u32, loss: u64) -> bool {
         if self.state.changed {
-            let Some(gaps) = self.state.least_gaps(self.hours) else { return false };
+            let Some(gaps) = self.state.least_gaps(self.hours, &self.day) else { return false };
             self.state.gaps = gaps;
             self.state.changed = false;
         }
@@ -262,7 +264,7 @@ impl<'a, const ROOM: usize> Search<'a, ROOM> {
 impl Choice {
     /// Whether the block misses its limit at prices.
     fn misses(&self, prices: &ByHour<u32>) -> bool {
-        let sum = masked_sum(prices, &self.mask);
+        let sum = self.mask.sum(prices);
         if self.sells {
             sum < self.limit
         } else {
@@ -319,7 +321,7 @@ impl State {
     }
 
     /// The sum of the least gaps over the places in reach, if each hour has one.
-    fn least_gaps<const ROOM: usize>(&self, hours: &Hours<ROOM>) -> Option<u64> {
+    fn least_gaps<const ROOM: usize>(&self, hours: &Hours<ROOM>, day: &Day) -> Option<u64> {
         let mut balances = true;
         let places: ByHour<u16> = std::array::from_fn(|h| {
             let from = self.least[h].max(hours.first[h]);
@@ -327,15 +329,16 @@ impl State {
             balances &= from <= to;
             hours.turn[h].max(from).min(to)
         });
-        let gaps = || (0..24).map(|h| u64::from(hours.gap(h, places[h]))).sum();
-        balances.then(gaps)
+        let gap = |h: usize| hours.gap(h, places[h]);
+        let again = || u64::from(gap(CHANGED) & day.again);
+        balances.then(|| (0..24).map(|h| u64::from(gap(h))).sum::<u64>() + again())
     }
 }
 
 fn choices(orders: &Orders, root: &ByHour<u32>) -> Vec<Choice> {
     let choice = |block: &Block| {
-        let mask = mask_of(block.hours);
-        let sum = masked_sum(root, &mask);
+        let mask = Mask::of(block, &orders.day);
+        let sum = mask.sum(root);
         let over = u64::from(block.quantity * sum.saturating_sub(block.limit));
         let under = u64::from(block.quantity * block.limit.saturating_sub(sum));
         let (taken, left) = if block.sells { (under, over) } else { (over, under) };
@@ -345,7 +348,7 @@ fn choices(orders: &Orders, root: &ByHour<u32>) -> Vec<Choice> {
             limit: block.limit,
             taken,
             left,
-            row: mask.map(|mask| mask as u16 & block.quantity as u16),
+            row: mask.hours.map(|mask| mask as u16 & block.quantity as u16),
             mask,
             near: bits_where(&orders.blocks, near),
             rank: 0,
@@ -366,7 +369,7 @@ fn choices(orders: &Orders, root: &ByHour<u32>) -> Vec<Choice> {
 fn twins_of(blocks: &[Block], i: usize) -> (u32, u32) {
     let block = &blocks[i];
     let is_twin = |other: &Block| {
-        (other.sells, other.hours, other.quantity) == (block.sells, block.hours, block.quantity)
+        (other.sells, other.named, other.quantity) == (block.sells, block.named, block.quantity)
     };
     let turn = |j: usize| {
         let limit = i64::from(blocks[j].limit);
