@@ -369,7 +369,7 @@ fn choices(orders: &Orders, root: &ByHour<u32>) -> Vec<Choice> {
 fn twins_of(blocks: &[Block], i: usize) -> (u32, u32) {
     let block = &blocks[i];
     let is_twin = |other: &Block| {
-        (other.sells, other.named, other.quantity) == (block.sells, block.named, block.quantity)
+        (other.sells, other.hours, other.quantity) == (block.sells, block.hours, block.quantity)
     };
     let turn = |j: usize| {
         let limit = i64::from(blocks[j].limit);
