@@ -8,20 +8,15 @@ use Rattle.roots.proofs.SizeLaws.{limit-fits}
 use borrow.Author.Needs.{needs}
 use Rattle.setup.proofs.blocks.block_columns.Statement.{statement}
 use Rattle.setup.proofs.blocks.block_columns.Tie as tie
-use Rattle.setup.proofs.blocks.block_columns.Reads as reads
-use Rattle.setup.proofs.blocks.block_columns.Lts as lts
-use Rattle.records.proofs.hour_count.Reads as hour-count-reads
-use Rattle.places.proofs.limits.price_sum.Reads as price-sum-reads
-use Rattle.setup.proofs.blocks.with_block.Reads as with-block-reads
 
 abbrev Inv-loop : tie.InvT-loop
-Inv-loop count sides hours prices quantities root columns₀ i₀ columns i = WrittenTo sides hours prices quantities root count i columns
+Inv-loop day count sides hours prices quantities root columns₀ i₀ columns i = WrittenTo day sides hours prices quantities root count i columns
 
 abbrev μ-loop : tie.MeasureT-loop
-μ-loop count sides hours prices quantities root columns₀ i₀ columns i = count - i
+μ-loop day count sides hours prices quantities root columns₀ i₀ columns i = count - i
 
 loop-holds : tie.Need-loop-holds Inv-loop μ-loop
-loop-holds c = written-start _ _ _ _ _ _
+loop-holds c = written-start _ _ _ _ _ _ _
 
 mul-limit : tie.Need-mul-limit Inv-loop μ-loop
 mul-limit c = search needs
@@ -29,21 +24,21 @@ mul-limit c = search needs
 array-read-limit : tie.Need-array-read-limit Inv-loop μ-loop
 array-read-limit c = search needs
 
-mul-hour-count : tie.Need-mul-hour-count Inv-loop μ-loop
-mul-hour-count c = search needs
+mul-counted-hours : tie.Need-mul-counted-hours Inv-loop μ-loop
+mul-counted-hours c = search needs
 
-array-read-hour-count : tie.Need-array-read-hour-count Inv-loop μ-loop
-array-read-hour-count c = search needs
+array-read-counted-hours : tie.Need-array-read-counted-hours Inv-loop μ-loop
+array-read-counted-hours c = search needs
 
-hour-count-requires : tie.Need-hour-count-requires Inv-loop μ-loop
-hour-count-requires c κs = search needs
+counted-hours-requires : tie.Need-counted-hours-requires Inv-loop μ-loop
+counted-hours-requires c κs = search needs
 
 mul-limit-2 : tie.Need-mul-limit-2 Inv-loop μ-loop
 mul-limit-2 c =
     let v = c .before .before .loop in
     let s = c .before .before .before in
-    let fits = limit-fits (getD (s .args .t4) (v .i) 0) (getD (s .args .t3) (v .i) 0) (s .pre .0 .pricesFit (v .i) (c .before .loop-test .taken)) in
-    rw (c .hour-count .ensures) (record { fits = omega (arith, fits) })
+    let fits = limit-fits (getD (s .args .t5) (v .i) 0) (s .args .day) (getD (s .args .t4) (v .i) 0) (s .pre .2) (s .pre .0 .pricesFit (v .i) (c .before .loop-test .taken)) in
+    rw (c .counted-hours .ensures) (record { fits = omega (arith, fits) })
 
 array-read-with-block : tie.Need-array-read-with-block Inv-loop μ-loop
 array-read-with-block c = search needs
@@ -70,7 +65,7 @@ array-read-price-sum : tie.Need-array-read-price-sum Inv-loop μ-loop
 array-read-price-sum c = search needs
 
 price-sum-requires : tie.Need-price-sum-requires Inv-loop μ-loop
-price-sum-requires c κs = search needs
+price-sum-requires c κs = c .before .before .before .before .pre .1
 
 with-block-requires : tie.Need-with-block-requires Inv-loop μ-loop
 with-block-requires c κs =
@@ -81,7 +76,7 @@ with-block-requires c κs =
     let h = s .pre .0 in (
       omega (arith, h .few, k),
       h .quantitiesFit (v .i) k,
-      rw (b .hour-count .ensures) (limit-fits (getD (s .args .t4) (v .i) 0) (getD (s .args .t3) (v .i) 0) (h .pricesFit (v .i) k)),
+      rw (b .counted-hours .ensures) (limit-fits (getD (s .args .t5) (v .i) 0) (s .args .day) (getD (s .args .t4) (v .i) 0) (s .pre .2) (h .pricesFit (v .i) k)),
       c .price-sum .ensures .1,
     )
 
@@ -96,11 +91,11 @@ loop-again c =
     let b = c .before .before .before in
     let v = b .before .before .loop in
     let s = b .before .before .before in
-    written-next _ _ _ _ _ _ _ (v .columns) _ _ _ _ _ _ (v .inv) (s .pre .0) (b .before .loop-test .taken) refl refl refl
-    (rw (b .hour-count .ensures)) (c .before .price-sum .ensures .0) (c .with-block .ensures)
+    written-next _ _ _ _ _ _ _ _ (v .columns) _ _ _ _ _ _ (v .inv) (s .pre .0) (b .before .loop-test .taken) refl refl refl
+    (rw (b .counted-hours .ensures)) (c .before .price-sum .ensures .0) (c .with-block .ensures)
 
 returns : tie.Need-returns Inv-loop μ-loop
-returns c = written-all _ _ _ _ _ _ _ _ (c .before .loop .inv) (c .loop-test .left)
+returns c = written-all _ _ _ _ _ _ _ _ _ (c .before .loop .inv) (c .loop-test .left)
 
 pub block-columns-spec : {M : Type 1} → statement M
 block-columns-spec =
@@ -111,9 +106,9 @@ block-columns-spec =
     loop-holds
     mul-limit
     array-read-limit
-    mul-hour-count
-    array-read-hour-count
-    hour-count-requires
+    mul-counted-hours
+    array-read-counted-hours
+    counted-hours-requires
     mul-limit-2
     array-read-with-block
     mul-with-block
