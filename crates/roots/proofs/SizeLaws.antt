@@ -8,10 +8,12 @@ use native.Mathlib.Decide.{decLe}
 use native.Mathlib.Nat.{lt-of-not-le, mul-le-mul}
 use lib.ListN.{length, getD, set}
 use lib.Seq.{getD-set-same, getD-set-other}
-use Rattle.records.specs.Records.{holdsHour, hoursSet}
-use Rattle.records.proofs.Laws.{hours-few}
+use Rattle.records.specs.Records.{holdsHour}
+use Rattle.book.specs.Hours.{countedHours}
 use Rattle.rules.specs.Orders.{Side, buy, sell, maxPrice}
 use Rattle.rules.specs.Hour.{bySide, when}
+use Rattle.rules.specs.Day.{autumnHours, hourCount}
+use Rattle.rules.proofs.BoundsLaws.{weight-small, hourCount-small}
 use Rattle.rules.proofs.CurveLaws.{when-le}
 use Rattle.places.specs.Layout.{mostQuantity, mostLimit, hourPlaces}
 use Rattle.places.specs.Hours.{Small, rowWidth, HasRows}
@@ -31,8 +33,25 @@ chosen-le false a m x = omega arith
 pub product-fits : (q x : ℕ) → q ≤ mostQuantity → x ≤ mostLimit → q * x ≤ mostQuantity * mostLimit
 product-fits q x a b = omega (arith, mul-le-mul a b)
 
-pub limit-fits : (price x : ℕ) → price ≤ maxPrice → price * hoursSet hourPlaces x ≤ mostLimit
-limit-fits price x a = omega (arith, mul-le-mul a (hours-few hourPlaces x))
+-- a block's 24 hours count at most twice each
+counted-few : (day x : ℕ) → day ≤ autumnHours → countedHours day x ≤ 2 * hourPlaces
+unfolding countedHours hourCount
+counted-few day x few =
+    hourCount-small day (λ h. weight-small day h few) (record { number = 0; side = buy; price = 0; quantity = 0; runs = holdsHour x })
+
+pub limit-fits : (price day x : ℕ) → day ≤ autumnHours → price ≤ maxPrice → price * countedHours day x ≤ mostLimit
+limit-fits price day x few a = omega (arith, mul-le-mul a (counted-few day x few))
+
+-- what an hour loses up and down, as it counts
+pub lost-fits : (t : Bool) (often times up down m : ℕ) → times ≡ cond t often 1 → often ≤ 2 → up ≤ m → down ≤ m → times * (up + down) ≤ 4 * m
+lost-fits t often times up down m e few a b =
+    let twice : times ≤ 2 = rw e (at t) in
+    let both : up + down ≤ 2 * m = omega arith in
+    omega (arith, mul-le-mul twice both)
+  where
+    at : (t : Bool) → cond t often 1 ≤ 2
+    at true = few
+    at false = omega arith
 
 -- places moved on by a quantity in some hours
 pub moved-most : (x q : ℕ) (places more : List ℕ) → length more ≡ hourPlaces →

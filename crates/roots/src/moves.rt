@@ -1,4 +1,5 @@
 // Prices on their way to those at which the blocks that gain are taken: a third of the way with each move, towards the prices at the average place so far.
+// Hour 3 counts `often` times.
 ghost use Prim.Native.Nat.{ℕ, _+_, _*_, _≤_, _<_};
 ghost use lib.ListN.{getD};
 ghost use Rattle.rules.specs.Orders.{maxPrice};
@@ -7,6 +8,7 @@ ghost use Rattle.places.specs.Layout.{mostQuantity, lastPlace};
 ghost use Rattle.places.specs.Hours.{Small, FirstSmall, HasRows};
 ghost use Rattle.roots.specs.Roots.{allMoves, roundMoves};
 use places::added::moved;
+use places::cells::counted_prices;
 use places::cells::prices_at;
 use places::layout::HOURS;
 use places::layout::LAST_AND_ABOVE;
@@ -21,8 +23,8 @@ pub const ROUND: u32 = 7;
 // The moves of all rounds.
 pub const MOVES: u32 = 56;
 
-// A list of places with those added at which each block that gains at the prices is taken, and no other: a sell that gains moves its hours on, a buy that
-// does not.
+// A list of places with those added at which each block that gains at the prices, as they count, is taken, and no other: a sell that gains moves its hours
+// on, a buy that does not.
 pub fn added_places(
     sum: [u32; HOURS],
     count: usize,
@@ -30,15 +32,17 @@ pub fn added_places(
     limits: [u32; MOST_BLOCKS],
     quantities: [u32; MOST_BLOCKS],
     root: [u32; HOURS],
+    often: u32,
 ) -> [u32; HOURS]
     requires blocks { ⌜ (count ≤ mostBlocks) × FirstSmall count mostQuantity quantities ⌝ }
-    requires prices { ⌜ Small ((allMoves + roundMoves) * lastPlace) sum × Small maxPrice root ⌝ }
+    requires prices { ⌜ Small ((allMoves + roundMoves) * lastPlace) sum × Small maxPrice root × (often ≤ 2) ⌝ }
     ensures { λ r. ⌜ ((i : ℕ) → getD r i 0 ≤ getD sum i 0 + lastPlace) ⌝ }
 {
+    let counted = counted_prices(root, often);
     let mut places = sum;
     let mut i: usize = 0;
     while i < count {
-        let moves = limits[i] <= price_sum(&root, hours[i]);
+        let moves = limits[i] <= price_sum(&counted, hours[i]);
         let more = moved(places, hours[i], choose(moves, quantities[i], 0));
         places = more;
         i += 1;
@@ -101,10 +105,12 @@ pub fn moved_on(
     quantities: [u32; MOST_BLOCKS],
     trail: Trail,
     n: u32,
+    often: u32,
 ) -> Trail
     requires tables { ⌜ HasRows (now «unit_prices») × Small maxPrice (now «unit_prices») ⌝ }
     requires blocks { ⌜ (count ≤ mostBlocks) × FirstSmall count mostQuantity quantities ⌝ }
     requires trail { ⌜ (1 ≤ n) × (n < allMoves) × Small maxPrice (trail .prices) × Small (n * lastPlace) (trail .sum) ⌝ }
+    requires often { ⌜ often ≤ 2 ⌝ }
     ensures { λ r. ⌜ Small maxPrice (r .prices) × Small ((n + roundMoves) * lastPlace) (r .sum) ⌝ }
 {
     let last = (unit_prices.len() / HOURS - LAST_AND_ABOVE) as u32;
@@ -112,7 +118,7 @@ pub fn moved_on(
     let mut sum = trail.sum;
     let mut k = n;
     while k < n + ROUND {
-        let more = added_places(sum, count, hours, limits, quantities, root);
+        let more = added_places(sum, count, hours, limits, quantities, root, often);
         let mean = averaged(more, k + 1, last);
         let there = prices_at(unit_prices, mean);
         let next = closer(root, there);

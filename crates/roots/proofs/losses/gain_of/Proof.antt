@@ -1,4 +1,4 @@
--- `roots::gain_of` meets its contract: at most 50 times 7,200,000. Assumes nothing.
+-- `roots::gain_of` meets its contract: at most 250 times 14,400,000. Assumes nothing.
 use native.Mathlib.Omega.{arith}
 use Rattle.places.specs.Layout.{mostLimit}
 use Rattle.orders.specs.Columns.{sideFor}

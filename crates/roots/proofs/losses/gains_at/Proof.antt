@@ -1,4 +1,4 @@
--- `roots::gains_at` meets its contract: each block gains at most 360,000,000. Assumes nothing.
+-- `roots::gains_at` meets its contract: each block gains at most 3,600,000,000. Assumes nothing.
 use Prim.Native.Nat.{_-_, _*_, _≤_}
 use native.Mathlib.Omega.{arith}
 use borrow.Author.Needs.{needs}
@@ -7,14 +7,18 @@ use Rattle.roots.proofs.losses.gains_at.Statement.{statement}
 use Rattle.roots.proofs.losses.gains_at.Tie as tie
 use Rattle.roots.proofs.losses.gains_at.Reads as reads
 use Rattle.roots.proofs.losses.gains_at.Lts as lts
+use Rattle.places.proofs.cells.counted_prices.Reads as counted-prices-reads
 use Rattle.places.proofs.limits.price_sum.Reads as price-sum-reads
 use Rattle.roots.proofs.losses.gain_of.Reads as gain-of-reads
 
 abbrev Inv-loop : tie.InvT-loop
-Inv-loop count sides hours limits quantities root gains₀ i₀ gains i = (i ≤ count) × (gains ≤ i * (mostQuantity * mostLimit))
+Inv-loop count often sides hours limits quantities counted gains₀ i₀ gains i = (i ≤ count) × (gains ≤ i * (mostQuantity * mostLimit))
 
 abbrev μ-loop : tie.MeasureT-loop
-μ-loop count sides hours limits quantities root gains₀ i₀ gains i = count - i
+μ-loop count often sides hours limits quantities counted gains₀ i₀ gains i = count - i
+
+counted-prices-requires : tie.Need-counted-prices-requires Inv-loop μ-loop
+counted-prices-requires c κs = search needs
 
 loop-holds : tie.Need-loop-holds Inv-loop μ-loop
 loop-holds c = (omega arith, omega arith)
@@ -49,7 +53,7 @@ array-read-gain-of-3 c = search needs
 gain-of-requires : tie.Need-gain-of-requires Inv-loop μ-loop
 gain-of-requires c κs =
     let v = c .before .before .before .loop in
-    let s = c .before .before .before .before in
+    let s = c .before .before .before .before .before in
     (s .pre .0 .1 (v .i) (c .before .before .loop-test .taken), s .pre .1 .0 (v .i), c .price-sum .ensures .1)
 
 cast-gains : tie.Need-cast-gains Inv-loop μ-loop
@@ -58,7 +62,7 @@ cast-gains c = search needs
 add-gains : tie.Need-add-gains Inv-loop μ-loop
 add-gains c =
     let v = c .before .before .before .before .loop in
-    let s = c .before .before .before .before .before in
+    let s = c .before .before .before .before .before .before in
     omega (arith, v .inv .0, v .inv .1, s .pre .0 .0, c .gain-of .ensures)
 
 add-i : tie.Need-add-i Inv-loop μ-loop
@@ -73,7 +77,7 @@ loop-again c =
     (omega (arith, c .before .before .before .loop-test .taken), omega (arith, v .inv .1, c .gain-of .ensures))
 
 returns : tie.Need-returns Inv-loop μ-loop
-returns c = omega (arith, c .before .loop .inv .0, c .before .loop .inv .1, c .before .before .pre .0 .0)
+returns c = omega (arith, c .before .loop .inv .0, c .before .loop .inv .1, c .before .before .before .pre .0 .0)
 
 pub gains-at-spec : {M : Type 1} → statement M
 gains-at-spec =
@@ -81,6 +85,7 @@ gains-at-spec =
     (tie.spec
     Inv-loop
     μ-loop
+    counted-prices-requires
     loop-holds
     slice-aggregate-price-sum
     mul-price-sum

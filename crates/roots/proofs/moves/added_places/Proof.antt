@@ -1,4 +1,4 @@
--- `roots::added_places` meets its contract: each block moves the places on by at most 50. Assumes nothing.
+-- `roots::added_places` meets its contract: each block moves the places on by at most 250. Assumes nothing.
 use Prim.Native.Nat.{ℕ, _+_, _-_, _*_, _≤_}
 use native.Mathlib.Omega.{arith}
 use lib.ListN.{getD}
@@ -11,14 +11,18 @@ use Rattle.roots.proofs.moves.added_places.Tie as tie
 use Rattle.roots.proofs.moves.added_places.Reads as reads
 use Rattle.roots.proofs.moves.added_places.Lts as lts
 use Rattle.places.proofs.added.moved.Reads as moved-reads
+use Rattle.places.proofs.cells.counted_prices.Reads as counted-prices-reads
 use Rattle.places.proofs.limits.price_sum.Reads as price-sum-reads
 use Rattle.places.proofs.numbers.choose.Reads as choose-reads
 
 abbrev Inv-loop : tie.InvT-loop
-Inv-loop count hours limits quantities root places₀ i₀ places i = (i ≤ count) × ((j : ℕ) → getD places j 0 ≤ getD places₀ j 0 + i * mostQuantity)
+Inv-loop count often hours limits quantities counted places₀ i₀ places i = (i ≤ count) × ((j : ℕ) → getD places j 0 ≤ getD places₀ j 0 + i * mostQuantity)
 
 abbrev μ-loop : tie.MeasureT-loop
-μ-loop count hours limits quantities root places₀ i₀ places i = count - i
+μ-loop count often hours limits quantities counted places₀ i₀ places i = count - i
+
+counted-prices-requires : tie.Need-counted-prices-requires Inv-loop μ-loop
+counted-prices-requires c κs = search needs
 
 loop-holds : tie.Need-loop-holds Inv-loop μ-loop
 loop-holds c = (omega arith, λ j. omega arith)
@@ -59,7 +63,7 @@ choose-requires c κs = search needs
 moved-requires : tie.Need-moved-requires Inv-loop μ-loop
 moved-requires c κs =
     let v = c .before .before .before .before .loop in
-    let s = c .before .before .before .before .before in
+    let s = c .before .before .before .before .before .before in
     let few = s .pre .0 .1 (v .i) (c .before .before .before .loop-test .taken) in
     let fits : c .choose .result ≤ mostQuantity = rw (c .choose .ensures)
     (chosen-le (leb (getD (s .args .t4) (v .i) 0) (c .before .price-sum .result)) _ mostQuantity few) in
@@ -75,7 +79,7 @@ loop-again : tie.Need-loop-again Inv-loop μ-loop
 loop-again c =
     let o = c .before in
     let v = o .before .before .before .before .loop in
-    let s = o .before .before .before .before .before in
+    let s = o .before .before .before .before .before .before in
     let k = o .before .before .before .loop-test .taken in
     let fits : o .choose .result ≤ mostQuantity = rw (o .choose .ensures)
     (chosen-le (leb (getD (s .args .t4) (v .i) 0) (o .before .price-sum .result)) _ mostQuantity (s .pre .0 .1 (v .i) k)) in
@@ -83,7 +87,7 @@ loop-again c =
     (omega (arith, k), λ j. omega (arith, m j, fits, v .inv .1 j))
 
 returns : tie.Need-returns Inv-loop μ-loop
-returns c = λ j. omega (arith, c .before .loop .inv .1 j, c .before .loop .inv .0, c .before .before .pre .0 .0)
+returns c = λ j. omega (arith, c .before .loop .inv .1 j, c .before .loop .inv .0, c .before .before .before .pre .0 .0)
 
 pub added-places-spec : {M : Type 1} → statement M
 added-places-spec =
@@ -91,6 +95,7 @@ added-places-spec =
     (tie.spec
     Inv-loop
     μ-loop
+    counted-prices-requires
     loop-holds
     mul-moves
     array-read-moves

@@ -10,10 +10,10 @@ use Rattle.roots.proofs.moves.moved_on.Statement.{statement}
 use Rattle.roots.proofs.moves.moved_on.Tie as tie
 
 abbrev Inv-loop : tie.InvT-loop
-Inv-loop unitPrices count hours limits quantities n last root₀ sum₀ k₀ root sum k = (1 ≤ k) × (k ≤ n + roundMoves) × Small maxPrice root × Small (k * lastPlace) sum
+Inv-loop unitPrices count hours limits quantities n often last root₀ sum₀ k₀ root sum k = (1 ≤ k) × (k ≤ n + roundMoves) × Small maxPrice root × Small (k * lastPlace) sum
 
 abbrev μ-loop : tie.MeasureT-loop
-μ-loop unitPrices count hours limits quantities n last root₀ sum₀ k₀ root sum k = n + roundMoves - k
+μ-loop unitPrices count hours limits quantities n often last root₀ sum₀ k₀ root sum k = n + roundMoves - k
 
 sub-last : tie.Need-sub-last Inv-loop μ-loop
 sub-last c = omega (arith, c .before .pre .0 .0)
@@ -23,7 +23,7 @@ cast-last c = omega (arith, c .before .pre .0 .0)
 
 loop-holds : tie.Need-loop-holds Inv-loop μ-loop
 loop-holds c =
-    let p = c .before .before .before .pre .1 .1 in
+    let p = c .before .before .before .pre .1 .1 .0 in
     (p .0, omega arith, p .2, p .3)
 
 add-loop : tie.Need-add-loop Inv-loop μ-loop
@@ -34,7 +34,7 @@ added-places-requires c κs =
     let v = c .before .loop in
     let s = c .before .before .before .before .before in
     let k = c .loop-test .taken in
-    (s .pre .1 .0, (λ i. omega (arith, v .inv .3 i, k, s .pre .1 .1 .1), v .inv .2))
+    (s .pre .1 .0, (λ i. omega (arith, v .inv .3 i, k, s .pre .1 .1 .0 .1), v .inv .2, s .pre .1 .1 .1))
 
 add-averaged : tie.Need-add-averaged Inv-loop μ-loop
 add-averaged c = search needs
