@@ -5,6 +5,8 @@ use mathlib.Core.Path.{_≡_, sym, _∙_}
 use lib.ListN.{length, getD}
 use Rattle.places.specs.Layout.{hourPlaces}
 use Rattle.rules.specs.Orders.{maxPrice}
+use Rattle.rules.specs.Day.{changeHour}
+use Rattle.rules.proofs.BoundsLaws.{weight-small}
 use Rattle.places.specs.Hours.{Small, rowWidth}
 use Rattle.setup.specs.Setup.{RowsFit}
 use Rattle.setup.proofs.SetupLaws.{rows-fit, off-fits, set-up, ready}
@@ -32,7 +34,7 @@ prices-fit f = f .fill-tables .ensures .1
 
 -- the places that the blocks reach have room in the rows
 fits : (m : tie.After-traded-by-hour2) → RowsFit (rowWidth (opened (m .before) .args .unit-prices .now)) (m .traded-by-hour2 .result)
-fits m = rows-fit _ _ _ _ _ _ (m .traded-by-hour2 .ensures) (opened (m .before) .pre .1 .1 .1)
+fits m = rows-fit _ _ _ _ _ _ (m .traded-by-hour2 .ensures) (opened (m .before) .pre .1 .1 .1 .1)
 
 within : (m : tie.After-traded-by-hour2) → (h : ℕ) → h < hourPlaces →
     getD (m .before .traded-by-hour .result) h 0 ≤ getD (m .traded-by-hour2 .result) h 0
@@ -52,91 +54,115 @@ fill-tables-requires c κs =
     let most = c .before in
     let off = most .before in
     let s = opened off in
-    let t = s .pre .1 .1 .0 in
-    ((s .pre .0, off .traded-by-hour .ensures .small, most .traded-by-hour2 .ensures .small), (t .0, fits most, t .2))
+    let t = s .pre .1 .1 .1 .0 in
+    ((s .pre .1 .0, off .traded-by-hour .ensures .small, most .traded-by-hour2 .ensures .small), (t .0, fits most, t .2))
 
 root-prices-requires : tie.Need-root-prices-requires
 root-prices-requires c κs =
     let f = c .before .before .before in
     let after-traded-by-hour = f .before .before .before in
     let start = begun f in
-    let held = start .pre .1 .0 in
+    let held = start .pre .1 .1 .0 in
     let m = f .before .before in
-    let rows = rw (← (prices-size f)) at (start .pre .1 .1 .0 .0) in
+    let rows = rw (← (prices-size f)) at (start .pre .1 .1 .1 .0 .0) in
     let fit = rw (← (prices-size f)) at (fits m) in
     let off = off-fits (unitPricesOf f) (after-traded-by-hour .traded-by-hour .result) (m .traded-by-hour2 .result) (off-size after-traded-by-hour) (within m) fit in
-    ((rows, prices-fit f, off), (held .few, held .pricesFit, held .quantitiesFit))
+    (start .pre .0, ((rows, prices-fit f, off), (held .few, held .pricesFit, held .quantitiesFit)))
 
 fill-ranges-requires : tie.Need-fill-ranges-requires
 fill-ranges-requires c κs =
     let f = c .before .before .before .before .before .before in
     let m = f .before .before in
     let s = begun f in
-    let t = s .pre .1 .1 .0 in
+    let t = s .pre .1 .1 .1 .0 in
     let same = sym (t .1) in (
-      (s .pre .0, m .traded-by-hour2 .ensures .small, c .before .before .root-prices .ensures, rw same at (t .0), rw same at (fits m)),
+      (s .pre .1 .0, m .traded-by-hour2 .ensures .small, c .before .before .root-prices .ensures, rw same at (t .0), rw same at (fits m)),
       (within m, (prices-size f ∙ same, rw same at (f .fill-tables .ensures .0))),
     )
 
+-- how often hour 3 counts, behind the ranges, and these behind the root prices
+abbrev ranged : tie.After-change-weight → tie.After-fill-ranges
+ranged c = c .before .before .before
+
+abbrev rooted : tie.After-fill-ranges → tie.After-root-prices
+rooted c = c .before .before .before
+
+abbrev filled : tie.After-root-prices → tie.After-fill-tables
+filled c = c .before .before .before .before
+
+-- an array of 24
+root-size : (r : tie.After-root-prices) → length (r .root-prices .result) ≡ hourPlaces
+root-size r = search needs
+
+often-few : (c : tie.After-change-weight) → c .change-weight .result ≤ 2
+often-few c = rw (c .change-weight .ensures) (weight-small _ changeHour (begun (filled (rooted (ranged c))) .pre .0))
+
+change-weight-requires : tie.Need-change-weight-requires
+change-weight-requires c κs = search needs
+
+counted-prices-requires : tie.Need-counted-prices-requires
+counted-prices-requires c κs = (rooted (ranged c) .root-prices .ensures, often-few c)
+
 block-columns-requires : tie.Need-block-columns-requires
 block-columns-requires c κs =
-    let after-root-prices = c .before .before .before .before .before in
-    let after-traded-by-hour = after-root-prices .before .before .before .before .before .before .before in
-    let start = opened after-traded-by-hour in
-    (start .pre .1 .0, after-root-prices .root-prices .ensures)
+    let s = begun (filled (rooted (ranged (c .before)))) in
+    (s .pre .1 .1 .0, c .counted-prices .ensures .1, s .pre .0)
+
+-- the start behind the blocks' columns
+abbrev weighed : tie.After-block-columns → tie.After-change-weight
+weighed c = c .before .before
+
+abbrev started : tie.After-block-columns → tie.Start
+started c = begun (filled (rooted (ranged (weighed c))))
 
 widened-requires : tie.Need-widened-requires
 widened-requires c κs = search needs
 
 with-rows-requires : tie.Need-with-rows-requires
 with-rows-requires c κs =
-    let after-fill-ranges = c .before .before .before .before .before .before .before in
-    let after-traded-by-hour2 = after-fill-ranges .before .before .before .before .before .before .before .before .before in
-    let after-traded-by-hour = after-traded-by-hour2 .before in
-    let start = opened after-traded-by-hour in
-    (start .pre .1 .0 .few, rows-empty _ _ (c .widened .ensures) (c .before .before .before .before .block-columns .ensures .0))
+    let columns = c .before .before .before .before in
+    (started columns .pre .1 .1 .0 .few, rows-empty _ _ (c .widened .ensures) (columns .block-columns .ensures .0))
 
 joined-requires : tie.Need-joined-requires
 joined-requires c κs = search needs
 
 with-twins-requires : tie.Need-with-twins-requires
 with-twins-requires c κs =
-    let after-fill-ranges = c .before .before .before .before .before .before .before .before .before in
-    let after-traded-by-hour2 = after-fill-ranges .before .before .before .before .before .before .before .before .before in
-    let after-traded-by-hour = after-traded-by-hour2 .before in
-    let start = opened after-traded-by-hour in
-    (start .pre .1 .0 .few, twins-empty _ _ _ _ (c .before .before .widened .ensures) (c .before .with-rows .ensures))
+    let columns = c .before .before .before .before .before .before in
+    (started columns .pre .1 .1 .0 .few, twins-empty _ _ _ _ (c .before .before .widened .ensures) (c .before .with-rows .ensures))
 
 same-length : tie.Need-same-length
-same-length c = search needs
+same-length c = prices-size (filled (rooted (ranged (weighed (c .before .before .before .before .before .before .before)))))
 
 same-length-2 : tie.Need-same-length-2
-same-length-2 c = search needs
+same-length-2 c = ranged (weighed (c .before .before .before .before .before .before .before)) .fill-ranges .kept .1 .1 .1 .1 .1 .1 .1 .1 .0
 
 returns : tie.Need-returns
 returns c =
     let j = c .before in
     let after-block-columns = j .before .before .before .before .before .before in
-    let g = after-block-columns .before .before .before in
-    let after-root-prices = g .before .before .before in
-    let f = after-root-prices .before .before .before .before in
+    let g = ranged (weighed after-block-columns) in
+    let after-root-prices = rooted g in
+    let f = filled after-root-prices in
     let after-traded-by-hour2 = f .before .before in
     let after-traded-by-hour = after-traded-by-hour2 .before in
     let s = begun f in
     let wide = c .before .before .before .widened .ensures in
     let rows = c .before .before .with-rows .ensures in
     let twins = c .with-twins .ensures in
-    let few = s .pre .1 .0 .few in
+    let few = s .pre .1 .1 .0 .few in
     let sized = blocks-sized _ _ _ _ _ few wide rows twins in
-    let all = completed _ _ _ _ _ few wide rows twins _ _ _ _ _ (after-block-columns .block-columns .ensures .1) in
-    let gapSize = g .fill-ranges .kept .1 .1 .1 .1 .1 .1 .1 .1 .0 ∙ s .pre .1 .1 .0 .1 ∙ sym (prices-size f) in
+    let weight-is = weighed after-block-columns .change-weight .ensures in
+    let all = completed _ _ _ _ _ few wide rows twins _ _ _ _ _ _ (after-block-columns .block-columns .ensures .1) in
+    let gapSize = g .fill-ranges .kept .1 .1 .1 .1 .1 .1 .1 .1 .0 ∙ s .pre .1 .1 .1 .0 .1 ∙ sym (prices-size f) in
     let t = g .fill-ranges .ensures .0 in
-    let same = s .pre .1 .1 .0 .1 ∙ sym (prices-size f) in
-    rw (j .joined .ensures .0, j .joined .ensures .1, j .joined .ensures .2) (
-      set-up _ (rw (← (prices-size f)) at (s .pre .1 .1 .0 .0)) gapSize (t .0) (t .1) (rw same at (t .3)) (prices-fit f) sized few,
-      ready _ _ _ _ _ _ _ _ _ _ (after-traded-by-hour .traded-by-hour .result) (after-traded-by-hour2 .traded-by-hour2 .result)
-          (after-root-prices .root-prices .result) (unitPricesOf f) _ _ _ _ _ gapSize (rw (← (prices-size f)) at (fits after-traded-by-hour2)) (after-traded-by-hour .traded-by-hour .ensures)
-          (after-traded-by-hour2 .traded-by-hour2 .ensures) (rw (← (prices-size f)) at (f .fill-tables .ensures .0)) (rw same at (g .fill-ranges .ensures .1)) all,
+    let same = s .pre .1 .1 .1 .0 .1 ∙ sym (prices-size f) in
+    rw (j .joined .ensures .0, j .joined .ensures .1, j .joined .ensures .2, j .joined .ensures .3) (
+      set-up _ (rw (← (prices-size f)) at (s .pre .1 .1 .1 .0 .0)) gapSize (t .0) (t .1) (rw same at (t .3)) (prices-fit f) sized (often-few (weighed after-block-columns)) few,
+      ready _ _ _ _ _ _ _ _ _ _ _ (after-traded-by-hour .traded-by-hour .result) (after-traded-by-hour2 .traded-by-hour2 .result)
+          (after-root-prices .root-prices .result) (unitPricesOf f) _ _ _ _ _ _ gapSize (root-size after-root-prices) (rw (← (prices-size f)) at (fits after-traded-by-hour2)) (after-traded-by-hour .traded-by-hour .ensures)
+          (after-traded-by-hour2 .traded-by-hour2 .ensures) (rw (← (prices-size f)) at (f .fill-tables .ensures .0)) (rw same at (g .fill-ranges .ensures .1))
+          weight-is (rw (after-block-columns .before .counted-prices .ensures .0) at all),
     )
 
 pub prepare-spec : {M : Type 1} → statement M
@@ -148,6 +174,8 @@ prepare-spec =
     fill-tables-requires
     root-prices-requires
     fill-ranges-requires
+    change-weight-requires
+    counted-prices-requires
     block-columns-requires
     widened-requires
     with-rows-requires

@@ -7,10 +7,13 @@ use Rattle.setup.proofs.rows.joined.Statement.{statement}
 use Rattle.setup.proofs.rows.joined.Tie as tie
 
 abbrev Inv-loop : tie.InvT-loop
-Inv-loop first last turn often r₀ h₀ r h = JoinedTo first last turn often h r
+Inv-loop often first last turn r₀ h₀ r h = JoinedTo first last turn often h r
 
 abbrev μ-loop : tie.MeasureT-loop
-μ-loop first last turn often r₀ h₀ r h = hourPlaces - h
+μ-loop often first last turn r₀ h₀ r h = hourPlaces - h
+
+array-write-r : tie.Need-array-write-r Inv-loop μ-loop
+array-write-r c = search needs
 
 loop-holds : tie.Need-loop-holds Inv-loop μ-loop
 loop-holds c = joined-start _ _ _ _
@@ -24,8 +27,8 @@ array-read-r c = search needs
 mul-r-2 : tie.Need-mul-r-2 Inv-loop μ-loop
 mul-r-2 c = search needs
 
-array-write-r : tie.Need-array-write-r Inv-loop μ-loop
-array-write-r c = search needs
+array-write-r-2 : tie.Need-array-write-r-2 Inv-loop μ-loop
+array-write-r-2 c = search needs
 
 mul-r-3 : tie.Need-mul-r-3 Inv-loop μ-loop
 mul-r-3 c = search needs
@@ -39,8 +42,8 @@ add-r c = search needs
 mul-r-4 : tie.Need-mul-r-4 Inv-loop μ-loop
 mul-r-4 c = search needs
 
-array-write-r-2 : tie.Need-array-write-r-2 Inv-loop μ-loop
-array-write-r-2 c = search needs
+array-write-r-3 : tie.Need-array-write-r-3 Inv-loop μ-loop
+array-write-r-3 c = search needs
 
 mul-r-5 : tie.Need-mul-r-5 Inv-loop μ-loop
 mul-r-5 c = search needs
@@ -54,8 +57,8 @@ add-r-2 c = search needs
 mul-r-6 : tie.Need-mul-r-6 Inv-loop μ-loop
 mul-r-6 c = search needs
 
-array-write-r-3 : tie.Need-array-write-r-3 Inv-loop μ-loop
-array-write-r-3 c = search needs
+array-write-r-4 : tie.Need-array-write-r-4 Inv-loop μ-loop
+array-write-r-4 c = search needs
 
 add-h : tie.Need-add-h Inv-loop μ-loop
 add-h c = search needs
@@ -76,21 +79,22 @@ joined-spec =
     (tie.spec
     Inv-loop
     μ-loop
+    array-write-r
     loop-holds
     mul-r
     array-read-r
     mul-r-2
-    array-write-r
+    array-write-r-2
     mul-r-3
     array-read-r-2
     add-r
     mul-r-4
-    array-write-r-2
+    array-write-r-3
     mul-r-5
     array-read-r-3
     add-r-2
     mul-r-6
-    array-write-r-3
+    array-write-r-4
     add-h
     loop-less
     loop-again
