@@ -4,19 +4,25 @@ use mathlib.Core.Path.{_≡_, refl, sym, ap₂, _∙_}
 use mathlib.Core.List.{List, _++_, append-assoc}
 use native.Mathlib.Omega.{arith}
 use native.Mathlib.Numerals.{add-one}
-use lib.ListN.{length, take, drop, getD, length-append, take-append-drop}
-use lib.Seq.{slice, take-take, take-at, drop-at, length-take-le}
+use mathlib.Core.Bool.{cond, not}
+use lib.Dec.{eqb}
+use lib.ListN.{length, take, drop, getD, set, length-set, length-append, take-append-drop}
+use borrow.Author.Tests.{ne-eqb}
+use lib.Seq.{getD-set-same, getD-set-other, slice, take-take, take-at, drop-at, length-take-le}
 use borrow.Rule.Slice.PartMut.{putMid, postOf, same-len-mid, mid-len, take-put}
 use Rattle.rules.specs.Orders.{Step}
-use Rattle.rules.specs.Day.{sumTo}
+use Rattle.records.specs.Layout.{lastHour}
+use Rattle.rules.specs.Hour.{when}
+use Rattle.rules.specs.Day.{changeHour, sumTo}
+use Rattle.rules.proofs.Tests.{by-eq}
 use Rattle.rules.proofs.BoundsLaws.{product-le}
 use Rattle.rules.proofs.DualityLaws.{value, cost}
 use Rattle.pricing.specs.Curves.{TradesOf}
-use Rattle.places.specs.Layout.{lastPlace}
-use Rattle.places.specs.Hours.{timesIn}
+use Rattle.places.specs.Layout.{lastPlace, changeRow}
+use Rattle.places.specs.Hours.{timesIn, ofHour}
 use Rattle.places.specs.Steps.{stepsAt}
 use Rattle.places.proofs.StepLaws.{mid-slice, steps-next}
-use Rattle.clearing.specs.Publish.{mostWorth, HourDone, HourPut, TradersSized, HoursDone, salesAt, buysAt, inTurn, getsAt}
+use Rattle.clearing.specs.Publish.{mostWorth, HourDone, HourPut, TradersSized, HoursDone, WhereCounted, salesAt, buysAt, inTurn, getsAt}
 use Rattle.clearing.proofs.WorthLaws.{trades-fit}
 
 -- what is put into a part stands there
@@ -37,6 +43,32 @@ hour-put sides prices quantities from to sales purchases price before out v c h 
       sameLength = same-len-mid from (to - from) before out (n ∙ sym (mid-len from to before k));
       front = take-put from (to - from) before out (omega arith);
       done = rw (slice-put from to before out h k n, ← (mid-slice from to sides h), ← (mid-slice from to prices h), ← (mid-slice from to quantities h)) d;
+    }
+
+-- HOW OFTEN AN HOUR COUNTS, by its row
+pub change-times : (often row : ℕ) → row ≡ changeRow → often ≡ timesIn often (row + 1)
+change-times often row e = rw e
+
+pub other-times : (often row : ℕ) → (row ≡ changeRow → ⊥) → _≡_ {A = ℕ} 1 (timesIn often (row + 1))
+other-times often row other = rw (ne-eqb (row + 1) changeHour (λ e. other (omega arith)))
+
+-- a column with hour 3 taken out, and one with it left
+pub change-out : (often : ℕ) (column : List ℕ) → length column ≡ lastHour → often ≡ 0 → WhereCounted often column (set column changeRow 0)
+change-out often column size none =
+    record {
+      size = length-set column changeRow 0 ∙ size;
+      are = λ h first last.
+          by-eq (λ t. ofHour (set column changeRow 0) h ≡ when (not (eqb (cond t often 1) 0)) (ofHour column h)) h changeHour
+          (λ e. rw (e, none) (getD-set-same column changeRow 0 0 (omega arith)))
+          (λ other. getD-set-other column changeRow (h - 1) 0 0 (omega arith));
+    }
+
+pub change-left : (often : ℕ) (column : List ℕ) → length column ≡ lastHour → (often ≡ 0 → ⊥) → WhereCounted often column column
+change-left often column size some =
+    record {
+      size = size;
+      are = λ h first last.
+          by-eq (λ t. ofHour column h ≡ when (not (eqb (cond t often 1) 0)) (ofHour column h)) h changeHour (λ e. rw (ne-eqb often 0 some)) (λ other. refl);
     }
 
 -- HOUR AFTER HOUR

@@ -8,7 +8,7 @@ use native.Mathlib.Omega.{arith}
 use lib.Dec.{eqb}
 use lib.ListN.{length, take, getD}
 use lib.Seq.{ext-getD, take-all, getD-take, length-take-le}
-use Rattle.records.specs.Records.{recordCount, blockAt}
+use Rattle.records.specs.Records.{recordCount, dayHours, blockAt}
 use Rattle.book.specs.Chains.{blockOrder}
 use Rattle.book.specs.Refusals.{Accepted}
 use Rattle.rules.specs.Orders.{Step, Block}
@@ -25,7 +25,7 @@ use Rattle.orders.proofs.RecordLaws.{blocks-all}
 use Rattle.orders.proofs.FrontLaws.{step-records-front, block-records-front, blocks-in-front}
 use Rattle.orders.proofs.HourLaws.{hour-from-columns}
 use Rattle.orders.proofs.PlaceLaws.{block-place}
-use Rattle.orders.proofs.BridgeLaws.{blocks-from-columns, prices-in-range, hours-in-range}
+use Rattle.orders.proofs.BridgeLaws.{blocks-from-columns, day-hours-read, prices-in-range, hours-in-range}
 use Rattle.places.specs.Layout.{mostQuantity}
 use Rattle.places.specs.Hours.{FirstSmall, timesIn, sumOver, ofHour}
 use Rattle.places.specs.Steps.{stepsAt}
@@ -141,10 +141,19 @@ module _ (b ends records sides prices quantities brecords bsides bhours bprices 
   unfolding executedIn
   gets-are h first last = rw (steps-are h first last, sales-are h, purchases-are h, of .pricesAre h record { first = first; last = last })
 
-  module _ (often : ℕ) (counts : often ≡ weight (dayFrom b .hours) changeHour) (values : List ℕ) (v c wv wc : ℕ)
+  module _ (often day : ℕ) (on : dayHours b ≡ day) (weighs : often ≡ weight day changeHour) (values : List ℕ) (v c wv wc : ℕ)
       (hours : HoursDone often ends (stepsAt ends sides prices quantities) (salesAt bsides bhours bquantities set) (buysAt bsides bhours bquantities set)
       (ofHour (found .prices)) 24 values v c)
-      (worth : WorthOf (dayFrom b .hours) bsides bhours bprices bquantities set wv wc) where
+      (worth-on : WorthOf day bsides bhours bprices bquantities set wv wc) where
+    same-day : day ≡ dayFrom b .hours
+    same-day = sym (day-hours-read b ∙ on)
+
+    counts : often ≡ weight (dayFrom b .hours) changeHour
+    counts = rw same-day at weighs
+
+    worth : WorthOf (dayFrom b .hours) bsides bhours bprices bquantities set wv wc
+    worth = rw same-day at worth-on
+
     values-are : take (getD ends 24 0) values ≡ executedByHour b 24
     unfolding executedByHour
     values-are = hours .gets ∙ inTurn-same 24 gets (executedIn b) gets-are

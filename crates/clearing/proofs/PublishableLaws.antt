@@ -50,15 +50,15 @@ module _ (b : List ℕ) (a : Accepted b) where
           quantitiesFit = λ i k. step-place b ends records sides prices quantities columns a i k .quantityRange .1;
         }
 
-  pub publishable : (steps : Steps) (blocks : Blocks) (day : code-day.Day) (count : ℕ) (result : List ℕ) → BlocksOf b blocks →
-      DayOf (dayFrom b) (outcome (dayFrom b)) day → count ≡ recordCount b → length result ≡ 196 + 4 * count →
+  pub publishable : (steps : Steps) (blocks : Blocks) (day : code-day.Day) (day-of count : ℕ) (result : List ℕ) → BlocksOf b blocks →
+      DayOf (dayFrom b) (outcome (dayFrom b)) day → dayHours b ≡ day-of → count ≡ recordCount b → length result ≡ 196 + 4 * count →
       getD (steps .ends) 24 0 ≤ length (steps .records) → StepsSized (steps .ends) (steps .sides) (steps .prices) (steps .quantities) →
-      Publishable (dayHours b) count steps blocks day result
-  publishable steps blocks day count result c d same size lr sized =
+      Publishable day-of count steps blocks day result
+  publishable steps blocks day day-of count result c d on same size lr sized =
       let place = block-place b (blocks .count) (blocks .records) (blocks .sides) (blocks .hours) (blocks .prices) (blocks .quantities) c a in
       let n = record-count b a in
       record {
-        short = day-hours b a .1;
+        short = rw (← on) (day-hours b a .1);
         stepsFit = sized;
         inRecords = lr;
         fewBlocks = c .few;

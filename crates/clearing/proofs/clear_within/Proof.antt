@@ -3,6 +3,8 @@ use Prim.Native.Nat.{_≤_}
 use native.Mathlib.Omega.{arith}
 use mathlib.Core.Path.{_≡_, sym}
 use lib.ListN.{length, getD}
+use Rattle.records.specs.Records.{dayHours}
+use Rattle.book.proofs.Accepted.{day-hours}
 use Rattle.orders.proofs.HourLaws.{ends-fit}
 use Rattle.places.specs.Layout.{hourListSize}
 use Rattle.places.specs.Steps.{StepsSized}
@@ -15,7 +17,7 @@ use Rattle.clearing.proofs.clear_within.Tie as tie
 
 -- THE STATES on the way: the start behind the tables, these behind the set found
 abbrev start : tie.After-prepare → tie.Start
-start c = c .before .before .before .before .before .before .before .before .before .before .before .before .before .before .before
+start c = c .before .before .before .before .before .before .before .before .before .before .before .before .before .before .before .before
 
 abbrev prepared : tie.After-find → tie.After-prepare
 prepared c = c .before .before .before .before .before .before .before .before .before .before .before .before .before .before .before .before
@@ -47,6 +49,13 @@ steps-in s =
 hours-size : (m : tie.After-prepare) → length (m .prepare .result .hours) ≡ hourListSize
 hours-size m = search needs
 
+-- the hours of the day are the book's
+day-is : (m : tie.After-prepare) → dayHours (start m .args .book .now) ≡ m .before .before .before .before .before .before .before .before .before .before .before .day-hours .result
+day-is m = sym (m .before .before .before .before .before .before .before .before .before .before .before .day-hours .ensures)
+
+day-hours-requires : tie.Need-day-hours-requires
+day-hours-requires c κs = search needs
+
 record-count-requires : tie.Need-record-count-requires
 record-count-requires c κs = search needs
 
@@ -64,11 +73,12 @@ slice-aggregate-prepare-3 c = search needs
 
 prepare-requires : tie.Need-prepare-requires
 prepare-requires c κs =
-    let s = c .before .before .before .before .before .before .before .before .before .before .before .before .before .before in
+    let s = c .before .before .before .before .before .before .before .before .before .before .before .before .before .before .before in
     let h = s .pre .0 in
-    let t = s .pre .1 in (
-      steps-held _ _ _ _ _ _ (h .stepsAre) (size-sides s) (size-prices s) (size-quantities s),
-      (blocks-held _ _ _ _ _ _ _ (h .blocksAre) (h .accepted), ((t .0, t .1, t .2), t .3)),
+    let t = s .pre .1 in
+    let day = c .before .before .before .before .before .before .before .before .before .before .day-hours .ensures in (
+      rw day (day-hours _ (h .accepted) .1),
+      (steps-held _ _ _ _ _ _ (h .stepsAre) (size-sides s) (size-prices s) (size-quantities s), (blocks-held _ _ _ _ _ _ _ (h .blocksAre) (h .accepted), ((t .0, t .1, t .2), t .3))),
     )
 
 slice-aggregate-find : tie.Need-slice-aggregate-find
@@ -104,11 +114,11 @@ publish-requires c κs =
     let m = prepared best in
     let s = start m in
     let h = s .pre .0 in
-    let ready = m .prepare .ensures .1 _ _ (h .accepted) (h .stepsAre) (h .blocksAre) in
+    let ready = m .prepare .ensures .1 _ _ (h .accepted) (day-is m) (h .stepsAre) (h .blocksAre) in
     let steps = columns-steps _ _ _ _ _ _ (h .stepsAre) (h .accepted) in
     let is = best .find .ensures _ (ready .p) (ready .rest) steps (ready .known) (ready .turning) in
     let e = m .before .before .before .before .before .before .before .before .before .before .record-count .ensures in
-    publishable _ (h .accepted) _ _ _ _ _ (h .blocksAre) (is .2) e (omega (arith, h .buffer, e)) (omega (arith, ends-in s, size-records s)) (steps-in s)
+    publishable _ (h .accepted) _ _ _ _ _ _ (h .blocksAre) (is .2) (day-is m) e (omega (arith, h .buffer, e)) (omega (arith, ends-in s, size-records s)) (steps-in s)
 
 same-length : tie.Need-same-length
 same-length c = search needs
@@ -124,16 +134,17 @@ returns c =
     let best = c .before .before .before .before in
     let m = prepared best in
     let h = start m .pre .0 in
-    let ready = m .prepare .ensures .1 _ _ (h .accepted) (h .stepsAre) (h .blocksAre) in
+    let ready = m .prepare .ensures .1 _ _ (h .accepted) (day-is m) (h .stepsAre) (h .blocksAre) in
     let steps = columns-steps _ _ _ _ _ _ (h .stepsAre) (h .accepted) in
     let is = best .find .ensures _ (ready .p) (ready .rest) steps (ready .known) (ready .turning) in
     let e = m .before .before .before .before .before .before .before .before .before .before .record-count .ensures in
-    c .before .before .publish .ensures _ (h .accepted) (h .stepsAre) (h .blocksAre) (is .0) (is .2) e
+    c .before .before .publish .ensures _ (h .accepted) (day-is m) (h .stepsAre) (h .blocksAre) (is .0) (is .2) e
 
 pub clear-within-spec : {M : Type 1} → statement M
 clear-within-spec =
     tie.close
     (tie.spec
+    day-hours-requires
     record-count-requires
     cast-count
     slice-aggregate-prepare

@@ -8,14 +8,14 @@ use Rattle.clearing.proofs.publish.blocks_worth.Statement.{statement}
 use Rattle.clearing.proofs.publish.blocks_worth.Tie as tie
 
 abbrev Inv-loop : tie.InvT-loop
-Inv-loop sides hours prices quantities set sums₀ rest₀ i₀ sums rest i =
-    Worthed sides hours prices quantities set (sums .value) (sums .cost) rest i
+Inv-loop day sides hours prices quantities set sums₀ rest₀ i₀ sums rest i =
+    Worthed day sides hours prices quantities set (sums .value) (sums .cost) rest i
 
 abbrev μ-loop : tie.MeasureT-loop
-μ-loop sides hours prices quantities set sums₀ rest₀ i₀ sums rest i = length sides - i
+μ-loop day sides hours prices quantities set sums₀ rest₀ i₀ sums rest i = length sides - i
 
 loop-holds : tie.Need-loop-holds Inv-loop μ-loop
-loop-holds c = worthed-none _ _ _ _ _
+loop-holds c = worthed-none _ _ _ _ _ _
 
 mul-block-worth : tie.Need-mul-block-worth Inv-loop μ-loop
 mul-block-worth c = search needs
@@ -39,7 +39,7 @@ block-worth-requires : tie.Need-block-worth-requires Inv-loop μ-loop
 block-worth-requires c κs =
     let v = c .before .before .before .before in
     let pre = v .before .before .before .before .before .pre in
-    (pre .2 (v .loop .i), pre .0 .quantitiesFit (v .loop .i))
+    (pre .0, pre .3 (v .loop .i), pre .1 .quantitiesFit (v .loop .i))
 
 shared-slice-read-add : tie.Need-shared-slice-read-add Inv-loop μ-loop
 shared-slice-read-add c = search needs
@@ -49,8 +49,8 @@ add-requires c κs =
     let v = c .before .before .before .before .before .before in
     let pre = v .before .before .before .before .before .pre in
     let k = v .loop .inv in (
-      omega (arith, k .valueFits, k .inside, pre .0 .few),
-      omega (arith, k .costFits, k .inside, pre .0 .few),
+      omega (arith, k .valueFits, k .inside, pre .1 .few),
+      omega (arith, k .costFits, k .inside, pre .1 .few),
       omega (arith, c .before .block-worth .ensures .1),
     )
 
@@ -65,13 +65,13 @@ loop-again c =
     let v = c .before .before .before .before .before .before .before in
     let pre = v .before .before .before .before .before .pre in
     let w = c .before .before .block-worth .ensures in
-    worthed-next _ _ _ _ (pre .0) (pre .1) _ _ _ _ (v .loop .i) _ _ _ (v .loop .inv)
+    worthed-next _ _ _ _ _ (pre .1) (pre .2) _ _ _ _ (v .loop .i) _ _ _ (v .loop .inv)
     (c .before .before .before .before .before .before .loop-test .taken) (w .1) (w .0) (c .add .ensures .0) (c .add .ensures .1)
 
 returns : tie.Need-returns Inv-loop μ-loop
 returns c =
     let pre = c .before .before .before .before .before .before .pre in
-    worthed-all _ _ _ _ (pre .0) (pre .1) _ _ _ _ _ (c .before .loop .inv) (c .loop-test .left)
+    worthed-all _ _ _ _ _ (pre .1) (pre .2) _ _ _ _ _ (c .before .loop .inv) (c .loop-test .left)
 
 pub blocks-worth-spec : {M : Type 1} → statement M
 blocks-worth-spec =

@@ -1,31 +1,43 @@
 -- `clearing::publish::fill_hours` meets its contract: the hours before h are done. Assumes nothing.
-use Prim.Native.Nat.{_+_, _-_, _≤_}
+use Prim.Native.Nat.{_+_, _-_, _*_, _≤_}
 use mathlib.Core.Path.{_≡_, refl, _∙_}
 use native.Mathlib.Omega.{arith}
 use lib.ListN.{length}
 use Rattle.places.specs.Hours.{ofHour}
 use Rattle.places.specs.Steps.{stepsAt}
 use Rattle.places.proofs.StepLaws.{hour-inside, hour-part}
-use Rattle.clearing.specs.Publish.{HoursDone, salesAt, buysAt}
+use Rattle.rules.proofs.BoundsLaws.{product-le}
+use Rattle.clearing.specs.Publish.{mostWorth, HoursDone, salesAt, buysAt}
 use Rattle.clearing.proofs.HoursLaws.{trades-are, trades-most, hours-none, hours-more}
 use borrow.Author.Needs.{needs}
 use Rattle.clearing.proofs.publish.fill_hours.Statement.{statement}
 use Rattle.clearing.proofs.publish.fill_hours.Tie as tie
 
 abbrev Inv-loop : tie.InvT-loop
-Inv-loop bsides bhours bquantities set values₀ middles sides prices quantities ends value₀ cost₀ h₀ values value cost h =
+Inv-loop often bsides bhours bquantities set values₀ middles sides prices quantities ends value₀ cost₀ h₀ values value cost h =
     (length values ≡ length values₀) × (h ≤ 24)
-    × HoursDone ends (stepsAt ends sides prices quantities) (salesAt bsides bhours bquantities set) (buysAt bsides bhours bquantities set)
+    × HoursDone often ends (stepsAt ends sides prices quantities) (salesAt bsides bhours bquantities set) (buysAt bsides bhours bquantities set)
     (ofHour middles) h values value cost
 
 abbrev μ-loop : tie.MeasureT-loop
-μ-loop bsides bhours bquantities set values₀ middles sides prices quantities ends value₀ cost₀ h₀ values value cost h =
+μ-loop often bsides bhours bquantities set values₀ middles sides prices quantities ends value₀ cost₀ h₀ values value cost h =
     24 - h
+
+-- the start behind an hour put
+abbrev begun : tie.After-slice-known2 Inv-loop μ-loop → tie.Start Inv-loop μ-loop
+begun c = c .before .before .before .before .before .before .before .before .before .before .before .before .before .before .before .before .before .before
+
+-- an hour's value and cost as it counts
+value-room : (c : tie.After-times-of Inv-loop μ-loop) → c .times-of .result * c .before .before .before .put-hour .result .value ≤ 2 * mostWorth
+value-room c = product-le _ _ 2 mostWorth (c .times-of .ensures .1) (c .before .before .before .put-hour .ensures .done .valueFits)
+
+cost-room : (c : tie.After-times-of Inv-loop μ-loop) → c .times-of .result * c .before .before .before .put-hour .result .cost ≤ 2 * mostWorth
+cost-room c = product-le _ _ 2 mostWorth (c .times-of .ensures .1) (c .before .before .before .put-hour .ensures .done .costFits)
 
 loop-holds : tie.Need-loop-holds Inv-loop μ-loop
 loop-holds c =
     let s = c .before .before .before .before .before .before .before .before in
-    (refl, omega arith, hours-none _ _ _ _ _ _ _ _ (s .pre .0 .start))
+    (refl, omega arith, hours-none _ (s .pre .0) _ _ _ _ _ _ _ _ (s .pre .1 .start))
 
 mul-from : tie.Need-mul-from Inv-loop μ-loop
 mul-from c = search needs
@@ -78,15 +90,28 @@ put-hour-requires c κs =
     let v = w .before .before in
     let h = w .before .loop-test .taken in
     let s = v .before .before .before .before .before .before .before .before .before in
-    let t = trades-most _ _ _ _ _ _ _ (s .pre .1) (w .trades-of .ensures) in
-    let inside = hour-inside _ _ _ _ (v .loop .h) (s .pre .0) h in
-    (hour-part _ _ _ _ (v .loop .h) (s .pre .0) h, omega (arith, s .pre .3, v .loop .inv .0), s .pre .2 (v .loop .h) h, t .0, t .1)
+    let t = trades-most _ _ _ _ _ _ _ (s .pre .2) (w .trades-of .ensures) in
+    let inside = hour-inside _ _ _ _ (v .loop .h) (s .pre .1) h in
+    (hour-part _ _ _ _ (v .loop .h) (s .pre .1) h, omega (arith, s .pre .4, v .loop .inv .0), s .pre .3 (v .loop .h) h, t .0, t .1)
+
+times-of-requires : tie.Need-times-of-requires Inv-loop μ-loop
+times-of-requires c κs = begun c .pre .0
+
+mul-value : tie.Need-mul-value Inv-loop μ-loop
+mul-value c = record { fits = omega (arith, value-room (c .before)) }
 
 add-value : tie.Need-add-value Inv-loop μ-loop
-add-value c = search needs
+add-value c =
+    let v = c .before .before .before .before .before .before .before .before .before .before .before .loop .inv in
+    record { fits = omega (arith, value-room (c .before), v .1, v .2 .valueFits) }
+
+mul-cost : tie.Need-mul-cost Inv-loop μ-loop
+mul-cost c = record { fits = omega (arith, cost-room (c .before .before)) }
 
 add-cost : tie.Need-add-cost Inv-loop μ-loop
-add-cost c = search needs
+add-cost c =
+    let v = c .before .before .before .before .before .before .before .before .before .before .before .before .loop .inv in
+    record { fits = omega (arith, cost-room (c .before .before), v .1, v .2 .costFits) }
 
 add-h : tie.Need-add-h Inv-loop μ-loop
 add-h c = search needs
@@ -96,7 +121,8 @@ loop-less c = search needs
 
 loop-again : tie.Need-loop-again Inv-loop μ-loop
 loop-again c =
-    let p = c .before .before .before .before in
+    let n = c .before .before in
+    let p = n .before .before .before in
     let w = p .before .before .before .before .before in
     let v = w .before .before in
     let h = w .before .loop-test .taken in
@@ -105,7 +131,8 @@ loop-again c =
     let one : v .loop .h + 1 - 1 ≡ v .loop .h = omega arith in (
       p .put-hour .ensures .sameLength ∙ v .loop .inv .0,
       omega arith,
-      hours-more _ _ _ _ _ _ _ (v .loop .h) _ _ _ _ _ _ _ _ _ h (t .0) (t .1) (rw one) (s .pre .0 .rise (v .loop .h) h) (v .loop .inv .2)
+      hours-more _ (s .pre .0) _ _ _ _ _ _ _ (v .loop .h) _ _ _ _ _ _ _ _ _ _ h (n .times-of .ensures .0) (n .times-of .ensures .1) (t .0) (t .1) (rw one)
+          (s .pre .1 .rise (v .loop .h) h) (v .loop .inv .2)
           (p .put-hour .ensures),
     )
 
@@ -141,7 +168,10 @@ fill-hours-spec =
     mul-put-hour
     array-read-put-hour
     put-hour-requires
+    times-of-requires
+    mul-value
     add-value
+    mul-cost
     add-cost
     add-h
     loop-less

@@ -67,6 +67,7 @@ publish-columns-requires : tie.Need-publish-columns-requires
 publish-columns-requires c κs =
     let s = start (c .before .before .before .before .before .before) in
     let f = fronts s in (
+      s .pre .short,
       s .pre .stepsFit,
       s .pre .inRecords,
       fronts-sized f (s .pre .blockQuantitiesFit),
@@ -84,8 +85,8 @@ returns : tie.Need-returns
 returns c =
     let call = c .before .before in
     let f = fronts (start (call .before .before .before .before .before .before .before)) in
-    λ b a steps blocks chosen day same.
-    call .publish-columns .ensures b a steps (fronts-columns f b blocks) (fronts-chosen f _ _ chosen) day same
+    λ b a hours steps blocks chosen day same.
+    call .publish-columns .ensures b a hours steps (fronts-columns f b blocks) (fronts-chosen f _ _ chosen) day same
 
 pub publish-spec : {M : Type 1} → statement M
 publish-spec =
