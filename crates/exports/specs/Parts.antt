@@ -8,11 +8,11 @@ use Rattle.text.specs.Buffer.{splice}
 use Rattle.pricing.specs.declared.HourAnswer.{HourAnswer}
 use Rattle.pricing.specs.declared.HourAnswer.the-variants.{Cleared, NotClearing, Refused}
 
--- What part 0 says of an hour that does not clear: ours.
+-- What part 0 says of an hour that does not clear: ours, and no refusal, since those are bytes.
 abbrev pub notClearing : ℕ
-notClearing = 9
+notClearing = 256
 
--- Part 0 says which answer it is: 0 cleared, 9 not clearing (ours), else the refusal's number. Parts 1 to 3 are L, H and the price where the hour cleared.
+-- Part 0 says which answer it is: 0 cleared, 256 not clearing, else the refusal's number. Parts 1 to 3 are L, H and the price where the hour cleared.
 unfoldable pub answerPart : HourAnswer → ℕ → ℕ
 answerPart (Cleared low high price) part = cond (eqb part 1) low (cond (eqb part 2) high (cond (eqb part 3) price 0))
 answerPart NotClearing part = cond (eqb part 0) notClearing 0

@@ -25,8 +25,8 @@ const HIGH: u32 = 2;
 
 const PRICE: u32 = 3;
 
-// What the first part says of an hour that does not clear.
-const NOT_CLEARING: u32 = 9;
+// What the first part says of an hour that does not clear: no refusal, since those are bytes.
+const NOT_CLEARING: u32 = 256;
 
 // The book's refusal, 0 for an accepted book.
 #[no_mangle]

@@ -12,11 +12,12 @@ use Rattle.records.specs.Records.{recordCount, number, blockAt}
 use Rattle.book.specs.Chains.{blockOrder}
 use Rattle.book.specs.Refusals.{refusal, Accepted}
 use Rattle.book.proofs.Accepted.{accepted, accepted-zero, record-count}
-use Rattle.rules.specs.Day.{traded}
+use Rattle.rules.specs.Day.{isCounted, setPrices, traded}
+use Rattle.rules.proofs.CurveLaws.{when-le}
 use Rattle.rules.specs.Outcome.{published, outcome}
 use Rattle.rules.proofs.BoundsLaws.{price-small, welfare-small, traded-small}
 use Rattle.rules.proofs.Tests.{by-eq}
-use Rattle.orders.specs.Bridge.{blockFrom, ordersOf, dayFrom}
+use Rattle.orders.specs.Bridge.{blockFrom, blockOn, ordersOf, dayFrom}
 use Rattle.orders.specs.Columns.{blockRecords}
 use Rattle.orders.proofs.BridgeLaws.{day-blocks, prices-in-range}
 use Rattle.orders.proofs.RecordLaws.{blocks-all, block-records-fit}
@@ -45,7 +46,7 @@ hours-same (suc n) price price′ traded traded′ p t =
     )
 
 -- of blocks, by their records
-blocks-same : (b result l : List ℕ) → blockLinesIn b result l ≡ blockLines (map (blockFrom b) l) (map (takenAt b result) l)
+blocks-same : (b result l : List ℕ) → blockLinesIn b result l ≡ blockLines (map (blockOn b) l) (map (takenAt b result) l)
 unfolding blockLinesIn blockLines blockFrom blockAt
 blocks-same b result [] = refl
 blocks-same b result (k ∷ l) = rw (blocks-same b result l)
@@ -162,7 +163,9 @@ module _ (b : List ℕ) (bytes : (i : ℕ) → byteAt b i < 256) where
     hour-small h first last =
         let p = price-small (dayFrom b) (prices-in-range b a) (publishedBlocks b) h in
         let t = traded-small (dayFrom b) (small-day b a) (outcome (dayFrom b)) h in
-        (rw (result-says b a .priceRead h first last) (omega arith), rw (result-says b a .tradedRead h first last) t)
+        let q = when-le (isCounted (dayFrom b .hours) h) (setPrices (dayFrom b) (publishedBlocks b) h) in
+        let u = when-le (isCounted (dayFrom b .hours) h) (traded (dayFrom b) (publishedBlocks b) h) in
+        (rw (result-says b a .priceRead h first last) (omega arith), rw (result-says b a .tradedRead h first last) (omega (arith, t, u)))
 
     welfare-digits : length (decimal (welfareIn (resultBytes b))) ≤ 15
     welfare-digits =
