@@ -4,8 +4,9 @@
 use crate::twin::by_value::book::chains::survey_of;
 
 mod bounds; // how large a book and its fields may be
-mod causes; // the causes 1 to 6, and the first of them that holds
+mod causes; // the causes 1 to 6 and 9, and the first of them that holds
 mod chains; // records that hang together by `next`
+pub mod hours; // which hours count on their day, and how often
 mod ranges; // the ranges of a record's fields
 
 pub use bounds::MAX_PRICE;
@@ -34,7 +35,7 @@ pub enum Reading {
     Refused(u8),
 }
 
-// Whether a book is accepted, and if not the lowest number 1 to 6 whose cause holds.
+// Whether a book is accepted, and if not the lowest of the numbers 1 to 6 and 9 whose cause holds.
 pub fn read(book: &[u8]) -> Reading
 {
     if causes::has_wrong_size(book) {

@@ -8,6 +8,7 @@ use crate::twin::by_value::orders::Steps;
 use crate::twin::by_value::orders::blocks_of;
 use crate::twin::by_value::orders::layout::HOURS;
 use crate::twin::by_value::orders::steps_of;
+use crate::twin::by_value::records::day_hours;
 use crate::twin::by_value::records::record_count;
 use crate::twin::by_value::result::Clearing;
 use crate::twin::by_value::result::RECORD_ROW;
@@ -36,12 +37,22 @@ fn clear_within(
     result: &mut [u8],
 )
 {
+    let day = day_hours(book);
     let count = record_count(book) as usize;
     let sides = steps.sides;
     let prices = steps.prices;
     let quantities = steps.quantities;
     let ends = steps.ends;
-    let prepared = prepare(&sides, &prices, &quantities, ends, blocks, unit_prices, gap);
+    let prepared = prepare(
+        day,
+        &sides,
+        &prices,
+        &quantities,
+        ends,
+        blocks,
+        unit_prices,
+        gap,
+    );
     let hours = prepared.hours;
     let columns = prepared.columns;
     let best = find(
@@ -55,7 +66,7 @@ fn clear_within(
         &ends,
         blocks.count as u32,
     );
-    publish(count, steps, blocks, best.set, best.day, result);
+    publish(day, count, steps, blocks, best.set, best.day, result);
 }
 
 // The same in small tables, where the blocks reach no further.

@@ -3,11 +3,13 @@
 use crate::twin::by_value::pricing::blocks::trades_of;
 use crate::twin::by_value::pricing::hour::answer_of;
 use crate::twin::by_value::book::Reading;
+use crate::twin::by_value::book::hours::is_counted;
 use crate::twin::by_value::book::read;
 use crate::twin::by_value::orders::blocks_of;
 use crate::twin::by_value::orders::layout::BLOCK_PLACES;
 use crate::twin::by_value::orders::steps_of;
 use crate::twin::by_value::records::LAST_HOUR;
+use crate::twin::by_value::records::day_hours;
 
 pub mod blocks;
 pub mod execution;
@@ -28,6 +30,12 @@ pub enum HourAnswer {
     Cleared { low: u32, high: u32, price: u32 },
     NotClearing,
     Refused(u8),
+}
+
+// Whether a day of so many hours has the hour.
+fn has_hour(day: u8, hour: u32) -> bool
+{
+    (1 <= hour) & (hour <= LAST_HOUR) & is_counted(day, hour)
 }
 
 // Whether the set names a block position that is not there: a bit at or past the count.
@@ -84,7 +92,7 @@ pub fn price(book: &[u8], set: u32, hour: u32) -> HourAnswer
     match reading {
         Reading::Refused(number) => HourAnswer::Refused(number),
         Reading::Accepted { steps: _, blocks } => {
-            if (hour < 1) | (LAST_HOUR < hour) | names_absent(set, blocks as u32) {
+            if !has_hour(day_hours(book), hour) | names_absent(set, blocks as u32) {
                 HourAnswer::Refused(WRONG_CALL)
             } else {
                 answer_in(book, hour, net_in(book, set, hour))

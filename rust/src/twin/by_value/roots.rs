@@ -1,21 +1,24 @@
 // Written by `twin_source` from crates/roots/src/lib.rt.
 // The root prices, those that the search goes by. Any prices are right, so only safety is proved here; how many branches the search drops depends on them.
 // Assumes nothing.
-use crate::twin::by_value::roots::losses::empty_loss;
+use crate::twin::by_value::roots::losses::gains_at;
+use crate::twin::by_value::roots::losses::gaps_from;
 use crate::twin::by_value::roots::moves::MOVES;
 use crate::twin::by_value::roots::moves::ROUND;
 use crate::twin::by_value::roots::moves::Trail;
 use crate::twin::by_value::roots::moves::moved_on;
+use crate::twin::by_value::book::hours::change_weight;
+use crate::twin::by_value::book::hours::counted_hours;
 use crate::twin::by_value::places::cells::prices_at;
 use crate::twin::by_value::places::layout::HOURS;
 use crate::twin::by_value::places::layout::MOST_BLOCKS;
-use crate::twin::by_value::records::hour_count;
 
 pub mod losses; // what the empty set loses at given prices
 pub mod moves; // prices on their way
 
-// What each block asks for over its hours: its price times their number.
+// What each block asks for over its hours: its price times their number, as they count.
 fn limits_of(
+    day: u8,
     count: usize,
     hours: [u32; MOST_BLOCKS],
     prices: [u32; MOST_BLOCKS],
@@ -24,15 +27,17 @@ fn limits_of(
     let mut limits = [0; MOST_BLOCKS];
     let mut i: usize = 0;
     while i < count {
-        limits[i] = prices[i] * hour_count(hours[i]);
+        limits[i] = prices[i] * counted_hours(day, hours[i]);
         i += 1;
     }
     limits
 }
 
-// The prices that the search goes by: the empty set's own, or those after 7, 14, .. 56 moves, where it loses least. Two sets' losses differ by the same at
-// all prices, so the published set loses least there too. Any prices are right.
+// The prices that the search goes by: the empty set's own, or those after 7, 14, .. 56 moves, where it loses least: what the blocks
+// would gain there and what the hours lose at its places, as they count on a day of so many hours. Two sets' losses differ by the same at all prices, so the
+// published set loses least there too. Any prices are right.
 pub fn root_prices(
+    day: u8,
     unit_prices: &[u32],
     off: [u32; HOURS],
     count: usize,
@@ -42,36 +47,30 @@ pub fn root_prices(
     quantities: [u32; MOST_BLOCKS],
 ) -> [u32; HOURS]
 {
-    let limits = limits_of(count, hours, prices);
+    let often = change_weight(day);
+    let limits = limits_of(day, count, hours, prices);
     let mut best = prices_at(unit_prices, off);
-    let mut least = empty_loss(
-        unit_prices,
-        off,
-        count,
-        sides,
-        hours,
-        limits,
-        quantities,
-        best,
-    );
+    let first_gains = gains_at(count, sides, hours, limits, quantities, best, often);
+    let mut least = first_gains + gaps_from(unit_prices, off, best, often);
     let mut trail = Trail {
         prices: best,
         sum: off,
     };
     let mut n: u32 = 1;
     while n < MOVES {
-        let next = moved_on(unit_prices, count, hours, limits, quantities, trail, n);
-        let root = next.prices;
-        let loss = empty_loss(
+        let next = moved_on(
             unit_prices,
-            off,
             count,
-            sides,
             hours,
             limits,
             quantities,
-            root,
+            trail,
+            n,
+            often,
         );
+        let root = next.prices;
+        let gains = gains_at(count, sides, hours, limits, quantities, root, often);
+        let loss = gains + gaps_from(unit_prices, off, root, often);
         if loss < least {
             best = root;
             least = loss;

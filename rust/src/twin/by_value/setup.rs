@@ -9,7 +9,9 @@ use crate::twin::by_value::setup::rows::fill_ranges;
 use crate::twin::by_value::setup::rows::fill_tables;
 use crate::twin::by_value::setup::rows::joined;
 use crate::twin::by_value::setup::twins::with_twins;
+use crate::twin::by_value::book::hours::change_weight;
 use crate::twin::by_value::orders::Blocks;
+use crate::twin::by_value::places::cells::counted_prices;
 use crate::twin::by_value::places::layout::BLOCK_LIST;
 use crate::twin::by_value::places::layout::HOUR_LIST;
 use crate::twin::by_value::places::layout::HOURS;
@@ -37,8 +39,9 @@ pub fn row_needed(blocks: Blocks) -> usize
     (largest(most) as usize) + LAST_AND_ABOVE
 }
 
-// All that the search is given, from the columns of a book's steps and blocks; unit_prices and gap are its two tables, a row of places for each hour.
+// All that the search is given on a day of so many hours, from the columns of a book's steps and blocks; unit_prices and gap are its two tables, a row of places for each hour.
 pub fn prepare(
+    day: u8,
     sides: &[u8],
     prices: &[u32],
     quantities: &[u32],
@@ -56,7 +59,7 @@ pub fn prepare(
     let off = traded_by_hour(count, block_sides, hours, amounts, false);
     let most = traded_by_hour(count, block_sides, hours, amounts, true);
     fill_tables(sides, prices, quantities, ends, off, most, unit_prices);
-    let root = root_prices(unit_prices, off, count, block_sides, hours, limits, amounts);
+    let root = root_prices(day, unit_prices, off, count, block_sides, hours, limits, amounts);
     let ranges = fill_ranges(
         sides,
         prices,
@@ -68,14 +71,16 @@ pub fn prepare(
         unit_prices,
         gap,
     );
-    let columns = block_columns(count, block_sides, hours, limits, amounts, root);
+    let often = change_weight(day);
+    let counted = counted_prices(root, often);
+    let columns = block_columns(day, count, block_sides, hours, limits, amounts, counted);
     let first = ranges.first;
     let last = ranges.last;
     let turn = ranges.turn;
     let wide = widened(columns);
     let traded = with_rows(count, wide);
     Prepared {
-        hours: joined(first, last, turn),
+        hours: joined(first, last, turn, often),
         columns: with_twins(count, traded),
     }
 }

@@ -5,8 +5,15 @@
 // The most records of a book, head included: R is 1 to 2,048.
 pub const MOST_RECORDS: u16 = 2048;
 
-// The hours of a day, in the head: 24.
-pub const NORMAL_HOURS: u8 = 24;
+// The hours of a day, in the head: 23 in spring, 25 in autumn, 24 on every other day.
+pub const SPRING_HOURS: u8 = 23;
+
+pub const AUTUMN_HOURS: u8 = 25;
+
+// The hour in which the clocks change, and what it is in a block's hours.
+pub const CHANGE_HOUR: u32 = 3;
+
+pub const CHANGE_BIT: u32 = 4;
 
 // The editions that there are, in the head: 1 and 2.
 pub const FIRST_EDITION: u8 = 1;

@@ -1,15 +1,17 @@
 // Written by `twin_source` from crates/book/src/causes.rt.
-// The causes for which a book by itself is refused, 1 to 6 (document 01, "Refused books and calls"), and the first of them that holds.
+// The causes for which a book by itself is refused, 1 to 6 (document 01, "Refused books and calls") and 9 (document 02), and the first of them that holds.
 // Assumes nothing.
 use crate::twin::by_value::book::Chain;
 use crate::twin::by_value::book::Surveyed;
+use crate::twin::by_value::book::bounds::AUTUMN_HOURS;
 use crate::twin::by_value::book::bounds::FIRST_EDITION;
 use crate::twin::by_value::book::bounds::LAST_EDITION;
 use crate::twin::by_value::book::bounds::MOST_BLOCKS;
 use crate::twin::by_value::book::bounds::MOST_RECORDS;
-use crate::twin::by_value::book::bounds::NORMAL_HOURS;
 use crate::twin::by_value::book::bounds::PORTFOLIO_NUMBERS;
+use crate::twin::by_value::book::bounds::SPRING_HOURS;
 use crate::twin::by_value::book::chains::counts_by_portfolio;
+use crate::twin::by_value::book::chains::is_uncounted_on;
 use crate::twin::by_value::book::ranges::is_within;
 use crate::twin::by_value::book::ranges::most_blocks_of_portfolio;
 use crate::twin::by_value::records::HEAD_REST_OFFSET;
@@ -33,7 +35,11 @@ pub fn has_wrong_size(book: &[u8]) -> bool
 // 2: the head.
 fn has_wrong_head(book: &[u8]) -> bool
 {
-    (day_hours(book) != NORMAL_HOURS)
+    !is_within(
+        SPRING_HOURS as u32,
+        day_hours(book) as u32,
+        AUTUMN_HOURS as u32,
+    )
         | !is_within(
             FIRST_EDITION as u32,
             edition_of(book) as u32,
@@ -63,6 +69,15 @@ fn has_crowded_portfolio(book: &[u8]) -> bool
     false
 }
 
+// 9: on a 23-hour day a step for hour 3, or a block with fewer than two counted hours.
+fn has_wrong_hours(book: &[u8]) -> bool
+{
+    if day_hours(book) != SPRING_HOURS {
+        return false;
+    }
+    is_uncounted_on(book, Chain::Steps) | is_uncounted_on(book, Chain::Blocks)
+}
+
 // One cause more: the number that those before it gave, else, where it holds, its own.
 fn next_found(before: u8, holds: bool, number: u8) -> u8
 {
@@ -81,5 +96,6 @@ pub fn refusal_of(book: &[u8], steps: Surveyed, blocks: Surveyed) -> u8
     let short = are_short(steps.length, blocks.length, record_count(book));
     let stray = next_found(outside, short, 5);
     let many = (MOST_BLOCKS < blocks.length) | has_crowded_portfolio(book);
-    next_found(stray, many, 6)
+    let crowded = next_found(stray, many, 6);
+    next_found(crowded, has_wrong_hours(book), 9)
 }

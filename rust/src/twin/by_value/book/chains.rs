@@ -5,6 +5,7 @@ use crate::twin::by_value::book::Chain;
 use crate::twin::by_value::book::Surveyed;
 use crate::twin::by_value::book::bounds::PORTFOLIO_NUMBERS;
 use crate::twin::by_value::book::ranges::is_out_of_range;
+use crate::twin::by_value::book::ranges::is_uncounted;
 use crate::twin::by_value::records::BLOCK_KIND;
 use crate::twin::by_value::records::STEP_KIND;
 use crate::twin::by_value::records::first_block;
@@ -79,6 +80,24 @@ pub fn survey_of(book: &[u8], chain: Chain) -> Surveyed
         outside,
         length,
     }
+}
+
+// Cause 9 along a chain, whatever its day.
+pub fn is_uncounted_on(book: &[u8], chain: Chain) -> bool
+{
+    let mut left = record_count(book);
+    let mut i = first_on(book, chain);
+    while 0 < left {
+        if i == 0 {
+            return false;
+        }
+        if is_uncounted(book, i) {
+            return true;
+        }
+        i = next_of(book, i);
+        left -= 1;
+    }
+    false
 }
 
 // How many records of a chain each portfolio has.

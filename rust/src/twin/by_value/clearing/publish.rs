@@ -1,16 +1,18 @@
 // Written by `twin_source` from crates/clearing/src/publish.rt.
 // The publication: what the steps of each hour get at its price, the welfare, and with them and the day the result's
 // bytes. Assumes nothing.
+use crate::twin::by_value::book::hours::change_weight;
+use crate::twin::by_value::book::hours::counted_hours;
 use crate::twin::by_value::orders::Blocks;
 use crate::twin::by_value::orders::Steps;
 use crate::twin::by_value::orders::layout::HOURS;
 use crate::twin::by_value::orders::layout::STEP_PLACES;
+use crate::twin::by_value::places::layout::CHANGE_ROW;
 use crate::twin::by_value::pricing::BIAS;
 use crate::twin::by_value::pricing::blocks::trades_of;
 use crate::twin::by_value::pricing::execution::amounts_at;
 use crate::twin::by_value::pricing::execution::less;
 use crate::twin::by_value::pricing::execution::share_out;
-use crate::twin::by_value::records::hour_count;
 use crate::twin::by_value::result::block_values;
 use crate::twin::by_value::result::with_rows;
 use crate::twin::by_value::result::write_result;
@@ -90,24 +92,31 @@ fn put_hour(
     )
 }
 
-// What a block is worth: its quantity times its limit over all its hours, if it is chosen (1 for yes).
-fn block_worth(chosen: u32, hours: u32, price: u32, quantity: u32) -> u64
+// What a block is worth on a day of so many hours: its quantity times its limit over all its hours, if it is chosen (1 for yes).
+fn block_worth(day: u8, chosen: u32, hours: u32, price: u32, quantity: u32) -> u64
 {
     if chosen == 1 {
-        let limit = price * hour_count(hours);
+        let limit = price * counted_hours(day, hours);
         return (quantity * limit) as u64;
     }
     0
 }
 
-// The value and the cost of the blocks that the set holds, the lowest bit for the first block.
-fn blocks_worth(sides: &[u8], hours: &[u32], prices: &[u32], quantities: &[u32], set: u32) -> Sums
+// The value and the cost of the blocks that the set holds, the lowest bit for the first block, on a day of so many hours.
+fn blocks_worth(
+    day: u8,
+    sides: &[u8],
+    hours: &[u32],
+    prices: &[u32],
+    quantities: &[u32],
+    set: u32,
+) -> Sums
 {
     let mut sums = Sums { value: 0, cost: 0 };
     let mut rest = set;
     let mut i: usize = 0;
     while i < sides.len() {
-        let worth = block_worth(rest % 2, hours[i], prices[i], quantities[i]);
+        let worth = block_worth(day, rest % 2, hours[i], prices[i], quantities[i]);
         sums = sums.add(sides[i], worth);
         rest = rest / 2;
         i += 1;
@@ -115,8 +124,19 @@ fn blocks_worth(sides: &[u8], hours: &[u32], prices: &[u32], quantities: &[u32],
     sums
 }
 
-// What the steps of each hour get, hour after hour, into values, and the value and the cost of all of it.
+// How often the hour of a row counts.
+fn times_of(row: usize, often: u32) -> u64
+{
+    if row == CHANGE_ROW {
+        often as u64
+    } else {
+        1
+    }
+}
+
+// What the steps of each hour get, hour after hour, into values, and the value and the cost of all of it, hour 3's so often.
 fn fill_hours(
+    often: u32,
     steps: Steps,
     bsides: &[u8],
     bhours: &[u32],
@@ -148,11 +168,22 @@ fn fill_hours(
             middles[h],
             values,
         );
-        value += sums.value;
-        cost += sums.cost;
+        let times = times_of(h, often);
+        value += times * sums.value;
+        cost += times * sums.cost;
         h += 1;
     }
     Sums { value, cost }
+}
+
+// A column of the hours with 0 for hour 3 where it does not count.
+fn where_counted(column: [u32; HOURS], often: u32) -> [u32; HOURS]
+{
+    let mut r = column;
+    if often == 0 {
+        r[CHANGE_ROW] = 0;
+    }
+    r
 }
 
 // The row of each record: a step's value, a block's quantity if the set holds it, else 0.
@@ -170,8 +201,9 @@ fn rows_of(
     with_rows(rows, records, values)
 }
 
-// The result out of the steps, the blocks' columns, the set and its day.
+// The result of a day of so many hours, out of the steps, the blocks' columns, the set and its day.
 fn publish_columns(
+    day: u8,
     count: usize,
     steps: Steps,
     brecords: &[u16],
@@ -180,17 +212,19 @@ fn publish_columns(
     bprices: &[u32],
     bquantities: &[u32],
     set: u32,
-    day: Day,
+    found: Day,
     result: &mut [u8],
 )
 {
     let records = steps.records;
     let ends = steps.ends;
     let n = ends[HOURS] as usize;
-    let middles = day.prices;
-    let traded = day.quantities;
+    let middles = found.prices;
+    let traded = found.quantities;
+    let often = change_weight(day);
     let mut values = [0; STEP_PLACES];
     let sums = fill_hours(
+        often,
         steps,
         bsides,
         bhours,
@@ -199,14 +233,24 @@ fn publish_columns(
         middles,
         &mut values,
     );
-    let worth = blocks_worth(bsides, bhours, bprices, bquantities, set);
+    let worth = blocks_worth(day, bsides, bhours, bprices, bquantities, set);
     let welfare = less(sums.value + worth.value, sums.cost + worth.cost);
     let rows = rows_of(&records[..n], &values[..n], brecords, bquantities, set);
-    write_result(result, count, welfare, middles, traded, &rows);
+    let price_column = where_counted(middles, often);
+    let traded_column = where_counted(traded, often);
+    write_result(result, count, welfare, price_column, traded_column, &rows);
 }
 
-// The result of a book of so many records: its steps, its blocks, the published set and its day.
-pub fn publish(count: usize, steps: Steps, blocks: Blocks, set: u32, day: Day, result: &mut [u8])
+// The result of a book of so many records on a day of so many hours: its steps, its blocks, the published set and its day.
+pub fn publish(
+    day: u8,
+    count: usize,
+    steps: Steps,
+    blocks: Blocks,
+    set: u32,
+    found: Day,
+    result: &mut [u8],
+)
 {
     let m = blocks.count;
     let brecords = blocks.records;
@@ -215,6 +259,7 @@ pub fn publish(count: usize, steps: Steps, blocks: Blocks, set: u32, day: Day, r
     let bprices = blocks.prices;
     let bquantities = blocks.quantities;
     publish_columns(
+        day,
         count,
         steps,
         &brecords[..m],
@@ -223,7 +268,7 @@ pub fn publish(count: usize, steps: Steps, blocks: Blocks, set: u32, day: Day, r
         &bprices[..m],
         &bquantities[..m],
         set,
-        day,
+        found,
         result,
     );
 }

@@ -2,18 +2,20 @@
 // What the tables have at the hours' places: gaps, prices, and the least gaps within reach. The price table has the unit price of the N before each
 // place: the price at a place is the middle of two neighbours. An hour that has a buy of 2 at 5000, a sell of 1 at 3000 and no block that buys has the row
 // 5000, 5000, 3000, 1, ..: at place 0 its price is 5000, at place 1 the middle of 5000 and 3000.
+use crate::twin::by_value::places::layout::CHANGE_ROW;
 use crate::twin::by_value::places::layout::HOURS;
 use crate::twin::by_value::places::numbers::larger;
 use crate::twin::by_value::places::numbers::smaller;
 
-// The gaps of all hours at their places, where each hour clears at its place.
+// Whether each hour clears at its place, and the sum of the gaps there.
 #[derive(Clone, Copy)]
 pub struct Gaps {
     pub clears: bool,
     pub sum: u64,
 }
 
-pub fn gaps_at(gap: &[u32], first: &[u32], last: &[u32], places: [u32; HOURS]) -> Gaps
+// The gaps of all hours at their places, each hour once.
+fn gaps_at(gap: &[u32], first: &[u32], last: &[u32], places: [u32; HOURS]) -> Gaps
 {
     let width = gap.len() / HOURS;
     let mut sum: u64 = 0;
@@ -50,8 +52,16 @@ pub fn prices_at(unit_prices: &[u32], places: [u32; HOURS]) -> [u32; HOURS]
     prices
 }
 
-// The sum of the hours' least gaps over the places from `from` to `to`.
-pub fn least_gaps(gap: &[u32], turn: &[u32], from: [u32; HOURS], to: [u32; HOURS]) -> u64
+// The prices as they count, hour 3's so often.
+pub fn counted_prices(prices: [u32; HOURS], often: u32) -> [u32; HOURS]
+{
+    let mut counted = prices;
+    counted[CHANGE_ROW] = often * prices[CHANGE_ROW];
+    counted
+}
+
+// The sum of the hours' least gaps over the places from `from` to `to`, each hour once.
+fn least_gaps(gap: &[u32], turn: &[u32], from: [u32; HOURS], to: [u32; HOURS]) -> u64
 {
     let width = gap.len() / HOURS;
     let mut sum: u64 = 0;
@@ -62,4 +72,47 @@ pub fn least_gaps(gap: &[u32], turn: &[u32], from: [u32; HOURS], to: [u32; HOURS
         h += 1;
     }
     sum
+}
+
+// A sum over the hours with hour 3's own number so often.
+fn counted_sum(sum: u64, own: u32, often: u32) -> u64
+{
+    sum - (own as u64) + (often as u64) * (own as u64)
+}
+
+// The gaps of all hours at their places, hour 3's so often.
+pub fn counted_gaps(
+    gap: &[u32],
+    first: &[u32],
+    last: &[u32],
+    places: [u32; HOURS],
+    often: u32,
+) -> Gaps
+{
+    let width = gap.len() / HOURS;
+    let once = gaps_at(gap, first, last, places);
+    if !once.clears {
+        return once;
+    }
+    let own = gap[CHANGE_ROW * width + (places[CHANGE_ROW] as usize)];
+    Gaps {
+        clears: true,
+        sum: counted_sum(once.sum, own, often),
+    }
+}
+
+// The sum of the hours' least gaps over the places from `from` to `to`, hour 3's so often.
+pub fn counted_least_gaps(
+    gap: &[u32],
+    turn: &[u32],
+    from: [u32; HOURS],
+    to: [u32; HOURS],
+    often: u32,
+) -> u64
+{
+    let width = gap.len() / HOURS;
+    let once = least_gaps(gap, turn, from, to);
+    let place = smaller(larger(turn[CHANGE_ROW], from[CHANGE_ROW]), to[CHANGE_ROW]);
+    let own = gap[CHANGE_ROW * width + (place as usize)];
+    counted_sum(once, own, often)
 }

@@ -7,6 +7,9 @@ use crate::twin::by_value::orders::layout::HOURS as DAY_HOURS;
 // The hours of a day: the rows of a table, and what a column of the hours holds.
 pub const HOURS: usize = DAY_HOURS;
 
+// The row of hour 3, in which the clocks change.
+pub const CHANGE_ROW: usize = 2;
+
 // The most blocks of a book: what a column of the blocks holds.
 pub const MOST_BLOCKS: usize = BLOCK_PLACES;
 
@@ -14,7 +17,7 @@ pub const MOST_BLOCKS: usize = BLOCK_PLACES;
 // What a row has beyond the places below the last that the blocks reach: that one, and the one above it.
 pub const LAST_AND_ABOVE: usize = 2;
 
-// THE HOURS: three columns in one list.
+// THE HOURS: three columns in one list, and a number of the day.
 // The first place at which an hour clears.
 pub const FIRST: usize = 0;
 
@@ -24,8 +27,11 @@ pub const LAST: usize = FIRST + HOURS;
 // The place of its least gap, where its gaps turn.
 pub const TURN: usize = LAST + HOURS;
 
-// The three columns.
-pub const HOUR_LIST: usize = TURN + HOURS;
+// How often hour 3 counts.
+pub const CHANGE: usize = TURN + HOURS;
+
+// The three columns and that number.
+pub const HOUR_LIST: usize = CHANGE + 1;
 
 // THE BLOCKS: eight columns and the rows in one list.
 // The side: 0 buys. It begins the list, and is read without its name: `blocks[i]`.
@@ -37,7 +43,7 @@ pub const RUNS: usize = SIDE + MOST_BLOCKS;
 // The quantity in each of these hours.
 pub const QUANTITY: usize = RUNS + MOST_BLOCKS;
 
-// The limit: the price times the number of hours.
+// The limit: the price times the number of hours, each as often as it counts.
 pub const LIMIT: usize = QUANTITY + MOST_BLOCKS;
 
 // What a block loses if taken.

@@ -1,6 +1,8 @@
 // Written by `twin_source` from crates/roots/src/moves.rt.
 // Prices on their way to those at which the blocks that gain are taken: a third of the way with each move, towards the prices at the average place so far.
+// Hour 3 counts `often` times.
 use crate::twin::by_value::places::added::moved;
+use crate::twin::by_value::places::cells::counted_prices;
 use crate::twin::by_value::places::cells::prices_at;
 use crate::twin::by_value::places::layout::HOURS;
 use crate::twin::by_value::places::layout::LAST_AND_ABOVE;
@@ -15,8 +17,8 @@ pub const ROUND: u32 = 7;
 // The moves of all rounds.
 pub const MOVES: u32 = 56;
 
-// A list of places with those added at which each block that gains at the prices is taken, and no other: a sell that gains moves its hours on, a buy that
-// does not.
+// A list of places with those added at which each block that gains at the prices, as they count, is taken, and no other: a sell that gains moves its hours
+// on, a buy that does not.
 pub fn added_places(
     sum: [u32; HOURS],
     count: usize,
@@ -24,12 +26,14 @@ pub fn added_places(
     limits: [u32; MOST_BLOCKS],
     quantities: [u32; MOST_BLOCKS],
     root: [u32; HOURS],
+    often: u32,
 ) -> [u32; HOURS]
 {
+    let counted = counted_prices(root, often);
     let mut places = sum;
     let mut i: usize = 0;
     while i < count {
-        let moves = limits[i] <= price_sum(&root, hours[i]);
+        let moves = limits[i] <= price_sum(&counted, hours[i]);
         let more = moved(places, hours[i], choose(moves, quantities[i], 0));
         places = more;
         i += 1;
@@ -87,6 +91,7 @@ pub fn moved_on(
     quantities: [u32; MOST_BLOCKS],
     trail: Trail,
     n: u32,
+    often: u32,
 ) -> Trail
 {
     let last = (unit_prices.len() / HOURS - LAST_AND_ABOVE) as u32;
@@ -94,7 +99,7 @@ pub fn moved_on(
     let mut sum = trail.sum;
     let mut k = n;
     while k < n + ROUND {
-        let more = added_places(sum, count, hours, limits, quantities, root);
+        let more = added_places(sum, count, hours, limits, quantities, root, often);
         let mean = averaged(more, k + 1, last);
         let there = prices_at(unit_prices, mean);
         let next = closer(root, there);

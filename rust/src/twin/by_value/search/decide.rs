@@ -3,8 +3,10 @@
 use crate::twin::by_value::search::Best;
 use crate::twin::by_value::search::Day;
 use crate::twin::by_value::search::Node;
-use crate::twin::by_value::places::cells::gaps_at;
+use crate::twin::by_value::places::cells::counted_gaps;
+use crate::twin::by_value::places::cells::counted_prices;
 use crate::twin::by_value::places::cells::prices_at;
+use crate::twin::by_value::places::layout::CHANGE;
 use crate::twin::by_value::places::layout::FIRST;
 use crate::twin::by_value::places::layout::LAST;
 use crate::twin::by_value::places::layout::TURN;
@@ -28,7 +30,8 @@ pub fn decide(
 ) -> Best
 {
     let places = node.places;
-    let gaps = gaps_at(gap, &hours[FIRST..LAST], &hours[LAST..TURN], places);
+    let often = hours[CHANGE];
+    let gaps = counted_gaps(gap, &hours[FIRST..LAST], &hours[LAST..TURN], places, often);
     if !gaps.clears {
         return best;
     }
@@ -37,7 +40,8 @@ pub fn decide(
         return best;
     }
     let middles = prices_at(unit_prices, places);
-    if !keeps_limits(blocks, count as usize, node.set, &middles, &middles) {
+    let counted = counted_prices(middles, often);
+    if !keeps_limits(blocks, count as usize, node.set, &counted, &counted) {
         return best;
     }
     let trades = set_trades(blocks, count as usize, node.set);

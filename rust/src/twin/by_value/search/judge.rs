@@ -1,11 +1,12 @@
 // Written by `twin_source` from crates/search/src/judge.rt.
 // A branch judged: whether it is dropped, and which of its undecided blocks are out.
 use crate::twin::by_value::search::Node;
-use crate::twin::by_value::places::cells::least_gaps;
+use crate::twin::by_value::places::cells::counted_least_gaps;
+use crate::twin::by_value::places::cells::counted_prices;
 use crate::twin::by_value::places::cells::prices_at;
 use crate::twin::by_value::places::layout::AGAINST;
+use crate::twin::by_value::places::layout::CHANGE;
 use crate::twin::by_value::places::layout::GAIN;
-use crate::twin::by_value::places::layout::HOUR_LIST;
 use crate::twin::by_value::places::layout::LIMIT;
 use crate::twin::by_value::places::layout::RUNS;
 use crate::twin::by_value::places::layout::TURN;
@@ -97,11 +98,12 @@ pub fn judge(
     }
     let from = reach.from;
     let to = reach.to;
-    if limit <= node.loss + least_gaps(gap, &hours[TURN..HOUR_LIST], from, to) {
+    let often = hours[CHANGE];
+    if limit <= node.loss + counted_least_gaps(gap, &hours[TURN..CHANGE], from, to, often) {
         return drop;
     }
-    let high = prices_at(unit_prices, from);
-    let lowest = prices_at(unit_prices, to);
+    let high = counted_prices(prices_at(unit_prices, from), often);
+    let lowest = counted_prices(prices_at(unit_prices, to), often);
     if !keeps_limits(blocks, at, node.set, &high, &lowest) {
         return drop;
     }

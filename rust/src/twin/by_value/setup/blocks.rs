@@ -1,5 +1,6 @@
 // Written by `twin_source` from crates/setup/src/blocks.rt.
 // The blocks for the search: what they trade in each hour, their six columns at the root prices, and a row of hours for each.
+use crate::twin::by_value::book::hours::counted_hours;
 use crate::twin::by_value::places::added::moved;
 use crate::twin::by_value::places::layout::AGAINST;
 use crate::twin::by_value::places::layout::AHEAD;
@@ -16,7 +17,6 @@ use crate::twin::by_value::places::numbers::by_side;
 use crate::twin::by_value::places::numbers::choose;
 use crate::twin::by_value::places::numbers::larger;
 use crate::twin::by_value::places::numbers::less;
-use crate::twin::by_value::records::hour_count;
 
 // How much the first six columns hold, those in front of the twins'.
 const SIX_COLUMNS: usize = AHEAD;
@@ -77,8 +77,9 @@ fn with_block(
     r
 }
 
-// The blocks' six columns, at the prices root.
+// The blocks' six columns on a day of so many hours, at the prices root as they count.
 pub fn block_columns(
+    day: u8,
     count: usize,
     sides: [u8; MOST_BLOCKS],
     hours: [u32; MOST_BLOCKS],
@@ -90,7 +91,7 @@ pub fn block_columns(
     let mut columns = [0; SIX_COLUMNS];
     let mut i: usize = 0;
     while i < count {
-        let limit = prices[i] * hour_count(hours[i]);
+        let limit = prices[i] * counted_hours(day, hours[i]);
         let more = with_block(
             columns,
             i,

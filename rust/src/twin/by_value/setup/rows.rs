@@ -1,5 +1,6 @@
 // Written by `twin_source` from crates/setup/src/rows.rt.
 // The hours for the search: the price table of each, the places at which it clears, and its gaps there, row after row; and the hours' three columns.
+use crate::twin::by_value::places::layout::CHANGE;
 use crate::twin::by_value::places::layout::HOUR_LIST;
 use crate::twin::by_value::places::layout::HOURS;
 use crate::twin::by_value::places::layout::LAST;
@@ -135,10 +136,16 @@ pub fn fill_ranges(
     Ranges { first, last, turn }
 }
 
-// The hours' three columns in one list.
-pub fn joined(first: [u32; HOURS], last: [u32; HOURS], turn: [u32; HOURS]) -> [u32; HOUR_LIST]
+// The hours' three columns in one list, and how often hour 3 counts.
+pub fn joined(
+    first: [u32; HOURS],
+    last: [u32; HOURS],
+    turn: [u32; HOURS],
+    often: u32,
+) -> [u32; HOUR_LIST]
 {
     let mut r = [0; HOUR_LIST];
+    r[CHANGE] = often;
     let mut h: usize = 0;
     while h < HOURS {
         r[h] = first[h];
