@@ -55,3 +55,12 @@ two-blocks = refl
 filled-in-turn : shares 100 (60 ∷ 60 ∷ []) ≡ 60 ∷ 40 ∷ []
 unfolding shares
 filled-in-turn = refl
+
+-- how often hour 3 counts on days of 23, 24 and 25 hours; each day counts as many hours as it has
+hour-3-counts : (weight 23 3 ≡ 0) × (weight 24 3 ≡ 1) × (weight 25 3 ≡ 2)
+unfolding weight
+hour-3-counts = (refl, refl, refl)
+
+days-count : (daySum 23 (λ h. 1) ≡ 23) × (daySum 24 (λ h. 1) ≡ 24) × (daySum 25 (λ h. 1) ≡ 25)
+unfolding daySum sumTo weight
+days-count = (refl, refl, refl)
