@@ -112,21 +112,6 @@ left-out-though-paid-contends = (
 )
 
 -- HOUR 3 ON A DAY OF 25 HOURS counts twice
--- in the welfare: S5 moved to hours 2 and 3
-pub autumn-taken-contends : Contender s5Autumn (true ∷ []) (100 ∷ 50 ∷ 100 ∷ 50 ∷ [])
-unfolding computed
-autumn-taken-contends = record {
-  ofBlocks = refl;
-  permitted = refl;
-  within = omega arith;
-  balanced = each-hour _ (omega arith);
-  limits = rw prices-tested refl;
-}
-
-pub autumn-taken-welfare : HasWelfare s5Autumn (true ∷ []) (100 ∷ 50 ∷ 100 ∷ 50 ∷ []) 615000
-unfolding computed
-autumn-taken-welfare = refl
-
 -- in the limit: at prices 4000 and 3000 a sell block at 3333 keeps it, at 3334 it does not
 pub autumn-limit-kept-contends : Contender (autumn 3333) (true ∷ []) (100 ∷ 50 ∷ 100 ∷ 50 ∷ [])
 unfolding computed
@@ -141,6 +126,21 @@ autumn-limit-kept-contends = record {
 pub autumn-limit-missed-no-contender : ¬ Contender (autumn 3334) (true ∷ []) (100 ∷ 50 ∷ 100 ∷ 50 ∷ [])
 unfolding computed
 autumn-limit-missed-no-contender c = false≢true (rw prices-tested at (c .limits))
+
+-- in the welfare: S5 moved to hours 2 and 3
+pub autumn-taken-contends : Contender s5Autumn (true ∷ []) (100 ∷ 50 ∷ 100 ∷ 50 ∷ [])
+unfolding computed
+autumn-taken-contends = record {
+  ofBlocks = refl;
+  permitted = refl;
+  within = omega arith;
+  balanced = each-hour _ (omega arith);
+  limits = rw prices-tested refl;
+}
+
+pub autumn-taken-welfare : HasWelfare s5Autumn (true ∷ []) (100 ∷ 50 ∷ 100 ∷ 50 ∷ []) 615000
+unfolding computed
+autumn-taken-welfare = refl
 
 -- HOUR 3 ON A DAY OF 23 HOURS needs no balance
 -- a block that sells in it, where nobody buys: the set that takes it is lawful and contends
