@@ -8,7 +8,7 @@ use lib.ListN.{getD, replicate}
 use Rattle.rules.specs.Orders.{buy, sell, Order, Block, stepsOf}
 use Rattle.rules.specs.Day.{Day, dayOf}
 use Rattle.rules.specs.OutcomeRules.{OutcomeRules}
-use Rattle.rules.specs.WorkedDays.{step, block, block12, baseWith, block23, block234, autumnBook}
+use Rattle.rules.specs.WorkedDays.{step, block, block12, baseWith, block23, block234, autumnOrders}
 
 -- DAYS FOR DEMAND 3
 -- The day of a base book with blocks. S3, S4 and S5 have one sell block over hours 1 and 2, S6 has two.
@@ -64,7 +64,7 @@ s5Autumn =
 
 -- A block over hours 2 and 3 of a day of 25 hours, where the prices with it are 4000 and 3000. Its own price is given.
 abbrev pub autumn : ℕ → Day
-autumn limit = dayOf (autumnBook limit)
+autumn limit = dayOf (autumnOrders limit)
 
 -- On a day of so many hours: S5's steps in hours 2 and 4, and a sell block that runs in hours 2, 3 and 4. Nobody buys in hour 3. The day is written out: of a
 -- book's blocks `dayOf` leaves out the hour that does not count.
