@@ -1,4 +1,4 @@
--- Small books decided by the definitions alone, among them document 01's head alone and the record that is its own next.
+-- Small books decided by the definitions alone, among them document 01's head alone, the record that is its own next, and hour 3 on each day.
 -- Each line of bytes is a record. Assumes nothing.
 use Prim.Native.Nat.{ℕ, zero, suc, _+_}
 use mathlib.Core.Path.{_≡_, refl}
@@ -6,10 +6,12 @@ use mathlib.Core.List.{List, [], _∷_}
 use Rattle.records.specs.Bytes.{u16At, u24At, u32At, nonzero}
 use Rattle.book.specs.Tests.{within, someBelow, someIn, countIn}
 use Rattle.rules.specs.Orders.{limits}
+use Rattle.rules.specs.Day.{weight, isCounted, sumTo, daySum}
 use Rattle.records.specs.Records.{stepAt, blockAt, recordAt, hoursSet}
 use Rattle.book.specs.Chains.{chainFrom, chains, isOn, stepOrder, blockOrder}
 use Rattle.book.specs.Refusals.{wrongSize, wrongHead, misplaced, broken, brokenOn, brokenChain, stepFits, blockFits, stepInRange, blockInRange}
-use Rattle.book.specs.Refusals.{recordInRange, outOfRange, wrongFieldOn, wrongField, stray, strayRecord, ownedBy, tooManyOf, tooManyBlocks, wrongHours, firstCause, ownCauses, refusal}
+use Rattle.book.specs.Refusals.{recordInRange, outOfRange, wrongFieldOn, wrongField, stray, strayRecord, ownedBy, tooManyOf, tooManyBlocks, uncounted, uncountedOn, wrongHours, firstCause, ownCauses, refusal}
+use Rattle.book.specs.Hours.{countedHours}
 use Rattle.book.specs.Answers.{reading}
 use Rattle.book.specs.declared.Reading.the-variants as reading-of
 
@@ -70,6 +72,24 @@ blocksFrom (suc (suc n)) k =
 pub portfolioOf : ℕ → ℕ → List ℕ
 portfolioOf edition count = 0 ∷ (count + 1) ∷ 0 ∷ 0 ∷ 0 ∷ 1 ∷ 24 ∷ edition ∷ 0 ∷ 0 ∷ 0 ∷ 0 ∷ 0 ∷ 0 ∷ 0 ∷ 0 ∷ blocksFrom count 1
 
+-- The head alone, on a day of so many hours
+pub headOn : ℕ → List ℕ
+headOn hours = 0 ∷ 1 ∷ 0 ∷ 0 ∷ 0 ∷ 0 ∷ hours ∷ 1 ∷ 0 ∷ 0 ∷ 0 ∷ 0 ∷ 0 ∷ 0 ∷ 0 ∷ 0 ∷ []
+
+-- A step, buy 100 at 5000 in hour 3, on a day of so many hours
+pub stepOf3 : ℕ → List ℕ
+stepOf3 hours =
+    0 ∷ 2 ∷ 0 ∷ 1 ∷ 0 ∷ 0 ∷ hours ∷ 1 ∷ 0 ∷ 0 ∷ 0 ∷ 0 ∷ 0 ∷ 0 ∷ 0 ∷ 0
+    ∷ 1 ∷ 0 ∷ 0 ∷ 0 ∷ 0 ∷ 1 ∷ 3 ∷ 1 ∷ 0 ∷ 0 ∷ 19 ∷ 136 ∷ 0 ∷ 0 ∷ 0 ∷ 100
+    ∷ []
+
+-- A block, sell 50 at 2900 over hours given as bits, on a day of so many hours
+pub blockOver : ℕ → ℕ → List ℕ
+blockOver hours bits =
+    0 ∷ 2 ∷ 0 ∷ 0 ∷ 0 ∷ 1 ∷ hours ∷ 1 ∷ 0 ∷ 0 ∷ 0 ∷ 0 ∷ 0 ∷ 0 ∷ 0 ∷ 0
+    ∷ 2 ∷ 1 ∷ 0 ∷ 0 ∷ 0 ∷ 1 ∷ 0 ∷ 3 ∷ 0 ∷ 0 ∷ bits ∷ 0 ∷ 11 ∷ 84 ∷ 0 ∷ 50
+    ∷ []
+
 -- What reading each of them answers
 pub record SmallBooks : Type 0 where
   pub head : reading headAlone ≡ reading-of.Accepted 0 0
@@ -77,13 +97,45 @@ pub record SmallBooks : Type 0 where
   pub loop : reading ownNext ≡ reading-of.Refused 3
   pub two : reading bothCauses ≡ reading-of.Refused 3
   pub left : reading leftOver ≡ reading-of.Refused 5
+  -- head byte 6: 23 and 25 hours, and no fewer or more
+  pub spring : reading (headOn 23) ≡ reading-of.Accepted 0 0
+  pub autumn : reading (headOn 25) ≡ reading-of.Accepted 0 0
+  pub shorter : reading (headOn 22) ≡ reading-of.Refused 2
+  pub longer : reading (headOn 26) ≡ reading-of.Refused 2
+  -- a step for hour 3 on 23, 24 and 25 hours
+  pub stepOn23 : reading (stepOf3 23) ≡ reading-of.Refused 9
+  pub stepOn24 : reading (stepOf3 24) ≡ reading-of.Accepted 1 0
+  pub stepOn25 : reading (stepOf3 25) ≡ reading-of.Accepted 1 0
+  -- a block of hours 2 and 3 on 23 hours and on 24, of 2, 3 and 4 on 23; of hour 3 alone on 25, which counts twice but is one hour
+  pub twoOn23 : reading (blockOver 23 6) ≡ reading-of.Refused 9
+  pub twoOn24 : reading (blockOver 24 6) ≡ reading-of.Accepted 0 1
+  pub threeOn23 : reading (blockOver 23 14) ≡ reading-of.Accepted 0 1
+  pub oneOn25 : reading (blockOver 25 4) ≡ reading-of.Refused 4
 
 pub decided : SmallBooks
 unfolding
-    headAlone stepAndBlock ownNext bothCauses leftOver u16At u24At u32At nonzero within someBelow someIn countIn limits stepAt blockAt recordAt hoursSet
-    chainFrom chains isOn stepOrder blockOrder wrongSize wrongHead misplaced broken brokenOn brokenChain stepFits blockFits stepInRange blockInRange
-    recordInRange outOfRange wrongFieldOn wrongField stray strayRecord ownedBy tooManyOf tooManyBlocks wrongHours firstCause ownCauses refusal reading
-decided = record { head = refl; orders = refl; loop = refl; two = refl; left = refl }
+    headAlone stepAndBlock ownNext bothCauses leftOver headOn stepOf3 blockOver u16At u24At u32At nonzero within someBelow someIn countIn limits stepAt blockAt
+    recordAt hoursSet chainFrom chains isOn stepOrder blockOrder wrongSize wrongHead misplaced broken brokenOn brokenChain stepFits blockFits stepInRange
+    blockInRange recordInRange outOfRange wrongFieldOn wrongField stray strayRecord ownedBy tooManyOf tooManyBlocks weight isCounted sumTo daySum countedHours
+    uncounted uncountedOn wrongHours firstCause ownCauses refusal reading
+decided = record {
+  head = refl;
+  orders = refl;
+  loop = refl;
+  two = refl;
+  left = refl;
+  spring = refl;
+  autumn = refl;
+  shorter = refl;
+  longer = refl;
+  stepOn23 = refl;
+  stepOn24 = refl;
+  stepOn25 = refl;
+  twoOn23 = refl;
+  twoOn24 = refl;
+  threeOn23 = refl;
+  oneOn25 = refl;
+}
 
 -- THE EDITIONS, at their limits
 pub record Editions : Type 0 where

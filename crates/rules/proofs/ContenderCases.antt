@@ -1,16 +1,16 @@
 -- CONTENDERS BY EXAMPLE, from the definition alone: condition by condition, what a contender may not do; and what it may: quantities against the price
 -- and the sharing rule, welfare below zero, a taken buy block, a block left out that the prices would have paid. Assumes nothing.
 -- (Laws of the same definitions import it, so that a wrong one is met here first.)
-use Prim.Native.Nat.{_<_}
+use Prim.Native.Nat.{ℕ, _<_}
 use mathlib.Core.Bool.{true, false, false≢true}
 use mathlib.Core.Path.{_≡_, refl}
-use mathlib.Core.List.{[], _∷_}
+use mathlib.Core.List.{List, [], _∷_}
 use native.Mathlib.Omega.{arith}
-use Rattle.rules.specs.Day.{setPrices, keepsLimit, everyBlock, executed, dayValue, dayCost}
-use Rattle.rules.specs.Contender.{Contender}
-use Rattle.rules.specs.Cases.{s4, s5, lateBuy, sharedLate, apart}
-use Rattle.rules.proofs.HourSums.{each-hour}
-use Rattle.rules.proofs.CertifiedHours.{computed, price-tested, prices-tested, hour-counts}
+use Rattle.rules.specs.Day.{taken, hourOf, setPrices, keepsLimit, keepsLimits, everyBlock, lawful, executed, dayValue, dayCost}
+use Rattle.rules.specs.Contender.{quantitiesIn, Balanced, Contender, HasWelfare}
+use Rattle.rules.specs.Cases.{s4, s5, lateBuy, sharedLate, apart, s5Autumn, autumn, across}
+use Rattle.rules.proofs.HourSums.{each-hour, each-counted}
+use Rattle.rules.proofs.CertifiedHours.{computed, clears-tested, price-tested, prices-tested, hour-counts}
 
 -- WHAT A CONTENDER MAY NOT DO
 -- a sell of 60 with 61, where the hour balances
@@ -110,3 +110,63 @@ left-out-though-paid-contends = (
   },
   rw prices-tested refl,
 )
+
+-- HOUR 3 ON A DAY OF 25 HOURS counts twice
+-- in the limit: at prices 4000 and 3000 a sell block at 3333 keeps it, at 3334 it does not
+pub autumn-limit-kept-contends : Contender (autumn 3333) (true ∷ []) (100 ∷ 50 ∷ 100 ∷ 50 ∷ [])
+unfolding computed
+autumn-limit-kept-contends = record {
+  ofBlocks = refl;
+  permitted = refl;
+  within = omega arith;
+  balanced = each-hour _ (omega arith);
+  limits = rw prices-tested refl;
+}
+
+pub autumn-limit-missed-no-contender : ¬ Contender (autumn 3334) (true ∷ []) (100 ∷ 50 ∷ 100 ∷ 50 ∷ [])
+unfolding computed
+autumn-limit-missed-no-contender c = false≢true (rw prices-tested at (c .limits))
+
+-- in the welfare: S5 moved to hours 2 and 3
+pub autumn-taken-contends : Contender s5Autumn (true ∷ []) (100 ∷ 50 ∷ 100 ∷ 50 ∷ [])
+unfolding computed
+autumn-taken-contends = record {
+  ofBlocks = refl;
+  permitted = refl;
+  within = omega arith;
+  balanced = each-hour _ (omega arith);
+  limits = rw prices-tested refl;
+}
+
+pub autumn-taken-welfare : HasWelfare s5Autumn (true ∷ []) (100 ∷ 50 ∷ 100 ∷ 50 ∷ []) 615000
+unfolding computed
+autumn-taken-welfare = refl
+
+-- HOUR 3 ON A DAY OF 23 HOURS needs no balance
+-- a block that sells in it, where nobody buys: the set that takes it is lawful and contends
+pub across-unbalanced : ¬ Balanced (hourOf (across 23) (taken (across 23 .blocks) (true ∷ [])) 3) (quantitiesIn 3 (across 23 .steps) (100 ∷ 50 ∷ 100 ∷ 50 ∷ []))
+unfolding computed
+across-unbalanced b = omega (arith, b)
+
+pub across-lawful : lawful (across 23) (true ∷ []) ≡ true
+unfolding computed lawful
+across-lawful = rw (lawful, keepsLimits, prices-tested, clears-tested) refl
+
+pub across-contends : Contender (across 23) (true ∷ []) (100 ∷ 50 ∷ 100 ∷ 50 ∷ [])
+unfolding computed
+across-contends = record {
+  ofBlocks = refl;
+  permitted = refl;
+  within = omega arith;
+  balanced = each-counted _ _ (omega arith);
+  limits = rw prices-tested refl;
+}
+
+-- on a day of 24 hours it is not, and does not, at whatever quantities
+pub across-24-unlawful : lawful (across 24) (true ∷ []) ≡ false
+unfolding computed lawful
+across-24-unlawful = rw (lawful, keepsLimits, prices-tested, clears-tested) refl
+
+pub across-24-no-contender : (quantities : List ℕ) → ¬ Contender (across 24) (true ∷ []) quantities
+unfolding computed
+across-24-no-contender quantities c = omega (arith, c .balanced 3 (hour-counts 3 refl))

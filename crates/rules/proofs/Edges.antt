@@ -64,3 +64,12 @@ limits-of-edition-1 = (refl, refl)
 pub limits-of-edition-2 : (limits 2 .blockQuantity ≡ 250) × (limits 2 .blocksOfPortfolio ≡ 10)
 unfolding limits
 limits-of-edition-2 = (refl, refl)
+
+-- how often hour 3 counts on days of 23, 24 and 25 hours; each day counts as many hours as it has
+hour-3-counts : (weight 23 3 ≡ 0) × (weight 24 3 ≡ 1) × (weight 25 3 ≡ 2)
+unfolding weight
+hour-3-counts = (refl, refl, refl)
+
+days-count : (daySum 23 (λ h. 1) ≡ 23) × (daySum 24 (λ h. 1) ≡ 24) × (daySum 25 (λ h. 1) ≡ 25)
+unfolding daySum sumTo weight
+days-count = (refl, refl, refl)

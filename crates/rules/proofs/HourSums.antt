@@ -2,10 +2,11 @@
 -- hours stands at the end. Assumes nothing.
 use Prim.Native.Nat.{ℕ, zero, suc, _+_, _-_, _*_, _≤_, _<_}
 use mathlib.Core.Bool.{Bool, true, false, cond, not, _||_, false≢true}
-use mathlib.Core.Path.{_≡_, refl}
+use mathlib.Core.Path.{_≡_, refl, sym}
 use mathlib.Core.Logic.{_⊎_, inl, inr}
 use native.Mathlib.Omega.{arith}
-use native.Mathlib.Nat.{le-suc-iff, mul-le-mul-left, mul-assoc, mul-comm, mul-zero}
+use native.Mathlib.Nat.{le-suc-iff, lt-of-not-le, mul-le-mul-left, mul-assoc, mul-comm, mul-zero}
+use native.Mathlib.Decide.{decLe}
 use lib.Dec.{eqb}
 use borrow.Author.Tests.{eq-eqb, ne-eqb}
 use Rattle.rules.specs.Hour.{when}
@@ -145,6 +146,18 @@ hour-of (suc n) P a h f l = go (le-suc-iff .0 l) (λ k. hour-of n P (a .0) h f k
 
 pub each-hour : {hours : ℕ} (P : ℕ → Type 0) → HourByHour 24 P → (h : ℕ) → Counts hours h → P h
 each-hour P a h c = hour-of 24 P a h (c .first) (c .last)
+
+-- of numbers that are equal in the hours that count: an hour that does not is not looked at
+weighed-same : (w a b : ℕ) → 1 ≤ w → w * a ≡ w * b → b ≤ a
+weighed-same w a b k e = elim (decLe b a) [ yes l ↦ l | no g ↦ absurd (omega (arith, more (lt-of-not-le g))) ]
+  where
+    more : a < b → w * (a + 1) ≤ w * b
+    more l = mul-le-mul-left w (omega arith)
+
+pub each-counted : {hours : ℕ} (f g : ℕ → ℕ) → HourByHour 24 (λ h. weight hours h * f h ≡ weight hours h * g h) → (h : ℕ) → Counts hours h → f h ≡ g h
+each-counted {hours} f g a h c =
+    let e : weight hours h * f h ≡ weight hours h * g h = hour-of 24 (λ h. weight hours h * f h ≡ weight hours h * g h) a h (c .first) (c .last) in
+    omega (arith, weighed-same _ _ _ (c .counted) e, weighed-same _ _ _ (c .counted) (sym e))
 
 -- WHAT `weight` SAYS
 -- each hour counts once, but for the one in which the clocks change

@@ -1,7 +1,7 @@
 -- THE OUTCOME RULES BY EXAMPLE, from their statement alone: one outcome, with a sell block and a buy block taken, keeps them all; for each rule there is
 -- an outcome that breaks it, and no other rule where that is possible. Assumes nothing.
 -- (Laws of the same definitions import it, so that a wrong one is met here first.)
-use Prim.Native.Nat.{ℕ, _≤_}
+use Prim.Native.Nat.{ℕ, _*_, _≤_}
 use mathlib.Core.Bool.{true, false≢true}
 use mathlib.Core.Path.{_≡_, refl, ap}
 use mathlib.Core.List.{[], _∷_}
@@ -38,10 +38,11 @@ use Rattle.rules.specs.Cases.{
   buyBlockForgotten,
   nobodySells,
   soldAtNothing,
+  acrossTaken,
 }
 use Rattle.rules.proofs.CurveLaws.{when-zero}
 use Rattle.rules.proofs.PricingLaws.{Clears, clears-means, LeastOf, least-is}
-use Rattle.rules.proofs.HourSums.{everyHour-at, HourByHour, each-hour}
+use Rattle.rules.proofs.HourSums.{everyHour-at, HourByHour, each-hour, each-counted}
 use Rattle.rules.proofs.CertifiedHours.{computed, tested, tested-is, hour-counts}
 
 -- EACH RULE BROKEN
@@ -164,6 +165,38 @@ right-obeys = record {
   balanced = each-hour _ (omega arith);
   tradedBuys = each-hour _ (omega arith);
 }
+
+-- on a day of 23 hours hour 3 needs neither a price nor balance: an outcome that sells in it where nobody buys
+all-middle-counted : (c : Case) →
+    HourByHour 24 (λ h. weight (c .day .hours) h * c .price h ≡ weight (c .day .hours) h * answeredPrice (tested (hourIn c h))) →
+    (h : ℕ) → Counts (c .day .hours) h → c .price h ≡ answeredPrice (pricing (hourIn c h))
+all-middle-counted c e h k = rw tested-is (each-counted (λ h. c .price h) (λ h. answeredPrice (tested (hourIn c h))) e h k)
+
+pub across-obeys : Obeys (acrossTaken 23)
+unfolding computed
+across-obeys = record {
+  clearsAll = all-clear (acrossTaken 23) refl;
+  middlePrice = all-middle-counted (acrossTaken 23) (omega arith);
+  sellsAbove = omega sides;
+  buysBelow = omega sides;
+  sellsBelow = omega sides;
+  buysAbove = omega sides;
+  atPrice = omega arith;
+  blockSells = omega sides;
+  blockBuys = omega sides;
+  notMore = omega arith;
+  balanced = each-counted _ _ (omega arith);
+  tradedBuys = each-hour _ (omega arith);
+}
+
+-- on a day of 24 it does: there the outcome breaks both rules
+pub across-24-unbalanced : Breaks (acrossTaken 24) (λ o. o .balanced)
+unfolding computed
+across-24-unbalanced balance = omega (arith, balance 3 (hour-counts 3 refl))
+
+pub across-24-unclear : Breaks (acrossTaken 24) (λ o. o .clearsAll)
+unfolding computed
+across-24-unclear all = false≢true (rw tested-is at (all 3 (hour-counts 3 refl)))
 
 -- RULE BY RULE: each wrong outcome breaks its rule and keeps the others, where that is possible
 row : {A B C D E F G H I J K L : Type 0} → A → B → C → D → E → F → G → H → I → J → K → L →

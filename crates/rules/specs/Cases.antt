@@ -5,10 +5,10 @@ use Prim.Native.Nat.{ℕ, zero, suc}
 use mathlib.Core.Bool.{Bool, true, false}
 use mathlib.Core.List.{List, [], _∷_, _++_}
 use lib.ListN.{getD, replicate}
-use Rattle.rules.specs.Orders.{buy, sell, Order, Block}
+use Rattle.rules.specs.Orders.{buy, sell, Order, Block, stepsOf}
 use Rattle.rules.specs.Day.{Day, dayOf}
 use Rattle.rules.specs.OutcomeRules.{OutcomeRules}
-use Rattle.rules.specs.WorkedDays.{step, block, block12, baseWith}
+use Rattle.rules.specs.WorkedDays.{step, block, block12, baseWith, block23, block234, autumnOrders}
 
 -- DAYS FOR DEMAND 3
 -- The day of a base book with blocks. S3, S4 and S5 have one sell block over hours 1 and 2, S6 has two.
@@ -52,6 +52,29 @@ sharedLate = dayWith (step 1 sell 24 60 3000 ∷ step 2 sell 24 60 3000 ∷ step
 -- A sell above the only buy: no trade that brings anything.
 abbrev pub apart : Day
 apart = dayWith (step 1 sell 1 10 6000 ∷ step 2 buy 1 10 2000 ∷ []) []
+
+-- S5 moved to hours 2 and 3 of a day of 25 hours.
+abbrev pub s5Autumn : Day
+s5Autumn =
+    dayOf (record {
+      hours = 25;
+      steps = step 1 buy 2 100 5000 ∷ step 2 sell 2 100 3000 ∷ step 3 buy 3 100 5000 ∷ step 4 sell 3 100 3000 ∷ [];
+      blocks = block23 2900 ∷ [];
+    })
+
+-- A block over hours 2 and 3 of a day of 25 hours, where the prices with it are 4000 and 3000. Its own price is given.
+abbrev pub autumn : ℕ → Day
+autumn limit = dayOf (autumnOrders limit)
+
+-- On a day of so many hours: S5's steps in hours 2 and 4, and a sell block that runs in hours 2, 3 and 4. Nobody buys in hour 3. The day is written out: of a
+-- book's blocks `dayOf` leaves out the hour that does not count.
+abbrev pub across : ℕ → Day
+across hours =
+    record {
+      hours = hours;
+      steps = stepsOf (step 1 buy 2 100 5000 ∷ step 2 sell 2 100 3000 ∷ step 3 buy 4 100 5000 ∷ step 4 sell 4 100 3000 ∷ []);
+      blocks = block234 2900 ∷ [];
+    }
 
 -- OUTCOMES FOR DEMAND 2
 -- A set of a day's blocks with prices, traded quantities and a quantity for each step.
@@ -212,4 +235,15 @@ soldAtNothing =
       price = hourly 150000 150000 150000 0 150000;
       traded = hourly 0 0 0 0 0;
       quantities = 0 ∷ [];
+    }
+
+-- The day across hour 3 with its block taken, its prices 3000 in hours 2 and 4; hour 3 has no price that clears.
+abbrev pub acrossTaken : ℕ → Case
+acrossTaken hours =
+    record {
+      day = across hours;
+      set = true ∷ [];
+      price = λ h. getD (0 ∷ 150000 ∷ 3000 ∷ 0 ∷ 3000 ∷ replicate 20 150000) h 0;
+      traded = λ h. getD (0 ∷ 0 ∷ 100 ∷ 0 ∷ 100 ∷ []) h 0;
+      quantities = 100 ∷ 50 ∷ 100 ∷ 50 ∷ [];
     }

@@ -208,14 +208,18 @@ block234 price = block 1 sell 14 50 price
 
 -- A day of 25 hours: in hour 2 buy 100 at 5000 and sell 50 at 3000, in hour 3 buy 100 at 5000 and sell 100 at 3000, with a block over both. With it the
 -- prices are 4000 and 3000, counted 4000 + 2 × 3000.
+abbrev pub autumnOrders : ℕ → Orders
+autumnOrders limit =
+    record {
+      hours = 25;
+      steps = step 1 buy 2 100 5000 ∷ step 2 sell 2 50 3000 ∷ step 3 buy 3 100 5000 ∷ step 4 sell 3 100 3000 ∷ [];
+      blocks = block23 limit ∷ [];
+    }
+
 abbrev pub autumnDay : (limit : ℕ) (prices traded : List ℕ) → List Bool → List ℕ → ℕ → WorkedDay
 autumnDay limit prices traded chosen rows welfare =
     record {
-      orders = record {
-        hours = 25;
-        steps = step 1 buy 2 100 5000 ∷ step 2 sell 2 50 3000 ∷ step 3 buy 3 100 5000 ∷ step 4 sell 3 100 3000 ∷ [];
-        blocks = block23 limit ∷ [];
-      };
+      orders = autumnOrders limit;
       publishes = record { welfare = welfare; prices = prices; traded = traded; chosen = chosen; executed = rows };
       prices = [];
     }
