@@ -161,11 +161,7 @@ fn times_of(row: usize, often: u32) -> u64
     requires { ⌜ often ≤ 2 ⌝ }
     ensures { λ r. ⌜ (r ≡ timesIn often (row + 1)) × (r ≤ 2) ⌝ }
 {
-    if row == CHANGE_ROW {
-        often as u64
-    } else {
-        1
-    }
+    if row == CHANGE_ROW { often as u64 } else { 1 }
 }
 
 // What the steps of each hour get, hour after hour, into values, and the value and the cost of all of it, hour 3's so often.

@@ -32,7 +32,6 @@ counting c = c .before .before .before
 abbrev back : tie.After-counted-prices2 → tie.Else3
 back c = balanced (bounded (c .before .before .before .before) .before)
 
-
 -- arrays of 24
 from-size : (f : tie.After-reach-at) → length (f .reach-at .result .from) ≡ hourPlaces
 from-size f = search needs
