@@ -1,17 +1,18 @@
 -- The hours of a block on its day: how many they are as they count, and that those it runs in are those of its bits that count. Assumes nothing.
 use Prim.Native.Nat.{ℕ, zero, suc, _+_, _-_, _*_, _/_, _%_, _^_, _≤_, _<_}
-use mathlib.Core.Bool.{Bool, true, false, cond, not, _&&_, and-true, and-false}
-use mathlib.Core.Path.{_≡_, refl, sym, _∙_}
+use mathlib.Core.Bool.{Bool, true, false, cond, _&&_, and-true, and-false}
+use mathlib.Core.Path.{_≡_, refl}
 use native.Mathlib.Omega.{arith}
-use native.Mathlib.Nat.{div-div-eq-div-mul, pow-suc, mul-comm}
+use native.Mathlib.Nat.{div-div-eq-div-mul}
 use lib.Pow.{pow-add}
 use Rattle.rules.proofs.BoundsLaws.{product-le}
-use borrow.Author.Tests.{eq-eqb, ne-eqb, eqb-true, eqb-false}
+use borrow.Author.Tests.{ne-eqb, eqb-true, eqb-false}
 use lib.Dec.{eqb}
 use Rattle.rules.specs.Hour.{when}
-use Rattle.rules.specs.Day.{changeHour, springHours, weight, isCounted, sumTo, daySum}
+use Rattle.rules.specs.Day.{changeHour, springHours, weight, isCounted, sumTo}
 use Rattle.rules.proofs.HourSums.{weight-else, change-apart}
 use Rattle.records.specs.Records.{holdsHour, hoursSet}
+use Rattle.records.proofs.Laws.{hours-few}
 use Rattle.book.specs.Hours.{countedHours, changeBit, runningHours}
 
 -- HOW MANY
@@ -45,20 +46,11 @@ unfolding sumTo
 change-within x = rw (hours-summed 24 x) (omega arith)
 
 -- A count that fits its number
-few-hours : (n x : ℕ) → hoursSet n x ≤ n
-unfolding hoursSet
-few-hours zero x = omega arith
-few-hours (suc n) x = at (holdsHour x (suc n)) (few-hours n x)
-  where
-    at : (t : Bool) → hoursSet n x ≤ n → hoursSet n x + cond t 1 0 ≤ suc n
-    at true most = omega arith
-    at false most = omega arith
-
 pub counted-room : (day x once : ℕ) → day < 256 → once ≤ 1 → (weight day changeHour * once < 2 ^ 32) × (hoursSet 24 x - once + weight day changeHour * once < 2 ^ 32)
 unfolding weight
 counted-room day x once d o =
     let most = product-le (day - springHours) once 255 1 (omega arith) o in
-    (omega (arith, most), omega (arith, most, few-hours 24 x))
+    (omega (arith, most), omega (arith, most, hours-few 24 x))
 
 -- WHICH
 -- What is taken off is there

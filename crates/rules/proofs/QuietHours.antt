@@ -1,15 +1,14 @@
 -- QUIET HOURS: on a book's day nothing is offered in an hour that does not count. So under a lawful set every hour clears, also such a one, and what goes
 -- hour by hour may go over all 24 alike. Assumes nothing.
-use Prim.Native.Nat.{ℕ, _+_, _≤_}
-use mathlib.Core.Bool.{Bool, true, false, _&&_, and-false, false≢true}
+use Prim.Native.Nat.{ℕ, _≤_}
+use mathlib.Core.Bool.{Bool, true, false, and-false, false≢true}
 use mathlib.Core.Path.{_≡_, refl, sym, _∙_}
 use mathlib.Core.List.{List, [], _∷_}
 use native.Mathlib.Omega.{arith}
-use lib.Dec.{eqb}
 use lib.ListN.{length}
 use borrow.Author.Tests.{ne-eqb}
 use Rattle.rules.specs.Orders.{Step, Block}
-use Rattle.rules.specs.Day.{Day, isCounted, onDay, eachOnDay, stepsIn, taken, overBlocks, sells, buys, hourOf, setPrices, lawful}
+use Rattle.rules.specs.Day.{Day, isCounted, eachOnDay, stepsIn, taken, overBlocks, sells, buys, hourOf, setPrices, lawful}
 use Rattle.rules.specs.Hour.{buysAbove, buysFrom, sellsTo, sellsBelow}
 use Rattle.rules.specs.Contender.{PricesInRange, HoursInRange}
 use Rattle.rules.specs.OutcomeRules.{EachBlock}

@@ -1,5 +1,5 @@
 -- A decided set at its tables: it is lawful or not, and it loses what they say; one law for each way out. Assumes nothing.
-use Prim.Native.Nat.{ℕ, suc, _+_, _-_, _/_, _%_, _^_, _≤_, _<_}
+use Prim.Native.Nat.{ℕ, suc, _+_, _/_, _%_, _^_, _≤_, _<_}
 use mathlib.Core.Path.{_≡_, refl, sym, _∙_}
 use mathlib.Core.List.{List, [], _∷_, _++_}
 use mathlib.Core.Bool.{Bool, true, false}
@@ -7,18 +7,17 @@ use native.Mathlib.Omega.{arith}
 use lib.Dec.{eqb, leb}
 use lib.ListN.{length, getD}
 use borrow.Author.Tests.{eq-eqb}
-use Rattle.records.specs.Records.{holdsHour}
 use Rattle.rules.specs.Orders.{Side, buy, Step, Block}
 use Rattle.rules.specs.Hour.{when}
 use Rattle.rules.specs.Execution.{testSide}
 use Rattle.rules.specs.Day.{Day, daySum, taken, decisions, overBlocks, sells, buys, hourOf, stepsIn, priceSum, setPrices, keepsLimit, lawful}
 use Rattle.rules.specs.Contender.{Counts}
-use Rattle.rules.proofs.HourSums.{daySum-le, daySum-add}
+use Rattle.rules.proofs.HourSums.{daySum-add}
 use Rattle.rules.proofs.Tests.{clash}
 use Rattle.rules.proofs.PricingLaws.{Clearable}
 use Rattle.rules.proofs.TableLaws.{unit-net, tablePrice}
 use Rattle.rules.proofs.NeighbourLaws.{slack}
-use Rattle.rules.proofs.LossLaws.{lossOf}
+use Rattle.rules.proofs.LossLaws.{daySum-counted, lossOf}
 use Rattle.rules.proofs.TwinLaws.{InTurn, block-at, passes-taken}
 use Rattle.rules.proofs.SetBits.{bits-at}
 use Rattle.rules.proofs.PlaceLaws.{
@@ -48,10 +47,6 @@ use Rattle.search.proofs.AllowedSets.{set-allowed}
 use Rattle.search.proofs.TradedLaws.{traded-are}
 use Rattle.search.specs.declared.Best.{Best}
 use Rattle.search.specs.declared.Node.{Node}
-
--- A SUM OVER THE DAY of what is the same in each hour that counts
-pub daySum-in : (hours : ℕ) (f g : ℕ → ℕ) → ((h : ℕ) → Counts hours h → f h ≡ g h) → daySum hours f ≡ daySum hours g
-daySum-in hours f g k = omega (arith, daySum-le hours f g (λ h c. omega (arith, k h c)), daySum-le hours g f (λ h c. omega (arith, k h c)))
 
 -- an hour that counts is one of the 24
 pub an-hour : {hours h : ℕ} → Counts hours h → AnHour h
@@ -131,7 +126,7 @@ module _ {day : Day} {p rest : ℕ → ℕ} {tables : Tables} (known : Known day
           arith,
           branch .lossIs,
           gaps-by-place day d size p,
-          daySum-in (day .hours) (gapsAt day p (place (day .blocks) d)) (λ h. at h + rest h) (λ h c. gap-at h (an-hour c)),
+          daySum-counted (day .hours) (gapsAt day p (place (day .blocks) d)) (λ h. at h + rest h) (λ h c. gap-at h (an-hour c)),
           daySum-add (day .hours) at rest,
           rw (known .changeIs) at (day-sum (day .hours) at),
         )
@@ -158,7 +153,7 @@ module _ {day : Day} {p rest : ℕ → ℕ} {tables : Tables} (known : Known day
       keeps-same j s =
           let sum : daySum (day .hours) (λ h. when (s .block .runs h) (pricesAt day (place (day .blocks) d) h)) ≡ sumOfHours counted
           (hoursAt (tables .blocks) j) =
-          daySum-in (day .hours) _ _ (λ h c. rw (s .runsIs h, ← (price-at h (an-hour c))))
+          daySum-counted (day .hours) _ _ (λ h c. rw (s .runsIs h, ← (price-at h (an-hour c))))
           ∙ rw (known .changeIs) at (block-sum (day .hours) prices (hoursAt (tables .blocks) j) (priced .size)) in
           same-test _ _ _ _ _ _ (s .sideIs) sum (s .limitIs)
 

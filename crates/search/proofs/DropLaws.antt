@@ -17,13 +17,12 @@ use Rattle.rules.proofs.HourSums.{daySum-add}
 use Rattle.rules.proofs.Tests.{by-test, clash}
 use Rattle.rules.proofs.NeighbourLaws.{slack}
 use Rattle.rules.proofs.BoundLaws.{gain}
-use Rattle.rules.proofs.LossLaws.{against, losses, bound-with}
+use Rattle.rules.proofs.LossLaws.{daySum-counted, against, losses, bound-with}
 use Rattle.rules.proofs.SetBits.{bits-at}
 use Rattle.rules.proofs.PlaceLaws.{place, place-none, place-split, pricesAt}
 use Rattle.rules.proofs.TwinLaws.{block-at}
 use Rattle.rules.proofs.LawCutLaws.{couldKeep, taken-could}
-use Rattle.places.specs.Layout.{hourPlaces}
-use Rattle.places.specs.Hours.{Small, sumOfHours, sumOver, countedColumn, cell, ofHour, PricesOf, nearest, leastGap}
+use Rattle.places.specs.Hours.{sumOfHours, sumOver, countedColumn, cell, ofHour, PricesOf, leastGap}
 use Rattle.places.specs.Blocks.{sideAt, hoursAt, limitAt, rowQuantity, keepsAt, allKeep, addedIn}
 use Rattle.places.specs.Reach.{isOut, mustFrom, mayFrom, RestOf, ReachOf}
 use Rattle.search.specs.Decisions.{isRuledOut}
@@ -34,7 +33,7 @@ use Rattle.places.proofs.LimitLaws.{all-keep}
 use Rattle.places.proofs.ReachLaws.{taken-adds, left-adds, to-fits}
 use Rattle.places.proofs.CountedLaws.{day-sum, block-sum}
 use Rattle.search.proofs.TradedLaws.{sells-at, buys-at}
-use Rattle.search.proofs.DecidedLaws.{daySum-in, an-hour, noBlock, price-at-table, lawful-place, gap-of-lawful, rest-below}
+use Rattle.search.proofs.DecidedLaws.{an-hour, noBlock, price-at-table, lawful-place, gap-of-lawful, rest-below}
 use Rattle.search.specs.declared.Node.{Node}
 
 -- THE PLACE OF THE REST at a loss below the limit, where it takes no block that is out
@@ -97,7 +96,7 @@ module _ {day : Day} {p rest : ℕ → ℕ} {tables : Tables} (known : Known day
       priceSum (day .hours) (pricesAt day (ofHour at)) (s .block) ≡ sumOfHours (countedColumn (tables .change) prices) (hoursAt (tables .blocks) j)
   unfolding priceSum
   sum-same at prices priced fits =
-      daySum-in (day .hours) _ _ (λ h c. rw (s .runsIs h, ← (price-at-table known priced h (an-hour c) (fits h (an-hour c)))))
+      daySum-counted (day .hours) _ _ (λ h c. rw (s .runsIs h, ← (price-at-table known priced h (an-hour c) (fits h (an-hour c)))))
       ∙ rw (known .changeIs) at (block-sum (day .hours) prices (hoursAt (tables .blocks) j) (priced .size))
 
   could-same : keepsAt (sideAt (tables .blocks) j) (hoursAt (tables .blocks) j) (limitAt (tables .blocks) j) (countedColumn (tables .change) high) (countedColumn (tables .change) lowest)

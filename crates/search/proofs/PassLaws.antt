@@ -15,7 +15,7 @@ use Rattle.rules.proofs.Tests.{clash}
 use Rattle.rules.proofs.DayLaws.{empty-lawful}
 use Rattle.rules.proofs.BoundLaws.{gain}
 use Rattle.rules.proofs.NeighbourLaws.{slack}
-use Rattle.rules.proofs.LossLaws.{gaps, wholeOf, lossOf, losses-none, losses-empty, bound-with}
+use Rattle.rules.proofs.LossLaws.{daySum-counted, gaps, wholeOf, lossOf, losses-none, losses-empty, bound-with}
 use Rattle.rules.proofs.TwinLaws.{InTurn, outcome-in-turn}
 use Rattle.rules.proofs.PlaceLaws.{place, place-none}
 use Rattle.rules.proofs.LossSearchLaws as by-loss
@@ -27,7 +27,7 @@ use Rattle.search.specs.Meaning.{Fits, Known, Turning, Branch, lossAbove
 use Rattle.search.specs.Tables.{Tables}
 use Rattle.orders.proofs.ColumnLaws.{zeros}
 use Rattle.places.proofs.CountedLaws.{change-apart, day-sum}
-use Rattle.search.proofs.DecidedLaws.{daySum-in, an-hour, gap-of-lawful, rest-below}
+use Rattle.search.proofs.DecidedLaws.{an-hour, gap-of-lawful, rest-below}
 use Rattle.search.specs.declared.Best.{Best}
 use Rattle.search.specs.declared.Node.{Node}
 
@@ -82,7 +82,7 @@ module _ {tables : Tables} (few : tables .count ≤ mostBlocks) (small : (i : �
         arith,
         losses-empty (day .hours) p (day .blocks),
         gains-fit (tables .count) 0 (omega arith),
-        daySum-in (day .hours) g (λ h. at h + rest h) (λ h c. gap-of-lawful known none size law h (an-hour c)),
+        daySum-counted (day .hours) g (λ h. at h + rest h) (λ h c. gap-of-lawful known none size law h (an-hour c)),
         daySum-add (day .hours) at rest,
         rw (known .changeIs) at (day-sum (day .hours) at),
         change-apart (tables .change) at,

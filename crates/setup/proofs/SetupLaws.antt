@@ -1,5 +1,5 @@
 -- WHAT THE SETUP GIVES THE SEARCH: the tables and columns filled from an accepted book's columns are those of its day. Assumes nothing.
-use Prim.Native.Nat.{ℕ, zero, suc, _+_, _-_, _*_, _/_, _%_, _≤_, _<_}
+use Prim.Native.Nat.{ℕ, zero, suc, _+_, _-_, _*_, _≤_, _<_}
 use mathlib.Core.Path.{_≡_, refl, sym, ap, _∙_}
 use mathlib.Core.List.{List, [], _∷_}
 use mathlib.Core.Bool.{Bool, true, false, cond}
@@ -37,7 +37,7 @@ use Rattle.rules.proofs.LossLaws.{against}
 use Rattle.rules.proofs.PlaceLaws.{hourAt}
 use Rattle.rules.proofs.TwinLaws.{limitOf, Ahead, ahead-by-limits}
 use Rattle.tables.specs.Tables.{UnitPrices, NotRising}
-use Rattle.tables.proofs.LevelLaws.{table-in-range, table-not-rising}
+use Rattle.tables.proofs.LevelLaws.{table-not-rising}
 use Rattle.tables.proofs.GapLaws.{gap-table, gap-falls, gap-rises}
 use Rattle.places.specs.Hours.{Small, cell, ofHour, sumOfHours, countedColumn, rowWidth, lastIn, HasRows}
 use Rattle.places.specs.Blocks.{sideAt, quantityAt, limitAt, aheadAt, behindAt, BlocksSized}

@@ -1,7 +1,6 @@
 // The blocks for the search: what they trade in each hour, their six columns at the root prices, and a row of hours for each.
 ghost use mathlib.Core.Path.{_≡_};
 ghost use Prim.Native.Nat.{ℕ, _≤_, _<_};
-ghost use lib.ListN.{getD};
 ghost use Rattle.rules.specs.Day.{autumnHours};
 ghost use Rattle.book.specs.Bounds.{mostBlocks};
 ghost use Rattle.places.specs.Layout.{mostQuantity, mostLimit};

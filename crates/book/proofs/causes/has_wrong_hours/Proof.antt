@@ -1,5 +1,4 @@
 -- `book::causes::has_wrong_hours` meets its contract: on a 23-hour day what the walks along the chains found. Assumes nothing.
-use mathlib.Core.Path.{sym, _∙_}
 use borrow.Author.Tests.{eq-eqb, ne-eqb}
 use Rattle.book.specs.Refusals.{uncountedOn, wrongHours}
 use Rattle.book.proofs.Distinct.{on-some}

@@ -1,6 +1,5 @@
 -- `book::chains::is_uncounted_on` meets its contract: the chain has such a record where the rest that is left to follow has one. Assumes nothing.
-use mathlib.Core.Path.{_≡_, refl, sym, _∙_}
-use mathlib.Core.Bool.{_||_}
+use mathlib.Core.Path.{_≡_, sym, _∙_}
 use Rattle.records.specs.Records.{recordAt}
 use Rattle.book.specs.Tests.{someIn}
 use Rattle.book.specs.Refusals.{uncounted, uncountedOn}
