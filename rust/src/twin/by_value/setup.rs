@@ -59,7 +59,16 @@ pub fn prepare(
     let off = traded_by_hour(count, block_sides, hours, amounts, false);
     let most = traded_by_hour(count, block_sides, hours, amounts, true);
     fill_tables(sides, prices, quantities, ends, off, most, unit_prices);
-    let root = root_prices(day, unit_prices, off, count, block_sides, hours, limits, amounts);
+    let root = root_prices(
+        day,
+        unit_prices,
+        off,
+        count,
+        block_sides,
+        hours,
+        limits,
+        amounts,
+    );
     let ranges = fill_ranges(
         sides,
         prices,

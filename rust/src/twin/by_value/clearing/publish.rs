@@ -127,11 +127,7 @@ fn blocks_worth(
 // How often the hour of a row counts.
 fn times_of(row: usize, often: u32) -> u64
 {
-    if row == CHANGE_ROW {
-        often as u64
-    } else {
-        1
-    }
+    if row == CHANGE_ROW { often as u64 } else { 1 }
 }
 
 // What the steps of each hour get, hour after hour, into values, and the value and the cost of all of it, hour 3's so often.
