@@ -9,13 +9,13 @@ use Rattle.rules.specs.Execution.{testSide}
 use Rattle.orders.specs.Columns.{sideFor}
 use Rattle.rules.specs.Hour.{when}
 use Rattle.book.specs.Bounds.{mostBlocks}
-use Rattle.places.specs.Layout.{hourPlaces, mostAdded, mostPlace, hoursColumn, quantityColumn, limitColumn, againstColumn, gainColumn, aheadColumn, behindColumn, rowsColumn, blockListSize}
+use Rattle.places.specs.Layout.{hourPlaces, mostAdded, mostPlace, sideColumn, hoursColumn, quantityColumn, limitColumn, againstColumn, gainColumn, aheadColumn, behindColumn, rowsColumn, blockListSize}
 use Rattle.places.specs.Hours.{Small, sumOfHours, ofHour}
 
 -- THE BLOCKS: eight columns: side, hours, quantity, limit (price times hour count), loss if taken, loss if left out, and for twins the
 -- earlier block that is taken before this one, and the one that is taken after it (0 for none, else its number and 1); then a row of hours for each.
 abbrev pub sideAt : List ℕ → ℕ → ℕ
-sideAt blocks i = getD blocks i 0
+sideAt blocks i = getD blocks (sideColumn + i) 0
 
 abbrev pub hoursAt : List ℕ → ℕ → ℕ
 hoursAt blocks i = getD blocks (hoursColumn + i) 0

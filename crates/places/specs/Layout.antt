@@ -66,9 +66,12 @@ changePlace = turnColumn + hourPlaces
 abbrev pub hourListSize : ℕ
 hourListSize = changePlace + 1
 
--- THE BLOCKS: eight columns in one list, from sides (at 0) to twins, then a row of 24 hours for each block.
+-- THE BLOCKS: eight columns in one list, from sides to twins, then a row of 24 hours for each block.
+abbrev pub sideColumn : ℕ
+sideColumn = 0
+
 abbrev pub hoursColumn : ℕ
-hoursColumn = mostBlocks
+hoursColumn = sideColumn + mostBlocks
 
 abbrev pub quantityColumn : ℕ
 quantityColumn = hoursColumn + mostBlocks

@@ -13,6 +13,7 @@ use crate::layout::FIRST;
 use crate::layout::GAIN;
 use crate::layout::HOURS;
 use crate::layout::LAST;
+use crate::layout::SIDE;
 use crate::layout::TURN;
 use crate::numbers::larger;
 use crate::numbers::number_of;
@@ -36,7 +37,7 @@ fn moves_of(blocks: &[u32], i: usize, out: bool, loss: u64, limit: u64) -> Moves
     requires { ⌜ BlocksSized (now blocks) × (i < mostBlocks) × (loss ≤ mostLoss) ⌝ }
     ensures { λ r. ⌜ (r .must ≡ mustMove (now (blocks .entry)) out loss limit i) × (r .may ≡ mayMove (now (blocks .entry)) out loss limit i) ⌝ }
 {
-    let buys = blocks[i] == 0;
+    let buys = blocks[SIDE + i] == 0;
     let left_out = out | (limit <= loss + (blocks[AGAINST + i] as u64));
     let taken = limit <= loss + (blocks[GAIN + i] as u64);
     Moves {

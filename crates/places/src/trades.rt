@@ -11,6 +11,7 @@ ghost use Rattle.places.specs.Blocks.{BlocksSized, SetTrades};
 ghost use Rattle.places.specs.Steps.{stepsAt, StepsSized, PartSized, HoursTraded};
 use crate::added::moved_where;
 use crate::layout::HOURS;
+use crate::layout::SIDE;
 use pricing::execution::traded_at;
 
 // What blocks sell and buy in each hour.
@@ -30,8 +31,9 @@ pub fn set_trades(blocks: &[u32], count: usize, set: u32) -> Trades
     while 0 < i {
         i -= 1;
         let chosen = (set >> (i as u32)) % 2 == 1;
-        let sold = moved_where(chosen & (blocks[i] != 0), sales, blocks, i);
-        let bought = moved_where(chosen & (blocks[i] == 0), buys, blocks, i);
+        let side = blocks[SIDE + i];
+        let sold = moved_where(chosen & (side != 0), sales, blocks, i);
+        let bought = moved_where(chosen & (side == 0), buys, blocks, i);
         sales = sold;
         buys = bought;
     }

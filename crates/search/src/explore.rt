@@ -18,6 +18,7 @@ use places::layout::AGAINST;
 use places::layout::AHEAD;
 use places::layout::BEHIND;
 use places::layout::GAIN;
+use places::layout::SIDE;
 use places::reach::is_out;
 
 // The set that holds block number at alone.
@@ -35,7 +36,7 @@ fn take(blocks: &[u32], at: u32, node: Node) -> Node
 {
     let i = at as usize;
     let places = node.places;
-    let moved = moved_where(blocks[i] != 0, places, blocks, i);
+    let moved = moved_where(blocks[SIDE + i] != 0, places, blocks, i);
     Node {
         set: node.set + bit(at),
         loss: node.loss + (blocks[AGAINST + i] as u64),
@@ -50,7 +51,7 @@ fn leave(blocks: &[u32], at: u32, node: Node) -> Node
 {
     let i = at as usize;
     let places = node.places;
-    let moved = moved_where(blocks[i] == 0, places, blocks, i);
+    let moved = moved_where(blocks[SIDE + i] == 0, places, blocks, i);
     Node {
         set: node.set,
         loss: node.loss + (blocks[GAIN + i] as u64),

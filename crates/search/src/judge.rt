@@ -19,6 +19,7 @@ use places::layout::CHANGE;
 use places::layout::GAIN;
 use places::layout::LIMIT;
 use places::layout::RUNS;
+use places::layout::SIDE;
 use places::layout::TURN;
 use places::limits::keeps_limit;
 use places::limits::keeps_limits;
@@ -34,7 +35,13 @@ fn is_ruled_out(blocks: &[u32], i: usize, was: bool, high: &[u32], low: &[u32]) 
     if was {
         return true;
     }
-    !keeps_limit(blocks[i], blocks[RUNS + i], blocks[LIMIT + i], high, low)
+    !keeps_limit(
+        blocks[SIDE + i],
+        blocks[RUNS + i],
+        blocks[LIMIT + i],
+        high,
+        low,
+    )
 }
 
 // The undecided blocks that are out, from the last one on to the one at number at, whose bit is the lowest.

@@ -10,7 +10,7 @@ use native.Mathlib.Numerals.{add-one}
 use lib.ListN.{length, getD, set, replicate, length-set}
 use lib.Seq.{getD-set-same, getD-set-other}
 use Rattle.book.specs.Bounds.{mostBlocks}
-use Rattle.places.specs.Layout.{againstColumn, aheadColumn, hourPlaces, gainColumn, hoursColumn, limitColumn, mostQuantity, quantityColumn}
+use Rattle.places.specs.Layout.{againstColumn, aheadColumn, hourPlaces, gainColumn, sideColumn, hoursColumn, limitColumn, mostQuantity, quantityColumn}
 use Rattle.records.specs.Records.{holdsHour}
 use Rattle.book.specs.Hours.{countedHours}
 use Rattle.orders.specs.Columns.{sideFor}
@@ -81,7 +81,7 @@ bought-within count sides hours quantities bought traded b t h k =
 -- ONE BLOCK WRITTEN: six numbers
 module _ (c : List ℕ) (i v₀ v₁ v₂ v₃ v₄ v₅ : ℕ) (k : i < mostBlocks) (size : length c ≡ aheadColumn) where
   abbrev l₁ : List ℕ
-  l₁ = set c i v₀
+  l₁ = set c (sideColumn + i) v₀
 
   abbrev l₂ : List ℕ
   l₂ = set l₁ (hoursColumn + i) v₁
@@ -117,17 +117,19 @@ module _ (c : List ℕ) (i v₀ v₁ v₂ v₃ v₄ v₅ : ℕ) (k : i < mostBlo
   six-size = rw length-set size₅
 
   -- other places are as they were
-  six-other : (at : ℕ) → (at ≡ i → ⊥) → (at ≡ hoursColumn + i → ⊥) → (at ≡ quantityColumn + i → ⊥) → (at ≡ limitColumn + i → ⊥) → (at ≡ againstColumn + i → ⊥) →
+  six-other : (at : ℕ) → (at ≡ sideColumn + i → ⊥) → (at ≡ hoursColumn + i → ⊥) → (at ≡ quantityColumn + i → ⊥) → (at ≡ limitColumn + i → ⊥) → (at ≡ againstColumn + i → ⊥) →
       (at ≡ gainColumn + i → ⊥) → getD l₆ at 0 ≡ getD c at 0
   six-other at e₀ e₁ e₂ e₃ e₄ e₅ =
       getD-set-other l₅ (gainColumn + i) at v₅ 0 e₅ ∙ getD-set-other l₄ (againstColumn + i) at v₄ 0 e₄ ∙ getD-set-other l₃ (limitColumn + i) at v₃ 0 e₃
-      ∙ getD-set-other l₂ (quantityColumn + i) at v₂ 0 e₂ ∙ getD-set-other l₁ (hoursColumn + i) at v₁ 0 e₁ ∙ getD-set-other c i at v₀ 0 e₀
+      ∙ getD-set-other l₂ (quantityColumn + i) at v₂ 0 e₂ ∙ getD-set-other l₁ (hoursColumn + i) at v₁ 0 e₁ ∙ getD-set-other c (sideColumn + i) at v₀ 0 e₀
 
-  six₀ : getD l₆ i 0 ≡ v₀
+  six₀ : getD l₆ (sideColumn + i) 0 ≡ v₀
   six₀ =
-      getD-set-other l₅ (gainColumn + i) i v₅ 0 (λ e. omega arith) ∙ getD-set-other l₄ (againstColumn + i) i v₄ 0 (λ e. omega arith)
-      ∙ getD-set-other l₃ (limitColumn + i) i v₃ 0 (λ e. omega arith) ∙ getD-set-other l₂ (quantityColumn + i) i v₂ 0 (λ e. omega arith)
-      ∙ getD-set-other l₁ (hoursColumn + i) i v₁ 0 (λ e. omega arith) ∙ getD-set-same c i v₀ 0 (omega arith)
+      getD-set-other l₅ (gainColumn + i) (sideColumn + i) v₅ 0 (λ e. omega arith) ∙ getD-set-other l₄ (againstColumn + i) (sideColumn + i) v₄ 0
+      (λ e. omega arith)
+      ∙ getD-set-other l₃ (limitColumn + i) (sideColumn + i) v₃ 0 (λ e. omega arith) ∙ getD-set-other l₂ (quantityColumn + i) (sideColumn + i) v₂ 0
+      (λ e. omega arith)
+      ∙ getD-set-other l₁ (hoursColumn + i) (sideColumn + i) v₁ 0 (λ e. omega arith) ∙ getD-set-same c (sideColumn + i) v₀ 0 (omega arith)
 
   six₁ : getD l₆ (hoursColumn + i) 0 ≡ v₁
   six₁ =
@@ -170,7 +172,7 @@ module _ (c : List ℕ) (i side hours quantity limit sum : ℕ) (k : i < mostBlo
   unfolding written
   written-size = six-size c i side hours quantity limit lost won k size
 
-  written-other : (at : ℕ) → (at ≡ i → ⊥) → (at ≡ hoursColumn + i → ⊥) → (at ≡ quantityColumn + i → ⊥) → (at ≡ limitColumn + i → ⊥) →
+  written-other : (at : ℕ) → (at ≡ sideColumn + i → ⊥) → (at ≡ hoursColumn + i → ⊥) → (at ≡ quantityColumn + i → ⊥) → (at ≡ limitColumn + i → ⊥) →
       (at ≡ againstColumn + i → ⊥) →
       (at ≡ gainColumn + i → ⊥) → getD after at 0 ≡ getD c at 0
   unfolding written
@@ -204,7 +206,7 @@ module _ (c : List ℕ) (i side hours quantity limit sum : ℕ) (k : i < mostBlo
   module _ (j : ℕ) (inside : j < mostBlocks) (other : j ≡ i → ⊥) where
     pub side-there : sideAt after j ≡ sideAt c j
     side-there =
-        written-other j other (λ e. omega arith) (λ e. omega arith) (λ e. omega arith) (λ e. omega arith) (λ e. omega arith)
+        written-other (sideColumn + j) (λ e. other (omega arith)) (λ e. omega arith) (λ e. omega arith) (λ e. omega arith) (λ e. omega arith) (λ e. omega arith)
 
     pub hours-there : hoursAt after j ≡ hoursAt c j
     hours-there =

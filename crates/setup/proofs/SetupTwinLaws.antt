@@ -12,7 +12,7 @@ use lib.ListN.{length, take, drop, getD, set, replicate, length-set, length-take
 use lib.Seq.{getD-set-same, getD-set-other, getD-take, getD-drop, ext-getD}
 use borrow.Author.Tests.{leb-true, leb-false, ltb-true, eqb-true}
 use Rattle.book.specs.Bounds.{mostBlocks}
-use Rattle.places.specs.Layout.{againstColumn, aheadColumn, behindColumn, blockListSize, rowsColumn, hourPlaces, gainColumn, hourListSize, hoursColumn, lastColumn, limitColumn, mostQuantity, quantityColumn, turnColumn, changePlace}
+use Rattle.places.specs.Layout.{againstColumn, aheadColumn, behindColumn, blockListSize, rowsColumn, hourPlaces, gainColumn, hourListSize, hoursColumn, sideColumn, lastColumn, limitColumn, mostQuantity, quantityColumn, turnColumn, changePlace}
 use Rattle.records.specs.Records.{holdsHour}
 use Rattle.orders.specs.Columns.{sideFor}
 use Rattle.rules.specs.Orders.{Side, buy, sell}
@@ -351,7 +351,7 @@ module _ (before blocks : List ℕ) (same : (k : ℕ) → k < aheadColumn → ge
   written-carried : (day : ℕ) (sides hours prices quantities root : List ℕ) (j : ℕ) → j < mostBlocks → Written day sides hours prices quantities root before j →
       Written day sides hours prices quantities root blocks j
   written-carried day sides hours prices quantities root j k w = record {
-    sideIs = same j (omega arith) ∙ w .sideIs;
+    sideIs = same (sideColumn + j) (omega arith) ∙ w .sideIs;
     hoursIs = same (hoursColumn + j) (omega arith) ∙ w .hoursIs;
     quantityIs = same (quantityColumn + j) (omega arith) ∙ w .quantityIs;
     limitIs = same (limitColumn + j) (omega arith) ∙ w .limitIs;
@@ -361,7 +361,7 @@ module _ (before blocks : List ℕ) (same : (k : ℕ) → k < aheadColumn → ge
 
   twins-carried : (a b : ℕ) → a < mostBlocks → b < mostBlocks → TwinsAt before a b → TwinsAt blocks a b
   twins-carried a b i j t = record {
-    sameSide = same a (omega arith) ∙ t .sameSide ∙ sym (same b (omega arith));
+    sameSide = same (sideColumn + a) (omega arith) ∙ t .sameSide ∙ sym (same (sideColumn + b) (omega arith));
     sameHours = same (hoursColumn + a) (omega arith) ∙ t .sameHours ∙ sym (same (hoursColumn + b) (omega arith));
     sameQuantity = same (quantityColumn + a) (omega arith) ∙ t .sameQuantity ∙ sym (same (quantityColumn + b) (omega arith));
   }
@@ -372,7 +372,7 @@ module _ (before blocks : List ℕ) (same : (k : ℕ) → k < aheadColumn → ge
       let b = t .0 in (
         b,
         twins-carried a i (omega arith) k (t .1),
-        rw (same i (omega arith), same (limitColumn + a) (omega arith), same (limitColumn + i) (omega arith)) (t .2),
+        rw (same (sideColumn + i) (omega arith), same (limitColumn + a) (omega arith), same (limitColumn + i) (omega arith)) (t .2),
         rw (same (quantityColumn + i) (omega arith)) (t .3),
       )
 

@@ -17,7 +17,7 @@ use Rattle.tables.specs.Tables.{PriceTable, AllOf, ClearRange, GapTable}
 use Rattle.rules.specs.Orders.{maxPrice}
 use Rattle.book.specs.Bounds.{mostBlocks}
 use Rattle.orders.specs.Layout.{stepPlaces}
-use Rattle.places.specs.Layout.{hourPlaces, mostQuantity, lastPlace, lastAndAbove, hoursColumn, quantityColumn, limitColumn, againstColumn, gainColumn, aheadColumn, rowsColumn, blockListSize}
+use Rattle.places.specs.Layout.{hourPlaces, mostQuantity, lastPlace, lastAndAbove, sideColumn, hoursColumn, quantityColumn, limitColumn, againstColumn, gainColumn, aheadColumn, rowsColumn, blockListSize}
 use Rattle.places.specs.Hours.{Small, FirstSmall, sumOfHours}
 use Rattle.places.specs.Blocks.{sideAt, hoursAt, quantityAt, limitAt, againstAt, gainAt, aheadAt, behindAt, rowQuantity}
 use Rattle.search.specs.Tables.{Tables}
@@ -122,7 +122,7 @@ pub record TradedBy (count : ℕ) (sides hours quantities : List ℕ) (all : Boo
 -- The columns with block i written.
 unfoldable pub written : (columns : List ℕ) (i side hours quantity limit sum : ℕ) → List ℕ
 written columns i side hours quantity limit sum =
-    set (set (set (set (set (set columns i side) (hoursColumn + i) hours) (quantityColumn + i) quantity) (limitColumn + i) limit)
+    set (set (set (set (set (set columns (sideColumn + i) side) (hoursColumn + i) hours) (quantityColumn + i) quantity) (limitColumn + i) limit)
     (againstColumn + i) (quantity * bySide (sideFor side) (sum - limit) (limit - sum)))
     (gainColumn + i) (quantity * bySide (sideFor side) (limit - sum) (sum - limit))
 

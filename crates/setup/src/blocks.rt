@@ -19,6 +19,7 @@ use places::layout::LIMIT;
 use places::layout::MOST_BLOCKS;
 use places::layout::QUANTITY;
 use places::layout::RUNS;
+use places::layout::SIDE;
 use places::limits::price_sum;
 use places::numbers::by_side;
 use places::numbers::choose;
@@ -80,7 +81,7 @@ fn with_block(
     let mut r = columns;
     let over = less(sum, limit);
     let under = less(limit, sum);
-    r[i] = side as u32;
+    r[SIDE + i] = side as u32;
     r[RUNS + i] = hours;
     r[QUANTITY + i] = quantity;
     r[LIMIT + i] = limit;

@@ -12,6 +12,7 @@ use places::layout::BLOCK_LIST;
 use places::layout::LIMIT;
 use places::layout::QUANTITY;
 use places::layout::RUNS;
+use places::layout::SIDE;
 use places::numbers::choose;
 
 // Whether two blocks are twins: of the same side, hours and quantity.
@@ -19,7 +20,7 @@ fn are_twins(blocks: &[u32], a: usize, b: usize) -> bool
     requires { ⌜ (length (now blocks) ≡ blockListSize) × (a < mostBlocks) × (b < mostBlocks) ⌝ }
     ensures { λ r. ⌜ (r ≡ true → TwinsAt (now (blocks .entry)) a b) ⌝ }
 {
-    let same_side = blocks[a] == blocks[b];
+    let same_side = blocks[SIDE + a] == blocks[SIDE + b];
     let same_hours = blocks[RUNS + a] == blocks[RUNS + b];
     let same_quantity = blocks[QUANTITY + a] == blocks[QUANTITY + b];
     (same_side & same_hours) & same_quantity
@@ -42,7 +43,7 @@ fn nearest_twin(blocks: &[u32], i: usize, ahead: bool) -> u32
     requires { ⌜ (length (now blocks) ≡ blockListSize) × (i < mostBlocks) ⌝ }
     ensures { λ r. ⌜ TwinOf (now (blocks .entry)) i ahead r ⌝ }
 {
-    let side = blocks[i];
+    let side = blocks[SIDE + i];
     let limit = blocks[LIMIT + i];
     let trades = 0 < blocks[QUANTITY + i];
     let mut found: u32 = 0;

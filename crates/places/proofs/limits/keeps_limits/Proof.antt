@@ -28,14 +28,17 @@ cast-chosen c = search needs
 shr-chosen : tie.Need-shr-chosen Inv-loop μ-loop
 shr-chosen c = omega (arith, c .before .loop .inv .0)
 
+add-keeps-limit : tie.Need-add-keeps-limit Inv-loop μ-loop
+add-keeps-limit c = search needs
+
 mul-keeps-limit : tie.Need-mul-keeps-limit Inv-loop μ-loop
 mul-keeps-limit c = search needs
 
 shared-slice-read-keeps-limit : tie.Need-shared-slice-read-keeps-limit Inv-loop μ-loop
 shared-slice-read-keeps-limit c = search needs
 
-add-keeps-limit : tie.Need-add-keeps-limit Inv-loop μ-loop
-add-keeps-limit c = search needs
+add-keeps-limit-2 : tie.Need-add-keeps-limit-2 Inv-loop μ-loop
+add-keeps-limit-2 c = search needs
 
 mul-keeps-limit-2 : tie.Need-mul-keeps-limit-2 Inv-loop μ-loop
 mul-keeps-limit-2 c = search needs
@@ -43,8 +46,8 @@ mul-keeps-limit-2 c = search needs
 shared-slice-read-keeps-limit-2 : tie.Need-shared-slice-read-keeps-limit-2 Inv-loop μ-loop
 shared-slice-read-keeps-limit-2 c = search needs
 
-add-keeps-limit-2 : tie.Need-add-keeps-limit-2 Inv-loop μ-loop
-add-keeps-limit-2 c = search needs
+add-keeps-limit-3 : tie.Need-add-keeps-limit-3 Inv-loop μ-loop
+add-keeps-limit-3 c = search needs
 
 mul-keeps-limit-3 : tie.Need-mul-keeps-limit-3 Inv-loop μ-loop
 mul-keeps-limit-3 c = search needs
@@ -93,12 +96,13 @@ keeps-limits-spec =
     sub-i
     cast-chosen
     shr-chosen
+    add-keeps-limit
     mul-keeps-limit
     shared-slice-read-keeps-limit
-    add-keeps-limit
+    add-keeps-limit-2
     mul-keeps-limit-2
     shared-slice-read-keeps-limit-2
-    add-keeps-limit-2
+    add-keeps-limit-3
     mul-keeps-limit-3
     shared-slice-read-keeps-limit-3
     keeps-limit-requires

@@ -7,6 +7,9 @@ use borrow.Author.Needs.{needs}
 use Rattle.places.proofs.reach.moves_of.Statement.{statement}
 use Rattle.places.proofs.reach.moves_of.Tie as tie
 
+add-buys : tie.Need-add-buys
+add-buys c = search needs
+
 mul-buys : tie.Need-mul-buys
 mul-buys c = search needs
 
@@ -50,6 +53,7 @@ pub moves-of-spec : {M : Type 1} → statement M
 moves-of-spec =
     tie.close
     (tie.spec
+    add-buys
     mul-buys
     shared-slice-read-buys
     add-left-out

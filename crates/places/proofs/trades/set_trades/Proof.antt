@@ -26,11 +26,14 @@ shr-chosen c =
     let loop = c .before in
     omega (arith, loop .loop .inv .inside, loop .before .before .pre .1)
 
-mul-moved-where : tie.Need-mul-moved-where Inv-loop μ-loop
-mul-moved-where c = search needs
+add-side : tie.Need-add-side Inv-loop μ-loop
+add-side c = search needs
 
-shared-slice-read-moved-where : tie.Need-shared-slice-read-moved-where Inv-loop μ-loop
-shared-slice-read-moved-where c = search needs
+mul-side : tie.Need-mul-side Inv-loop μ-loop
+mul-side c = search needs
+
+shared-slice-read-side : tie.Need-shared-slice-read-side Inv-loop μ-loop
+shared-slice-read-side c = search needs
 
 moved-where-requires : tie.Need-moved-where-requires Inv-loop μ-loop
 moved-where-requires c κs =
@@ -38,15 +41,9 @@ moved-where-requires c κs =
     let pre = loop .before .before .pre in
     (pre .0, omega (arith, loop .loop .inv .inside, pre .1), λ j. omega (arith, loop .loop .inv .salesFit j, pre .1))
 
-mul-moved-where-2 : tie.Need-mul-moved-where-2 Inv-loop μ-loop
-mul-moved-where-2 c = search needs
-
-shared-slice-read-moved-where-2 : tie.Need-shared-slice-read-moved-where-2 Inv-loop μ-loop
-shared-slice-read-moved-where-2 c = search needs
-
 moved-where-requires-2 : tie.Need-moved-where-requires-2 Inv-loop μ-loop
 moved-where-requires-2 c κs =
-    let loop = c .before .before .before .before in
+    let loop = c .before .before .before in
     let pre = loop .before .before .pre in
     (pre .0, omega (arith, loop .loop .inv .inside, pre .1), λ j. omega (arith, loop .loop .inv .purchasesFit j, pre .1))
 
@@ -55,10 +52,10 @@ loop-less c = search needs
 
 loop-again : tie.Need-loop-again Inv-loop μ-loop
 loop-again c =
-    let turn = c .before .before .before .before in
+    let turn = c .before .before .before in
     let loop = turn .before in
     trades-next _ _ _ _ _ _ _ _ (loop .loop .inv) (turn .loop-test .taken) (loop .before .before .pre .0 .rowsFit (loop .loop .i - 1))
-    (c .before .before .moved-where .ensures) (c .moved-where2 .ensures)
+    (c .before .moved-where .ensures) (c .moved-where2 .ensures)
 
 returns : tie.Need-returns Inv-loop μ-loop
 returns c = trades-all _ _ _ _ _ _ (c .before .loop .inv) (c .loop-test .left) (c .before .before .before .pre .1)
@@ -73,11 +70,10 @@ set-trades-spec =
     sub-i
     cast-chosen
     shr-chosen
-    mul-moved-where
-    shared-slice-read-moved-where
+    add-side
+    mul-side
+    shared-slice-read-side
     moved-where-requires
-    mul-moved-where-2
-    shared-slice-read-moved-where-2
     moved-where-requires-2
     loop-less
     loop-again

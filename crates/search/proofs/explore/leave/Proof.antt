@@ -7,6 +7,9 @@ use borrow.Author.Needs.{needs}
 use Rattle.search.proofs.explore.leave.Statement.{statement}
 use Rattle.search.proofs.explore.leave.Tie as tie
 
+add-moved-where : tie.Need-add-moved-where
+add-moved-where c = search needs
+
 mul-moved-where : tie.Need-mul-moved-where
 mul-moved-where c = search needs
 
@@ -21,11 +24,11 @@ moved-where-requires c κs =
 add-t7 : tie.Need-add-t7
 add-t7 c = search needs
 
-mul-t11 : tie.Need-mul-t11
-mul-t11 c = search needs
+mul-t8 : tie.Need-mul-t8
+mul-t8 c = search needs
 
-shared-slice-read-t9 : tie.Need-shared-slice-read-t9
-shared-slice-read-t9 c = search needs
+shared-slice-read-t10 : tie.Need-shared-slice-read-t10
+shared-slice-read-t10 c = search needs
 
 cast-t13 : tie.Need-cast-t13
 cast-t13 c = omega (arith, c .shared-slice-known3 .given (gainColumn + c .before .before .before .before .before .args .at))
@@ -46,12 +49,13 @@ pub leave-spec : {M : Type 1} → statement M
 leave-spec =
     tie.close
     (tie.spec
+    add-moved-where
     mul-moved-where
     shared-slice-read-moved-where
     moved-where-requires
     add-t7
-    mul-t11
-    shared-slice-read-t9
+    mul-t8
+    shared-slice-read-t10
     cast-t13
     add-t14
     returns)

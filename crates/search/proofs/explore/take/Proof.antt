@@ -7,6 +7,9 @@ use borrow.Author.Needs.{needs}
 use Rattle.search.proofs.explore.take.Statement.{statement}
 use Rattle.search.proofs.explore.take.Tie as tie
 
+add-moved-where : tie.Need-add-moved-where
+add-moved-where c = search needs
+
 mul-moved-where : tie.Need-mul-moved-where
 mul-moved-where c = search needs
 
@@ -21,16 +24,16 @@ moved-where-requires c κs =
 bit-requires : tie.Need-bit-requires
 bit-requires c κs = search needs
 
-add-t11 : tie.Need-add-t11
-add-t11 c =
+add-t12 : tie.Need-add-t12
+add-t12 c =
     let a = c .before .before .before .before .before .before in
     record { fits = set-room (a .args .at) _ _ (a .pre .1) (a .pre .2 .setFits) (c .before .bit .ensures) }
 
 add-t7 : tie.Need-add-t7
 add-t7 c = search needs
 
-mul-t12 : tie.Need-mul-t12
-mul-t12 c = search needs
+mul-t8 : tie.Need-mul-t8
+mul-t8 c = search needs
 
 shared-slice-read-t14 : tie.Need-shared-slice-read-t14
 shared-slice-read-t14 c = search needs
@@ -54,13 +57,14 @@ pub take-spec : {M : Type 1} → statement M
 take-spec =
     tie.close
     (tie.spec
+    add-moved-where
     mul-moved-where
     shared-slice-read-moved-where
     moved-where-requires
     bit-requires
-    add-t11
+    add-t12
     add-t7
-    mul-t12
+    mul-t8
     shared-slice-read-t14
     cast-t15
     add-t16

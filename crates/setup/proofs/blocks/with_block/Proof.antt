@@ -18,14 +18,17 @@ less-requires c κs = search needs
 less-requires-2 : tie.Need-less-requires-2
 less-requires-2 c κs = search needs
 
+add-r : tie.Need-add-r
+add-r c = search needs
+
 mul-r : tie.Need-mul-r
 mul-r c = search needs
 
 array-write-r : tie.Need-array-write-r
 array-write-r c = search needs
 
-add-r : tie.Need-add-r
-add-r c = search needs
+add-r-2 : tie.Need-add-r-2
+add-r-2 c = search needs
 
 mul-r-2 : tie.Need-mul-r-2
 mul-r-2 c = search needs
@@ -33,8 +36,8 @@ mul-r-2 c = search needs
 array-write-r-2 : tie.Need-array-write-r-2
 array-write-r-2 c = search needs
 
-add-r-2 : tie.Need-add-r-2
-add-r-2 c = search needs
+add-r-3 : tie.Need-add-r-3
+add-r-3 c = search needs
 
 mul-r-3 : tie.Need-mul-r-3
 mul-r-3 c = search needs
@@ -42,8 +45,8 @@ mul-r-3 c = search needs
 array-write-r-3 : tie.Need-array-write-r-3
 array-write-r-3 c = search needs
 
-add-r-3 : tie.Need-add-r-3
-add-r-3 c = search needs
+add-r-4 : tie.Need-add-r-4
+add-r-4 c = search needs
 
 mul-r-4 : tie.Need-mul-r-4
 mul-r-4 c = search needs
@@ -62,8 +65,8 @@ mul-r-5 c =
     (omega (arith, c .before .before .less .ensures, s .pre .3)) (omega (arith, c .before .less2 .ensures, s .pre .2)) in
     record { fits = omega (arith, product-fits (a .quantity) (c .by-side .result) (s .pre .1) (omega (arith, c .by-side .ensures, fits))) }
 
-add-r-4 : tie.Need-add-r-4
-add-r-4 c = search needs
+add-r-5 : tie.Need-add-r-5
+add-r-5 c = search needs
 
 mul-r-6 : tie.Need-mul-r-6
 mul-r-6 c = search needs
@@ -83,8 +86,8 @@ mul-r-7 c =
     (omega (arith, b .before .less2 .ensures, s .pre .2)) (omega (arith, b .before .before .less .ensures, s .pre .3)) in
     record { fits = omega (arith, product-fits (a .quantity) (c .by-side2 .result) (s .pre .1) (omega (arith, c .by-side2 .ensures, fits))) }
 
-add-r-5 : tie.Need-add-r-5
-add-r-5 c = search needs
+add-r-6 : tie.Need-add-r-6
+add-r-6 c = search needs
 
 mul-r-8 : tie.Need-mul-r-8
 mul-r-8 c = search needs
@@ -104,25 +107,26 @@ with-block-spec =
     (tie.spec
     less-requires
     less-requires-2
+    add-r
     mul-r
     array-write-r
-    add-r
+    add-r-2
     mul-r-2
     array-write-r-2
-    add-r-2
+    add-r-3
     mul-r-3
     array-write-r-3
-    add-r-3
+    add-r-4
     mul-r-4
     array-write-r-4
     by-side-requires
     mul-r-5
-    add-r-4
+    add-r-5
     mul-r-6
     array-write-r-5
     by-side-requires-2
     mul-r-7
-    add-r-5
+    add-r-6
     mul-r-8
     array-write-r-6
     returns)

@@ -4,11 +4,17 @@ use borrow.Author.Needs.{needs}
 use Rattle.setup.proofs.twins.are_twins.Statement.{statement}
 use Rattle.setup.proofs.twins.are_twins.Tie as tie
 
+add-same-side : tie.Need-add-same-side
+add-same-side c = search needs
+
 mul-same-side : tie.Need-mul-same-side
 mul-same-side c = search needs
 
 shared-slice-read-same-side : tie.Need-shared-slice-read-same-side
 shared-slice-read-same-side c = search needs
+
+add-same-side-2 : tie.Need-add-same-side-2
+add-same-side-2 c = search needs
 
 mul-same-side-2 : tie.Need-mul-same-side-2
 mul-same-side-2 c = search needs
@@ -59,8 +65,10 @@ pub are-twins-spec : {M : Type 1} → statement M
 are-twins-spec =
     tie.close
     (tie.spec
+    add-same-side
     mul-same-side
     shared-slice-read-same-side
+    add-same-side-2
     mul-same-side-2
     shared-slice-read-same-side-2
     add-same-hours

@@ -13,6 +13,9 @@ Inv-loop blocks i ahead side limit trades found₀ edge₀ j₀ found edge j = (
 abbrev μ-loop : tie.MeasureT-loop
 μ-loop blocks i ahead side limit trades found₀ edge₀ j₀ found edge j = i - j
 
+add-side : tie.Need-add-side Inv-loop μ-loop
+add-side c = search needs
+
 mul-side : tie.Need-mul-side Inv-loop μ-loop
 mul-side c = search needs
 
@@ -97,6 +100,7 @@ nearest-twin-spec =
     (tie.spec
     Inv-loop
     μ-loop
+    add-side
     mul-side
     shared-slice-read-side
     add-limit

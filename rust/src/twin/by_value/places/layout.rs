@@ -34,7 +34,7 @@ pub const CHANGE: usize = TURN + HOURS;
 pub const HOUR_LIST: usize = CHANGE + 1;
 
 // THE BLOCKS: eight columns and the rows in one list.
-// The side: 0 buys. It begins the list, and is read without its name: `blocks[i]`.
+// The side: 0 buys.
 pub const SIDE: usize = 0;
 
 // The hours, as bits.

@@ -3,6 +3,7 @@
 use crate::twin::by_value::places::layout::HOURS;
 use crate::twin::by_value::places::layout::LIMIT;
 use crate::twin::by_value::places::layout::RUNS;
+use crate::twin::by_value::places::layout::SIDE;
 
 // The sum of prices over the hours of a block.
 pub fn price_sum(prices: &[u32], hours: u32) -> u32
@@ -37,7 +38,13 @@ pub fn keeps_limits(blocks: &[u32], count: usize, set: u32, high: &[u32], low: &
         i -= 1;
         let chosen = (set >> (i as u32)) % 2;
         if chosen == 1 {
-            if !keeps_limit(blocks[i], blocks[RUNS + i], blocks[LIMIT + i], high, low) {
+            if !keeps_limit(
+                blocks[SIDE + i],
+                blocks[RUNS + i],
+                blocks[LIMIT + i],
+                high,
+                low,
+            ) {
                 return false;
             }
         }

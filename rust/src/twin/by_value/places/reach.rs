@@ -6,6 +6,7 @@ use crate::twin::by_value::places::layout::FIRST;
 use crate::twin::by_value::places::layout::GAIN;
 use crate::twin::by_value::places::layout::HOURS;
 use crate::twin::by_value::places::layout::LAST;
+use crate::twin::by_value::places::layout::SIDE;
 use crate::twin::by_value::places::layout::TURN;
 use crate::twin::by_value::places::numbers::larger;
 use crate::twin::by_value::places::numbers::number_of;
@@ -26,7 +27,7 @@ pub struct Moves {
 
 fn moves_of(blocks: &[u32], i: usize, out: bool, loss: u64, limit: u64) -> Moves
 {
-    let buys = blocks[i] == 0;
+    let buys = blocks[SIDE + i] == 0;
     let left_out = out | (limit <= loss + (blocks[AGAINST + i] as u64));
     let taken = limit <= loss + (blocks[GAIN + i] as u64);
     Moves {

@@ -2,6 +2,7 @@
 // What the blocks of a decided set sell and buy in each hour, and what is traded there with the steps.
 use crate::twin::by_value::places::added::moved_where;
 use crate::twin::by_value::places::layout::HOURS;
+use crate::twin::by_value::places::layout::SIDE;
 use crate::twin::by_value::pricing::execution::traded_at;
 
 // What blocks sell and buy in each hour.
@@ -20,8 +21,9 @@ pub fn set_trades(blocks: &[u32], count: usize, set: u32) -> Trades
     while 0 < i {
         i -= 1;
         let chosen = (set >> (i as u32)) % 2 == 1;
-        let sold = moved_where(chosen & (blocks[i] != 0), sales, blocks, i);
-        let bought = moved_where(chosen & (blocks[i] == 0), buys, blocks, i);
+        let side = blocks[SIDE + i];
+        let sold = moved_where(chosen & (side != 0), sales, blocks, i);
+        let bought = moved_where(chosen & (side == 0), buys, blocks, i);
         sales = sold;
         buys = bought;
     }

@@ -9,6 +9,7 @@ use crate::twin::by_value::places::layout::AGAINST;
 use crate::twin::by_value::places::layout::AHEAD;
 use crate::twin::by_value::places::layout::BEHIND;
 use crate::twin::by_value::places::layout::GAIN;
+use crate::twin::by_value::places::layout::SIDE;
 use crate::twin::by_value::places::reach::is_out;
 
 // The set that holds block number at alone.
@@ -22,7 +23,7 @@ fn take(blocks: &[u32], at: u32, node: Node) -> Node
 {
     let i = at as usize;
     let places = node.places;
-    let moved = moved_where(blocks[i] != 0, places, blocks, i);
+    let moved = moved_where(blocks[SIDE + i] != 0, places, blocks, i);
     Node {
         set: node.set + bit(at),
         loss: node.loss + (blocks[AGAINST + i] as u64),
@@ -35,7 +36,7 @@ fn leave(blocks: &[u32], at: u32, node: Node) -> Node
 {
     let i = at as usize;
     let places = node.places;
-    let moved = moved_where(blocks[i] == 0, places, blocks, i);
+    let moved = moved_where(blocks[SIDE + i] == 0, places, blocks, i);
     Node {
         set: node.set,
         loss: node.loss + (blocks[GAIN + i] as u64),

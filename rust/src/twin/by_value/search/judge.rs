@@ -9,6 +9,7 @@ use crate::twin::by_value::places::layout::CHANGE;
 use crate::twin::by_value::places::layout::GAIN;
 use crate::twin::by_value::places::layout::LIMIT;
 use crate::twin::by_value::places::layout::RUNS;
+use crate::twin::by_value::places::layout::SIDE;
 use crate::twin::by_value::places::layout::TURN;
 use crate::twin::by_value::places::limits::keeps_limit;
 use crate::twin::by_value::places::limits::keeps_limits;
@@ -22,7 +23,13 @@ fn is_ruled_out(blocks: &[u32], i: usize, was: bool, high: &[u32], low: &[u32]) 
     if was {
         return true;
     }
-    !keeps_limit(blocks[i], blocks[RUNS + i], blocks[LIMIT + i], high, low)
+    !keeps_limit(
+        blocks[SIDE + i],
+        blocks[RUNS + i],
+        blocks[LIMIT + i],
+        high,
+        low,
+    )
 }
 
 // The undecided blocks that are out, from the last one on to the one at number at, whose bit is the lowest.

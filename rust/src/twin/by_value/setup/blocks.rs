@@ -12,6 +12,7 @@ use crate::twin::by_value::places::layout::LIMIT;
 use crate::twin::by_value::places::layout::MOST_BLOCKS;
 use crate::twin::by_value::places::layout::QUANTITY;
 use crate::twin::by_value::places::layout::RUNS;
+use crate::twin::by_value::places::layout::SIDE;
 use crate::twin::by_value::places::limits::price_sum;
 use crate::twin::by_value::places::numbers::by_side;
 use crate::twin::by_value::places::numbers::choose;
@@ -68,7 +69,7 @@ fn with_block(
     let mut r = columns;
     let over = less(sum, limit);
     let under = less(limit, sum);
-    r[i] = side as u32;
+    r[SIDE + i] = side as u32;
     r[RUNS + i] = hours;
     r[QUANTITY + i] = quantity;
     r[LIMIT + i] = limit;

@@ -6,12 +6,13 @@ use crate::twin::by_value::places::layout::BLOCK_LIST;
 use crate::twin::by_value::places::layout::LIMIT;
 use crate::twin::by_value::places::layout::QUANTITY;
 use crate::twin::by_value::places::layout::RUNS;
+use crate::twin::by_value::places::layout::SIDE;
 use crate::twin::by_value::places::numbers::choose;
 
 // Whether two blocks are twins: of the same side, hours and quantity.
 fn are_twins(blocks: &[u32], a: usize, b: usize) -> bool
 {
-    let same_side = blocks[a] == blocks[b];
+    let same_side = blocks[SIDE + a] == blocks[SIDE + b];
     let same_hours = blocks[RUNS + a] == blocks[RUNS + b];
     let same_quantity = blocks[QUANTITY + a] == blocks[QUANTITY + b];
     (same_side & same_hours) & same_quantity
@@ -31,7 +32,7 @@ fn is_no_worse(side: u32, limit: u32, other: u32) -> bool
 // and 1, or 0 for none.
 fn nearest_twin(blocks: &[u32], i: usize, ahead: bool) -> u32
 {
-    let side = blocks[i];
+    let side = blocks[SIDE + i];
     let limit = blocks[LIMIT + i];
     let trades = 0 < blocks[QUANTITY + i];
     let mut found: u32 = 0;
