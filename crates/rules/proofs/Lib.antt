@@ -25,6 +25,7 @@ pub mod PlaceLaws
 pub mod QuietHours
 pub mod LawCutLaws
 pub mod LinkLaws
+pub mod FamilyLaws
 pub mod TwinLaws
 pub mod OutcomeRulesLaws
 pub mod BoundsLaws
