@@ -25,8 +25,9 @@ pub mod PlaceLaws
 pub mod QuietHours
 pub mod LawCutLaws
 pub mod LinkLaws
-pub mod FamilyLaws
 pub mod TwinLaws
 pub mod OutcomeRulesLaws
 pub mod BoundsLaws
 pub mod TradeBounds
+pub mod FamilyLaws
+pub mod FamilyBounds
