@@ -29,3 +29,5 @@ pub mod TwinLaws
 pub mod OutcomeRulesLaws
 pub mod BoundsLaws
 pub mod TradeBounds
+pub mod FamilyLaws
+pub mod FamilyBounds

@@ -49,6 +49,11 @@ familiesOf day set [] = []
 familiesOf day set (b ∷ l) =
     keep (eqb (parentOf (day .links) (b .number)) 0) (record { root = b .number; gain = familyGain day set (b .number) }) (familiesOf day set l)
 
+-- The gains of families together.
+unfoldable pub totalGain : List Family → ℕ
+totalGain [] = 0
+totalGain (family ∷ l) = family .gain + totalGain l
+
 -- The family report of a book's orders: over all blocks, in rising order number, under the published set.
 unfoldable pub familyReport : Orders → List Family
 familyReport orders = familiesOf (dayOf orders) (outcome (dayOf orders)) (dayOf orders .blocks)

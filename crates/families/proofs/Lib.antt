@@ -1,0 +1,2 @@
+-- The laws of the families of a book.
+pub mod VisitLaws

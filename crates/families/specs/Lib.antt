@@ -1,0 +1,2 @@
+-- The families of a book's blocks. Definitions only.
+pub mod Visit
