@@ -1,2 +1,3 @@
 -- The laws of the families of a book.
 pub mod VisitLaws
+pub mod LineLaws
