@@ -6,10 +6,11 @@ use mathlib.Core.List.{List, [], _∷_}
 use Rattle.records.specs.Bytes.{u16At, u24At, u32At, nonzero}
 use Rattle.book.specs.Tests.{within, someBelow, someIn, countIn}
 use Rattle.rules.specs.Orders.{limits}
-use Rattle.records.specs.Records.{stepAt, blockAt, recordAt, hoursSet}
-use Rattle.book.specs.Chains.{chainFrom, chains, isOn, stepOrder, blockOrder}
+use Rattle.records.specs.Records.{stepAt, blockAt, linkAt, linkRest, recordAt, hoursSet}
+use Rattle.book.specs.Chains.{chainFrom, chains, isOn, stepOrder, blockOrder, linkOrder, links}
 use Rattle.book.specs.Refusals.{
   wrongSize,
+  linksTooEarly,
   wrongHead,
   misplaced,
   broken,
@@ -31,6 +32,11 @@ use Rattle.book.specs.Refusals.{
   wrongHours,
   uncounted,
   uncountedOn,
+  linkInRange,
+  isNumber,
+  hasBlock,
+  misnamed,
+  wrongLink,
   firstCause,
   ownCauses,
   refusal,
@@ -40,8 +46,8 @@ use Rattle.rules.specs.Day.{weight, isCounted, sumTo, daySum}
 use Rattle.rules.specs.Outcome.{published}
 use Rattle.rules.specs.WorkedDays.{WorkedDay, workedDays, changeDays, Hold}
 use Rattle.rules.proofs.WorkedDayLaws.{worked-days-hold, change-days-hold}
-use Rattle.orders.specs.Bridge.{stepFrom, orderFrom, blockFrom, ordersOf}
-use Rattle.orders.specs.WorkedBooks.{chained, bookOn, workedBooks, changeBooks, EachWorked}
+use Rattle.orders.specs.Bridge.{stepFrom, orderFrom, blockFrom, linkFrom, ordersOf}
+use Rattle.orders.specs.WorkedBooks.{chained, bookWith, workedBooks, changeBooks, EachWorked}
 
 -- Every book of a list is accepted
 AllAccepted : List (List ℕ) → Type 0
@@ -67,13 +73,13 @@ worked (b ∷ books) (d ∷ days) a r h = (
 )
 
 books-accepted : AllAccepted workedBooks
-unfolding AllAccepted workedBooks bookOn chained refusal ownCauses firstCause wrongSize wrongHead brokenChain brokenOn broken misplaced wrongField wrongFieldOn
+unfolding AllAccepted workedBooks bookWith chained refusal ownCauses firstCause wrongSize linksTooEarly wrongHead brokenChain brokenOn broken misplaced wrongField wrongFieldOn
     outOfRange recordInRange stepInRange blockInRange stepFits blockFits strayRecord stray tooManyBlocks tooManyOf ownedBy within someBelow someIn countIn
-    nonzero limits hoursSet recordAt stepAt blockAt chainFrom chains isOn u16At u24At u32At wrongHours
+    nonzero limits hoursSet recordAt stepAt blockAt chainFrom chains isOn linkOrder links u16At u24At u32At wrongHours wrongLink
 books-accepted = (refl, (refl, (refl, (refl, (refl, (refl, (refl, (refl, (refl, (refl, tt))))))))))
 
 books-read : AllRead workedBooks workedDays
-unfolding AllRead workedBooks workedDays bookOn chained ordersOf orderFrom stepFrom blockFrom stepAt blockAt stepOrder blockOrder chainFrom u16At u24At u32At
+unfolding AllRead workedBooks workedDays bookWith chained ordersOf orderFrom stepFrom blockFrom stepAt blockAt stepOrder blockOrder linkOrder chainFrom u16At u24At u32At
 books-read = (refl, (refl, (refl, (refl, (refl, (refl, (refl, (refl, (refl, (refl, tt))))))))))
 
 -- S1 TO S10
@@ -82,14 +88,14 @@ worked-books-hold = worked workedBooks workedDays books-accepted books-read work
 
 -- THE DAYS OF 23 AND 25 HOURS
 change-books-accepted : AllAccepted changeBooks
-unfolding AllAccepted changeBooks bookOn chained refusal ownCauses firstCause wrongSize wrongHead brokenChain brokenOn broken misplaced wrongField wrongFieldOn
+unfolding AllAccepted changeBooks bookWith chained refusal ownCauses firstCause wrongSize linksTooEarly wrongHead brokenChain brokenOn broken misplaced wrongField wrongFieldOn
     outOfRange recordInRange stepInRange blockInRange stepFits blockFits strayRecord stray tooManyBlocks tooManyOf ownedBy within someBelow someIn countIn
-    nonzero limits hoursSet recordAt stepAt blockAt chainFrom chains isOn u16At u24At u32At
-    wrongHours uncountedOn uncounted countedHours isCounted weight daySum sumTo
+    nonzero limits hoursSet recordAt stepAt blockAt chainFrom chains isOn linkOrder links u16At u24At u32At
+    wrongLink wrongHours uncountedOn uncounted countedHours isCounted weight daySum sumTo
 change-books-accepted = (refl, (refl, (refl, (refl, tt))))
 
 change-books-read : AllRead changeBooks changeDays
-unfolding AllRead changeBooks changeDays bookOn chained ordersOf orderFrom stepFrom blockFrom stepAt blockAt stepOrder blockOrder chainFrom u16At u24At u32At
+unfolding AllRead changeBooks changeDays bookWith chained ordersOf orderFrom stepFrom blockFrom stepAt blockAt stepOrder blockOrder linkOrder chainFrom u16At u24At u32At
 change-books-read = (refl, (refl, (refl, (refl, tt))))
 
 pub change-books-hold : EachWorked changeBooks changeDays

@@ -5,8 +5,8 @@ use Prim.Native.Nat.{ℕ, suc, _+_, _/_, _%_}
 use mathlib.Core.Path.{_≡_}
 use mathlib.Core.List.{List, [], _∷_, _++_}
 use lib.ListN.{length, replicate}
-use Rattle.records.specs.Layout.{stepKind, blockKind, headRestSize}
-use Rattle.book.specs.Bounds.{firstEdition}
+use Rattle.records.specs.Layout.{stepKind, blockKind, linkKind, headRestSize, linkRestSize}
+use Rattle.book.specs.Bounds.{firstEdition, firstLinkEdition}
 use Rattle.rules.specs.Day.{normalHours, springHours, autumnHours}
 use Rattle.book.specs.Refusals.{refusal}
 use Rattle.rules.specs.Outcome.{published}
@@ -24,7 +24,7 @@ three n = n / 65536 % 256 ∷ two n
 abbrev pub four : ℕ → List ℕ
 four n = n / 16777216 % 256 ∷ three n
 
--- A step's record, then a block's, each up to the index of the record that follows it on its chain.
+-- A step's record, a block's and a link's, each up to the index of the record that follows it on its chain.
 abbrev pub stepRecord : (number side hour portfolio quantity price : ℕ) → ℕ → List ℕ
 stepRecord number side hour portfolio quantity price next =
     stepKind ∷ side ∷ two next ++ two number ++ hour ∷ portfolio ∷ four price ++ four quantity
@@ -32,6 +32,9 @@ stepRecord number side hour portfolio quantity price next =
 abbrev pub blockRecord : (number side portfolio hours quantity price : ℕ) → ℕ → List ℕ
 blockRecord number side portfolio hours quantity price next =
     blockKind ∷ side ∷ two next ++ two number ++ 0 ∷ portfolio ∷ three hours ++ three price ++ two quantity
+
+abbrev pub linkRecord : (child parent : ℕ) → ℕ → List ℕ
+linkRecord child parent next = linkKind ∷ 0 ∷ two next ++ two child ++ two parent ++ replicate linkRestSize 0
 
 -- The records of a chain, the first at index k and each followed by the next; the last is followed by none.
 unfoldable pub chained : ℕ → List (ℕ → List ℕ) → List ℕ
@@ -44,12 +47,16 @@ abbrev pub firstAt : ℕ → List (ℕ → List ℕ) → ℕ
 firstAt k [] = 0
 firstAt k (r ∷ l) = k
 
--- A book of a day of so many hours: the head, the steps from record 1 on, the blocks after them.
-unfoldable pub bookOn : ℕ → List (ℕ → List ℕ) → List (ℕ → List ℕ) → List ℕ
-bookOn hours steps blocks =
-    two (1 + length steps + length blocks) ++ two (firstAt 1 steps) ++ two (firstAt (1 + length steps) blocks) ++ hours ∷ firstEdition
-    ∷ replicate headRestSize 0
-    ++ chained 1 steps ++ chained (1 + length steps) blocks
+-- A book of an edition, of a day of so many hours: the head, the steps from record 1 on, the blocks after them, then the links.
+unfoldable pub bookWith : (edition hours : ℕ) (steps blocks links : List (ℕ → List ℕ)) → List ℕ
+bookWith edition hours steps blocks links =
+    two (1 + length steps + length blocks + length links) ++ two (firstAt 1 steps) ++ two (firstAt (1 + length steps) blocks) ++ hours ∷ edition
+    ∷ two (firstAt (1 + length steps + length blocks) links) ++ replicate headRestSize 0
+    ++ chained 1 steps ++ chained (1 + length steps) blocks ++ chained (1 + length steps + length blocks) links
+
+-- A book of a day of so many hours, without links.
+abbrev pub bookOn : ℕ → List (ℕ → List ℕ) → List (ℕ → List ℕ) → List ℕ
+bookOn hours steps blocks = bookWith firstEdition hours steps blocks []
 
 -- A book of a day of 24.
 abbrev pub bookOf : List (ℕ → List ℕ) → List (ℕ → List ℕ) → List ℕ
