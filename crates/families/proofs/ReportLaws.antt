@@ -13,6 +13,7 @@ use Rattle.rules.specs.Orders.{Block}
 use Rattle.rules.specs.Hour.{when}
 use Rattle.rules.specs.Day.{Day, keep, taken, setPrices}
 use Rattle.rules.specs.Contender.{LinksStand}
+use Rattle.rules.specs.OutcomeRules.{EachBlock}
 use Rattle.rules.specs.Families.{parentOf, blockGain, familyGain, Family, familiesOf}
 use Rattle.rules.proofs.Tests.{by-test}
 use Rattle.rules.proofs.LinkLaws.{numberAt, parentPlace}
@@ -79,3 +80,29 @@ module _ (day : Day) (stand : LinksStand day) (set : List Bool) (other : Block) 
   -- THE LINES ARE THE REPORT'S
   pub lines-are : allLines b records parents gains ≡ familyLines (familiesOf day set (day .blocks))
   lines-are = rw whole (lines-so-far (length (day .blocks)) (omega arith) ∙ rw (take-length (day .blocks)))
+
+-- HOW LONG THE LINES ARE: a number has 5 digits at most, a gain 11
+module _ (day : Day) (set : List Bool) (small : (root : ℕ) → familyGain day set root < 10 ^ 11) where
+  line-short : (number gain : ℕ) → number < 10 ^ 5 → gain < 10 ^ 11 → length (familyLine number gain) ≤ 18
+  unfolding familyLine field
+  line-short number gain n g = rw (length-append, length-append, length-append) (omega (arith, few-digits 4 number n, few-digits 10 gain g))
+
+  lines-short : (l : List Block) → EachBlock (λ b. b .number < 10 ^ 5) l → length (familyLines (familiesOf day set l)) ≤ 18 * length l
+  unfolding familyLines familiesOf
+  lines-short [] each = omega arith
+  lines-short (b ∷ l) each =
+      by-test (λ t. length (familyLines (keep t (record { root = b .number; gain = familyGain day set (b .number) }) (familiesOf day set l))) ≤ 18 * suc (length l))
+      (eqb (parentOf (day .links) (b .number)) 0)
+      (λ e. omega (
+        arith,
+        length-append (familyLine (b .number) (familyGain day set (b .number))) (familyLines (familiesOf day set l)),
+        line-short (b .number) (familyGain day set (b .number)) (each .0) (small (b .number)),
+        lines-short l (each .1),
+      ))
+      (λ e. omega (arith, lines-short l (each .1)))
+
+  pub report-short : (l : List Block) → EachBlock (λ b. b .number < 10 ^ 5) l → length (reportText (familiesOf day set l)) ≤ 11 + 18 * length l
+  unfolding reportText text
+  report-short l each =
+      let title : length (text "block;gain\n") ≡ 11 = refl in
+      rw length-append (omega (arith, title, lines-short l each))
