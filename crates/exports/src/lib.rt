@@ -5,10 +5,13 @@ ghost use Rattle.book.specs.Refusals.{refusal};
 ghost use Rattle.result.specs.Promise.{clearRefusal, resultAfter, Demands};
 ghost use Rattle.pricing.specs.Answers.{hourAnswer};
 ghost use Rattle.sheet.specs.Sheet.{sheetOf};
+ghost use Rattle.family_sheet.specs.FamilySheet.{familySheetOf};
 ghost use Rattle.exports.specs.Parts.{answerPart, bufferAfter};
 use book::Reading;
 use book::read;
 use clearing::clear;
+use family_sheet::MOST_FAMILY_SHEET;
+use family_sheet::families;
 use pricing::HourAnswer;
 use pricing::price;
 use result::Clearing;
@@ -88,6 +91,21 @@ pub extern "C" fn auction_sheet(book: &[u8], out: &mut [u8]) -> u32
 {
     let mut bytes = [0u8; MOST_SHEET];
     let count = sheet(book, &mut bytes);
+    if out.len() < count {
+        return count as u32;
+    }
+    put_text(out, 0, &bytes[..count]);
+    count as u32
+}
+
+// The length of what is written of a book's families, at most 587. The bytes are put at the start of `out` where they have room; else it stays as it was.
+#[no_mangle]
+pub extern "C" fn auction_families(book: &[u8], out: &mut [u8]) -> u32
+    ensures answer { λ r. ⌜ r ≡ length (familySheetOf (now (book .entry))) ⌝ }
+    ensures bytes { λ _. ⌜ now (out .exit) ≡ bufferAfter (familySheetOf (now (book .entry))) (now (out .entry)) ⌝ }
+{
+    let mut bytes = [0u8; MOST_FAMILY_SHEET];
+    let count = families(book, &mut bytes);
     if out.len() < count {
         return count as u32;
     }

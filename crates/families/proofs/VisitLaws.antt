@@ -49,7 +49,7 @@ module _ (parents gains : List ℕ) where
   children-later (suc left) i j some = rw (sub-one, add-one) (omega arith)
 
 -- BLOCKS BY THEIR POSITION
-number-at : (l : List Block) (j : ℕ) (other : Block) → j < length l → getD l j other .number ≡ numberAt l j
+pub number-at : (l : List Block) (j : ℕ) (other : Block) → j < length l → getD l j other .number ≡ numberAt l j
 number-at [] j other inside = absurd (omega arith)
 number-at (b ∷ l) zero other inside = refl
 number-at (b ∷ l) (suc j) other inside = number-at l j other (omega arith)

@@ -18,7 +18,17 @@ use Rattle.rules.specs.Families.{parentOf, isBelow, isOfFamily, blockGai
 use Rattle.rules.proofs.Tests.{by-test, by-le, clash}
 use Rattle.rules.proofs.CurveLaws.{when-zero}
 use Rattle.rules.proofs.BoundsLaws.{each-taken}
-use Rattle.rules.proofs.LinkLaws.{numberAt, parentPlace, numbers-above, place-stands, every-each, parent-linked, parent-stands}
+use Rattle.rules.proofs.LinkLaws.{
+  numberAt,
+  parentPlace,
+  StandsAt,
+  numbers-above,
+  among-stands,
+  place-stands,
+  every-each,
+  parent-linked,
+  parent-stands,
+}
 
 -- SUMS OVER BLOCKS
 pub over-same : (f g : Block → ℕ) (l : List Block) → EachBlock (λ b. f b ≡ g b) l → overBlocks f l ≡ overBlocks g l
@@ -341,6 +351,23 @@ module _ (day : Day) (stand : LinksStand day) where
     where
       placed : parentOf (day .links) (numberAt (day .blocks) j) ≡ numberAt (day .blocks) i → parentPlace day j ≡ suc i
       placed e = unfold parentPlace in (rw e (place-stands 0 0 (day .blocks) i (stand .numbers) inside ∙ omega arith))
+
+  -- the block at j has no parent: by its place, and by its number
+  pub root-test : (j : ℕ) → eqb (parentPlace day j) 0 ≡ eqb (parentOf (day .links) (numberAt (day .blocks) j)) 0
+  root-test j = by-place (parentPlace day j) refl
+    where
+      none : parentPlace day j ≡ 0 → ((k : ℕ) × StandsAt (day .blocks) (up (numberAt (day .blocks) j)) k) → ⊥
+      none e (k, s) =
+          let place : parentPlace day j ≡ suc (0 + k) =
+            unfold parentPlace in (rw (← s .there) (place-stands 0 0 (day .blocks) k (stand .numbers) (s .inside))) in
+          absurd (omega arith)
+
+      by-place : (m : ℕ) → parentPlace day j ≡ m → eqb m 0 ≡ eqb (up (numberAt (day .blocks) j)) 0
+      by-place zero e = elim (ℕ-discrete (up (numberAt (day .blocks) j)) 0) [
+        | yes y ↦ sym (eq-eqb _ 0 y)
+        | no y ↦ absurd (none e (among-stands (day .blocks) _ (parent-among (numberAt (day .blocks) j) y)))
+      ]
+      by-place (suc k) e = ne-eqb (suc k) 0 (omega arith) ∙ sym (ne-eqb _ 0 (parent-stands day stand j k e .2))
 
   -- a parent's number is not that of its child, nor of a block behind it
   not-parent : (n m : ℕ) → 0 < n → n ≤ m → up n ≡ m → ⊥
