@@ -43,6 +43,6 @@ pub use random::{
 };
 pub use worked::{
     block_beside_the_day, day_of_23_hours, day_of_25_hours, edition_2_day, head_alone,
-    opposite_blocks, step_beside_the_day, thirty_two_blocks, worked_days, EDITION_2_BLOCKS,
-    THIRTY_TWO_BLOCKS_TAKEN,
+    link_upwards, link_without_parent, linked_days, opposite_blocks, step_beside_the_day,
+    thirty_two_blocks, worked_days, CHAIN_OF_32_TAKEN, EDITION_2_BLOCKS, THIRTY_TWO_BLOCKS_TAKEN,
 };
