@@ -4,7 +4,7 @@
 use auction_listing::books::{
     book_with_causes_of, count, every_byte_changed, link_edges, link_upwards, link_without_parent,
     linked_days, reader_book_of, small_book_on, small_orders_of, small_orders_on, worked_days,
-    Dice, LinkOrder, Met, Orders, Shape, CHAIN_OF_32_TAKEN, DAYS,
+    Dice, LinkOrder, Met, Orders, Shape, CHAIN_OF_32_TAKEN, DAYS, FAMILIES,
 };
 use auction_listing::paper::Side::{Buy, Sell};
 use auction_listing::paper::{
@@ -589,6 +589,26 @@ fn reports_of_random_books() {
         let in_all: u64 = gains.map(|gain| gain.parse::<u64>().unwrap()).sum();
         let blocks = accepted.blocks.iter().map(|it| own_gain(&accepted, &published, it));
         assert_eq!(in_all, blocks.sum::<u64>(), "seed {seed}");
+    }
+}
+
+/// The large families with links have the blocks of those without, in families as large as
+/// they say.
+#[test]
+fn large_families() {
+    let family = |name: &str| FAMILIES.iter().find(|family| family.name == name).expect(name);
+    for seed in 0..20 {
+        let book = |name: &str| read(&(family(name).book)(seed, 32)).expect("accepted");
+        let free = book("the same, not linked");
+        assert_eq!((free.edition, free.steps.len(), free.blocks.len()), (2, 1_984, 32));
+        for (name, size) in [("linked by 2", 2), ("linked by 4", 4), ("linked by 8", 8)] {
+            let linked = book(name);
+            assert_eq!((&linked.steps, &linked.blocks), (&free.steps, &free.blocks), "{name}");
+            let roots = |block: &Block| root_of(&linked, block.number);
+            let of_root = |root| linked.blocks.iter().filter(|it| roots(it) == root).count();
+            let sizes = (1..=32).filter(|&number| root_of(&linked, number) == number).map(of_root);
+            assert_eq!(sizes.collect::<Vec<usize>>(), vec![size; 32 / size], "{name}");
+        }
     }
 }
 
