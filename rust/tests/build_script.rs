@@ -149,6 +149,18 @@ fn a_failure_is_told_in_the_words_of_the_toolchain() {
     assert_eq!(run(&folder, &["auction-print"]), (Some(0), "sheet\n".into(), String::new()));
 }
 
+/// A crate that is not listed is not built in silence.
+#[test]
+fn a_crate_that_is_not_listed() {
+    let folder = folder("unlisted");
+    write(&folder, "crates.txt", &CRATES.replace("family_print", "another"));
+    for _ in 0..2 {
+        let (code, out, told) = run(&folder, &["family-print"]);
+        assert_eq!((code, &*out), (Some(1), ""));
+        assert!(told.contains("no target/bin/family_print came of it"), "{told}");
+    }
+}
+
 #[test]
 fn wrong_words_and_a_missing_toolchain() {
     let folder = folder("words");
