@@ -136,12 +136,11 @@ fn refused_samples_of_edition_3() {
     }
     let (child, parent) = (16 * 7 + 5, 16 * 7 + 7);
     // (byte, its value, the right one)
-    let cases: [(&str, &[(usize, u8, u8)]); 3] = [
-        ("refused-2-edition-3", &[(10, 1, 0)]),
+    for (name, changes) in [
+        ("refused-2-edition-3", &[(10, 1, 0)][..]),
         ("refused-10", &[(parent, 2, 1)]),
         ("refused-10-order", &[(child, 1, 2), (parent, 2, 1)]),
-    ];
-    for (name, changes) in cases {
+    ] {
         let mut book = sample(name, "book");
         for &(at, wrong, right) in changes {
             assert_eq!((book[7], book[at]), (3, wrong), "{name}");
