@@ -2,6 +2,7 @@
 
 use super::builder::{hour_bits, BlockOrder, Orders, StepOrder};
 use super::dice::Dice;
+use super::links::Shape;
 use crate::paper::{self, Side};
 
 /// About the price of each hour of a full day.
@@ -34,7 +35,7 @@ impl Family {
 }
 
 /// The families of the benchmark.
-pub const FAMILIES: [Family; 12] = [
+pub const FAMILIES: [Family; 16] = [
     Family::new("full days", 32, 32, |seed, blocks| full_day(seed, 2015, blocks)),
     Family::new("full days, odd hours", 32, 32, odd_day),
     Family::new("identical blocks", 30, 32, identical_blocks),
@@ -47,6 +48,10 @@ pub const FAMILIES: [Family; 12] = [
     Family::new("edition 2, small", 32, 32, ed2_small),
     Family::new("days of 25 hours", 32, 32, |seed, blocks| changed_day(25, seed, blocks)),
     Family::new("days of 23 hours", 32, 32, |seed, blocks| changed_day(23, seed, blocks)),
+    Family::new("linked by 2", 32, 32, |seed, blocks| linked_day(seed, blocks, Some(2))),
+    Family::new("linked by 4", 32, 32, |seed, blocks| linked_day(seed, blocks, Some(4))),
+    Family::new("linked by 8", 32, 32, |seed, blocks| linked_day(seed, blocks, Some(8))),
+    Family::new("the same, not linked", 32, 32, |seed, blocks| linked_day(seed, blocks, None)),
 ];
 
 /// A day with deep curves in every hour and ordinary blocks, most of which have
@@ -197,6 +202,21 @@ fn changed_day(day: u32, seed: u64, blocks: usize) -> Vec<u8> {
         step.hour = 4;
     }
     add_ordinary_blocks(&mut orders, &mut dice, blocks, usual_hours, 20);
+    orders.book()
+}
+
+/// As many steps as leave room for 32 blocks and the links of families of 8.
+const STEPS_BESIDE_LINKS: usize = 1984;
+
+/// A full day of ordinary blocks, so many of which hang together; without links it is of
+/// edition 2. The steps and the blocks of a seed are the same whatever the links.
+fn linked_day(seed: u64, blocks: usize, family: Option<usize>) -> Vec<u8> {
+    let mut dice = Dice::new(seed);
+    let mut orders = deep_steps(&mut dice, STEPS_BESIDE_LINKS).of_edition(2);
+    add_ordinary_blocks(&mut orders, &mut dice, blocks, usual_hours, 20);
+    if let Some(size) = family {
+        orders = orders.linked(Shape::Families(size), &mut dice);
+    }
     orders.book()
 }
 
