@@ -69,7 +69,15 @@ fn is_ruled_out(blocks: &[u32], i: usize, was: bool, gone: bool, high: &[u32], l
 }
 
 // The undecided blocks that are out, from the one at number at on, whose bit is the lowest; a parent before its children.
-fn ruled_out(blocks: &[u32], count: usize, at: usize, set: u32, out: u32, high: &[u32], low: &[u32]) -> u32
+fn ruled_out(
+    blocks: &[u32],
+    count: usize,
+    at: usize,
+    set: u32,
+    out: u32,
+    high: &[u32],
+    low: &[u32],
+) -> u32
     requires { ⌜ BlocksSized (now blocks) × (count ≤ mostBlocks) × (at ≤ count) × DayPrices (now high) × DayPrices (now low) ⌝ }
     ensures { λ r. ⌜ RuledOut (now (blocks .entry)) count at set out (now (high .entry)) (now (low .entry)) r ⌝ }
 {
