@@ -35,7 +35,7 @@ pub use days::{
 };
 pub use dice::Dice;
 pub use expected::Expected;
-pub use families::{full_day, Family, FAMILIES};
+pub use families::{full_day, linked_day, Family, FAMILIES};
 pub use links::{link_edges, Shape};
 pub use random::{
     pricing_case, pricing_case_of, small_book, small_book_of, small_orders, small_orders_of,

@@ -2,19 +2,19 @@
 //! byte: random ones of every day, damaged ones, those at the edges of a link, and large
 //! ones. Compiled with the feature `proved` only.
 //!
-//! The environment variable BOOKS raises the counts (at least 20000 each, 3 of a large
-//! family).
+//! The environment variable BOOKS raises the counts (at least 20000 each, of large books 3
+//! and 20).
 
 mod answers;
 mod compared;
 mod compared_reading;
 
 use auction_listing::books::{
-    count, link_edges, linked_days, pricing_case_of, pricing_case_on, reader_book_of,
+    count, link_edges, linked_day, linked_days, pricing_case_of, pricing_case_on, reader_book_of,
     reader_book_on, small_book_of, small_book_on, small_orders_of, tiny_book_of, tiny_book_on,
-    Dice, Orders, DAYS, FAMILIES,
+    Dice, Orders, Shape, DAYS, FAMILIES,
 };
-use auction_listing::paper::{self, is_better, Book, Published};
+use auction_listing::paper::{self, is_better, Book, Outcome, Published};
 use compared::{compare_accepted, compare_any, compare_pricing, Named};
 use compared_reading::{changes_of, compare_reading};
 
@@ -139,29 +139,54 @@ fn neighbours(book: &Book, set: u32) -> Vec<u32> {
     flipped.collect()
 }
 
-/// The large families with links, whose sets are too many to list: what is published is
-/// what the paper makes of its set, no set beside it is better, and the report is that of
-/// the result.
+/// The result of a large book, with its set: it is what the paper makes of that set, and the
+/// report is that of the result.
+fn published(name: &str, book: &[u8]) -> (Book, Outcome) {
+    let accepted = paper::read(book).expect("accepted");
+    let mut result = vec![0x55; paper::result_length(accepted.record_count)];
+    assert_eq!(auction::clear_into(book, &mut result), Ok(()), "{name}");
+    let set = Published::from_bytes(&result).set(&accepted);
+    let outcome = paper::outcome(&accepted, set).expect("a set that is allowed");
+    assert!(paper::result_bytes(&accepted, &outcome) == result, "{name}");
+    let report = paper::families_of(&accepted, &result);
+    assert_eq!(auction::family_report(book).as_bytes(), report, "{name}");
+    (accepted, outcome)
+}
+
+/// None of the sets is better than what is published.
+fn none_is_better(name: &str, book: &Book, best: &Outcome, others: impl Iterator<Item = u32>) {
+    for set in others {
+        assert!(paper::holds_parents(book, set), "{name}: {set:b}");
+        let better = paper::outcome(book, set)
+            .is_some_and(|it| is_better((it.welfare, it.set), (best.welfare, best.set)));
+        assert!(!better, "{name}: {set:b} is better than {:b}", best.set);
+    }
+}
+
+/// Large books whose sets are too many to list: no set beside the published one is better.
 #[test]
 fn large_books_with_links() {
-    for family in FAMILIES.iter().filter(|family| family.name.starts_with("linked")) {
-        for seed in 0..count("BOOKS", 3) {
-            let name = format!("{}, seed {seed}", family.name);
-            let book = (family.book)(seed, family.usual_blocks);
-            let accepted = paper::read(&book).expect("accepted");
-            let mut result = vec![0x55; paper::result_length(accepted.record_count)];
-            assert_eq!(auction::clear_into(&book, &mut result), Ok(()), "{name}");
-            let set = Published::from_bytes(&result).set(&accepted);
-            let outcome = paper::outcome(&accepted, set).expect("a set that is allowed");
-            assert!(paper::result_bytes(&accepted, &outcome) == result, "{name}");
-            let report = paper::families_of(&accepted, &result);
-            assert_eq!(auction::family_report(&book).as_bytes(), report, "{name}");
-            for other in neighbours(&accepted, set) {
-                assert!(paper::holds_parents(&accepted, other), "{name}: {other:b}");
-                let better = paper::outcome(&accepted, other)
-                    .is_some_and(|it| is_better((it.welfare, it.set), (outcome.welfare, set)));
-                assert!(!better, "{name}: {other:b} is better than {set:b}");
-            }
+    for seed in 0..count("BOOKS", 3) {
+        let linked = FAMILIES.iter().filter(|family| family.name.starts_with("linked"));
+        let families = linked.map(|family| (family.name.into(), (family.book)(seed, 32)));
+        let shapes = [Shape::Star, Shape::Tree, Shape::Any].into_iter();
+        let shaped = shapes.map(|it| (format!("{it:?}"), linked_day(seed, 32, Some(it))));
+        for (name, book) in families.chain(shaped) {
+            let name = format!("{name}, seed {seed}");
+            let (accepted, best) = published(&name, &book);
+            let others = neighbours(&accepted, best.set).into_iter();
+            none_is_better(&name, &accepted, &best, others);
         }
+    }
+}
+
+/// Of a chain of 32 only 33 sets are allowed: the first blocks, however many.
+#[test]
+fn large_chains_clear_as_the_listing_of_all_allowed_sets() {
+    for seed in 0..count("BOOKS", 20) {
+        let name = format!("linked_day({seed}, 32, Some(Shape::Chain))");
+        let (accepted, best) = published(&name, &linked_day(seed, 32, Some(Shape::Chain)));
+        let others = (0..=32).map(|count| ((1u64 << count) - 1) as u32);
+        none_is_better(&name, &accepted, &best, others);
     }
 }
