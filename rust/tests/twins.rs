@@ -159,8 +159,10 @@ fn the_twins_agree_on_large_linked_books() {
         let mut space = Workspace::default();
         let families = [2, 4, 8, 32].map(Shape::Families);
         let shapes = [Shape::Chain, Shape::Star, Shape::Tree, Shape::Any];
+        // Two books of each seed and shape.
+        let seeds = count("BOOKS", 192).div_ceil(16);
         for shape in shapes.into_iter().chain(families) {
-            for seed in 0..count("BOOKS", 12) {
+            for seed in 0..seeds {
                 let day = DAYS[seed as usize % 3];
                 let name = format!("{shape:?}, seed {seed}, day of {day} hours");
                 let mut book = on_day_of(day, linked_day(seed, 32, Some(shape)));

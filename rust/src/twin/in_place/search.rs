@@ -57,7 +57,7 @@ struct State {
     gaps: u64,
 }
 
-/// The search of a day, or of one without links.
+/// The search of a day, `LINKED` or without links.
 struct Search<'a, const ROOM: usize, const LINKED: bool> {
     hours: &'a Hours<ROOM>,
     day: Day,
