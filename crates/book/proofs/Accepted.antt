@@ -156,18 +156,17 @@ portfolio-few b a p h =
     ltb-false (limits (edition b) .blocksOfPortfolio) (countIn (chainOf b chain-of.Blocks) (ownedBy b p))
     (none-below portfolioNumbers (tooManyOf b) (or-right (ltb mostBlocks (countOn b chain-of.Blocks)) _ (a .notTooMany)) p h)
 
--- No step is also a block or a link ..
-step-only : (b : List ℕ) → Accepted b → (c : Chain) → (kindOn chain-of.Steps ≡ kindOn c → ⊥) → (i : ℕ) → member i (chainOf b chain-of.Steps) ≡ true
-    → member i (chainOf b c) ≡ false
-step-only b a c other i e =
-    each-member (λ j. member j (chainOf b c) ≡ false) (chainOf b chain-of.Steps) i (apart b chain-of.Steps c other (a .unbroken)) e
+-- A record of one chain is on no other
+only-on : (b : List ℕ) → Accepted b → (c d : Chain) → (kindOn c ≡ kindOn d → ⊥) → (i : ℕ) → member i (chainOf b c) ≡ true → member i (chainOf b d) ≡ false
+only-on b a c d other i e = each-member (λ j. member j (chainOf b d) ≡ false) (chainOf b c) i (apart b c d other (a .unbroken)) e
 
--- .. and no block is a link
-pub block-only : (b : List ℕ) → Accepted b → (i : ℕ) → member i (blockOrder b) ≡ true → member i (linkOrder b) ≡ false
-unfolding blockOrder linkOrder
-block-only b a i e =
-    each-member (λ j. member j (chainOf b chain-of.Links) ≡ false) (chainOf b chain-of.Blocks) i
-    (apart b chain-of.Blocks chain-of.Links (λ k. omega arith) (a .unbroken)) e
+-- No link is a step or a block
+pub link-only : (b : List ℕ) → Accepted b → (i : ℕ) → member i (linkOrder b) ≡ true → (member i (stepOrder b) ≡ false) × (member i (blockOrder b) ≡ false)
+unfolding stepOrder blockOrder linkOrder
+link-only b a i e = (
+  only-on b a chain-of.Links chain-of.Steps (λ k. omega arith) i e,
+  only-on b a chain-of.Links chain-of.Blocks (λ k. omega arith) i e,
+)
 
 -- Every record from 1 to R − 1 is a step, or else a block or a link
 pub one-chain : (b : List ℕ) → Accepted b → (i : ℕ) → 0 < i → i < recordCount b
@@ -179,8 +178,8 @@ one-chain b a i p h =
   where
     at : (s t u : Bool) → member i (chainOf b chain-of.Steps) ≡ s → member i (chainOf b chain-of.Blocks) ≡ t → member i (chainOf b chain-of.Links) ≡ u
         → (leb 1 i && not (s || t || u)) ≡ false → s ≡ not (t || u)
-    at true true u e f l g = absurd (true≢false (sym f ∙ step-only b a chain-of.Blocks (λ k. omega arith) i e))
-    at true false true e f l g = absurd (true≢false (sym l ∙ step-only b a chain-of.Links (λ k. omega arith) i e))
+    at true true u e f l g = absurd (true≢false (sym f ∙ only-on b a chain-of.Steps chain-of.Blocks (λ k. omega arith) i e))
+    at true false true e f l g = absurd (true≢false (sym l ∙ only-on b a chain-of.Steps chain-of.Links (λ k. omega arith) i e))
     at true false false e f l g = refl
     at false true u e f l g = refl
     at false false true e f l g = refl
