@@ -4,8 +4,8 @@
 mod large_stack;
 
 use auction_listing::books::{
-    day_edges, edge_books, edition_edges, reader_book_of, reader_book_on, small_book_of,
-    small_book_on, worked_days, DAYS_AND_EDITIONS, FAMILIES,
+    day_edges, edge_books, edition_edges, link_edges, linked_days, reader_book_of, reader_book_on,
+    small_book_of, small_book_on, worked_days, DAYS_AND_EDITIONS, FAMILIES,
 };
 use auction_listing::paper::{self, result_length_for, Published};
 use auction_listing::twin::by_value::{clearing, result::Clearing};
@@ -57,8 +57,16 @@ fn agreed(name: &str, book: &[u8], size: usize, space: &mut Workspace) -> (u32, 
     (one.0, one.1)
 }
 
+/// Whether the twins know the edition of a book: edition 3 is still to come.
+fn is_known(book: &[u8]) -> bool {
+    book.get(7) != Some(&3)
+}
+
 /// Both twins against the listing.
 fn compare(name: &str, book: &[u8], size: usize, space: &mut Workspace) {
+    if !is_known(book) {
+        return;
+    }
     let expected = match paper::clear(book, size) {
         Ok(result) => (0, result),
         Err(refusal) => (u32::from(refusal), untouched(size)),
@@ -73,11 +81,12 @@ fn compare(name: &str, book: &[u8], size: usize, space: &mut Workspace) {
 fn the_twins_clear_small_books_as_the_listing() {
     with_stack(|| {
         let mut space = Workspace::default();
-        for (name, orders) in worked_days() {
+        let linked = linked_days().into_iter().filter(|(name, _)| *name != "linked-chain");
+        for (name, orders) in worked_days().into_iter().chain(linked) {
             let book = orders.book();
             compare(name, &book, result_length_for(&book), &mut space);
         }
-        for (edition, seed) in (0..1000).flat_map(|seed| [(1, seed), (2, seed)]) {
+        for (edition, seed) in (0..1000).flat_map(|seed| [1, 2, 3].map(|edition| (edition, seed))) {
             let book = small_book_of(edition, seed);
             let name = format!("small_book_of({edition}, {seed})");
             compare(&name, &book, result_length_for(&book), &mut space);
@@ -89,8 +98,9 @@ fn the_twins_clear_small_books_as_the_listing() {
 fn the_twins_refuse_as_the_listing() {
     with_stack(|| {
         let mut space = Workspace::default();
-        let damaged = (0..400).flat_map(|seed| [1, 2].map(|edition| reader_book_of(edition, seed)));
-        let edges = edge_books().into_iter().chain(edition_edges());
+        let damaged =
+            (0..400).flat_map(|seed| [1, 2, 3].map(|edition| reader_book_of(edition, seed)));
+        let edges = edge_books().into_iter().chain(edition_edges()).chain(link_edges());
         for (i, book) in edges.chain(damaged).enumerate() {
             compare_sizes(&format!("damaged book {i}"), &book, &mut space);
         }
@@ -134,6 +144,9 @@ fn the_twins_agree_on_large_books() {
         let mut space = Workspace::default();
         for family in FAMILIES {
             let (name, book) = (family.name, (family.book)(1, family.usual_blocks));
+            if !is_known(&book) {
+                continue;
+            }
             let (answer, result) = agreed(name, &book, result_length_for(&book), &mut space);
             assert_eq!(answer, 0, "{name}: refused");
             let published = Published::from_bytes(&result);

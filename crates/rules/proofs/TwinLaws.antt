@@ -37,7 +37,7 @@ pub record Exchangeable (day : Day) (a b : ℕ) : Type 0 where
   pub parent : ℕ → ℕ
   pub parents : Parents day parent
   pub noneOrSame : (k : ℕ) → parent a ≡ suc k → parent b ≡ suc k
-  pub nobodys : (j : ℕ) → parent j ≡ suc b → ⊥
+  pub nobodys : (j : ℕ) → j < length (day .blocks) → parent j ≡ suc b → ⊥
 
 -- block a is ahead of its twin, block b, at hourly prices p: it keeps its limit wherever b does, and loses no more in b's place; to exchange them breaks
 -- no link, for a has no parent or b's, and b is nobody's parent
@@ -70,6 +70,12 @@ block-at (x ∷ l) (suc j) b after other e = block-at l j b after other e
 
 pub block-within : (l : List Block) (j : ℕ) (b : Block) (after : List Block) → drop j l ≡ b ∷ after → j < length l
 block-within l j b after e = omega (arith, length-drop j l, ap length e)
+
+-- a set holds decisions as far as it takes blocks
+pub taken-within : (set : List Bool) (j : ℕ) → getD set j false ≡ true → j < length set
+taken-within [] j e = clash e refl
+taken-within (x ∷ set) zero e = omega arith
+taken-within (x ∷ set) (suc j) e = omega (arith, taken-within set j e)
 
 -- ONE BLOCK CHANGED: the place and the losses of a set that takes it, against those of the set that leaves it out
 module _ (other : Block) where
@@ -252,7 +258,7 @@ module _ (day : Day) (p : ℕ → ℕ) (a b : ℕ) (ahead : Ahead day p a b) (se
   exchanged-closed : Closed (ahead .unlinked .parent) set → Closed (ahead .unlinked .parent) exchanged
   exchanged-closed closed j k link e = elim (ℕ-discrete k a) [
     | yes y ↦ rw (y, in-a)
-    | no y ↦ as-before k y (λ z. links .nobodys j (link ∙ ap suc z)) ∙ parent-in
+    | no y ↦ as-before k y (λ z. links .nobodys j (omega (arith, exchanged-size, taken-within exchanged j e)) (link ∙ ap suc z)) ∙ parent-in
   ]
     where
       links : Exchangeable day a b

@@ -78,6 +78,16 @@ across hours =
       links = [];
     }
 
+-- The base book with two sell blocks over hours 1 and 2, the second the child of the first. Their prices are given.
+abbrev pub family : (parent child : ℕ) → Day
+family parent child =
+    dayOf (record {
+      hours = 24;
+      steps = baseWith [] .steps;
+      blocks = block 1 sell 3 25 parent ∷ block 2 sell 3 25 child ∷ [];
+      links = record { child = 2; parent = 1 } ∷ [];
+    })
+
 -- OUTCOMES FOR DEMAND 2
 -- A set of a day's blocks with prices, traded quantities and a quantity for each step.
 pub record Case : Type 0 where

@@ -131,6 +131,22 @@ hourCount hours b = daySum hours (λ h. when (b .runs h) 1)
 unfoldable pub priceSum : ℕ → (ℕ → ℕ) → Block → ℕ
 priceSum hours price b = daySum hours (λ h. when (b .runs h) (price h))
 
+-- LINKS
+-- Some block of a list has this number.
+abbrev pub isAmong : List Block → ℕ → Bool
+isAmong [] number = false
+isAmong (b ∷ l) number = eqb (b .number) number || isAmong l number
+
+-- The blocks of a set keep a link: its child is not among them, or its parent is.
+unfoldable pub keepsLink : List Block → Link → Bool
+keepsLink set link = not (isAmong set (link .child)) || isAmong set (link .parent)
+
+-- A test passes for every link of a list.
+abbrev pub everyLink : (Link → Bool) → List Link → Bool
+everyLink t [] = true
+everyLink t (link ∷ l) = t link && everyLink t l
+
+-- LIMITS
 -- A block keeps its limit: the sum of prices over its hours is at least its price times its hour count for a sell, at most that for a buy.
 unfoldable pub keepsLimit : ℕ → (ℕ → ℕ) → Block → Bool
 keepsLimit hours price b =
@@ -147,27 +163,12 @@ everyBlock t (b ∷ l) = t b && everyBlock t l
 unfoldable pub keepsLimits : Day → List Block → Bool
 keepsLimits day set = everyBlock (keepsLimit (day .hours) (setPrices day set)) set
 
--- LINKS
--- Some block of a list has this number.
-abbrev pub isAmong : List Block → ℕ → Bool
-isAmong [] number = false
-isAmong (b ∷ l) number = eqb (b .number) number || isAmong l number
-
--- The blocks of a set keep a link: its child is not among them, or its parent is.
-unfoldable pub keepsLink : List Block → Link → Bool
-keepsLink set link = not (isAmong set (link .child)) || isAmong set (link .parent)
-
--- A test passes for every link of a list.
-abbrev pub everyLink : (Link → Bool) → List Link → Bool
-everyLink t [] = true
-everyLink t (link ∷ l) = t link && everyLink t l
-
 -- LAWFUL SETS ("lawful" is document 01's term)
 -- Which sets may be taken at all: those that hold every taken child's parent.
 unfoldable pub allowed : Day → List Bool → Bool
 allowed day set = everyLink (keepsLink (taken (day .blocks) set)) (day .links)
 
--- A set is lawful when every hour clears and each of its blocks keeps its limit.
+-- A set is lawful when it may be taken, every hour clears and each of its blocks keeps its limit.
 unfoldable pub lawful : Day → List Bool → Bool
 lawful day set =
     allowed day set

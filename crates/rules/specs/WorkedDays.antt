@@ -270,6 +270,43 @@ changeDays =
     ∷ autumnDay 3334 (hours234 150000 5000 4000 150000) (hours234 0 50 100 0) (false ∷ []) (50 ∷ 50 ∷ 100 ∷ 100 ∷ []) 500000
     ∷ []
 
+-- DAYS WITH LINKED BLOCKS (document 02, P6): the base book with two blocks over hours 1 and 2 (bits 3), the second the child of the first.
+abbrev pub linkedDay : Block → Block → (price traded : ℕ) → List Bool → List ℕ → ℕ → List PriceFact → WorkedDay
+linkedDay parent child price traded chosen rows welfare facts =
+    record {
+      orders = record {
+        hours = 24;
+        steps = baseWith [] .steps;
+        blocks = parent ∷ child ∷ [];
+        links = record { child = 2; parent = 1 } ∷ [];
+      };
+      publishes = record {
+        welfare = welfare;
+        prices = rest22 price price 150000;
+        traded = rest22 traded traded 0;
+        chosen = chosen;
+        executed = rows;
+      };
+      prices = facts;
+    }
+
+unfoldable pub linkedDays : List WorkedDay
+linkedDays =
+    -- a start-up block at 3500 loses alone, at prices of 3000; with its child, which buys as much at 4500, both gain, and both are taken
+    linkedDay (block 1 sell 3 50 3500) (block 2 buy 3 50 4500) 4000 150 (true ∷ true ∷ []) (100 ∷ 100 ∷ 100 ∷ 100 ∷ []) 500000
+    (fact (true ∷ false ∷ []) 1 3000 3000 3000 ∷ fact (false ∷ true ∷ []) 1 5000 5000 5000 ∷ [])
+    -- the same with a child at 3900, which misses its limit at the 4000 of both: neither is taken
+    ∷ linkedDay (block 1 sell 3 50 3500) (block 2 buy 3 50 3900) 4000 100 (false ∷ false ∷ []) (100 ∷ 100 ∷ 100 ∷ 100 ∷ []) 400000
+    (fact (true ∷ true ∷ []) 1 3000 5000 4000 ∷ [])
+    -- a child at 2900 would be taken alone, as in S5; its parent, at 4500, is not, and so it is left out
+    ∷ linkedDay (block 1 sell 3 50 4500) (block 2 sell 3 50 2900) 4000 100 (false ∷ false ∷ []) (100 ∷ 100 ∷ 100 ∷ 100 ∷ []) 400000
+    (fact (false ∷ true ∷ []) 1 3000 3000 3000 ∷ [])
+    -- equal welfare with the family, with the parent alone and without both: the family is taken, by the equal rule
+    ∷ linkedDay (block 1 sell 3 25 3000) (block 2 sell 3 25 3000) 3000 100 (true ∷ true ∷ []) (100 ∷ 50 ∷ 100 ∷ 50 ∷ []) 400000 []
+    -- the same with a parent one cent dearer: it is left out, and its child with it
+    ∷ linkedDay (block 1 sell 3 25 3001) (block 2 sell 3 25 3000) 4000 100 (false ∷ false ∷ []) (100 ∷ 100 ∷ 100 ∷ 100 ∷ []) 400000 []
+    ∷ []
+
 -- The hour is answered so.
 abbrev pub Answered : Orders → List PriceFact → Type 0
 Answered orders [] = Unit {0}

@@ -1,13 +1,14 @@
 -- THE REACH OF A BRANCH: the places of a lawful completion lie in it, so a branch is dropped where some hour has no place to balance, or where the least
 -- gaps in it come to too much. Assumes nothing.
-use Prim.Native.Nat.{ℕ, zero, suc, _+_, _-_, _≤_, _<_}
+use Prim.Native.Nat.{ℕ, zero, suc, _+_, _-_, _/_, _%_, _^_, _≤_, _<_}
 use mathlib.Core.Path.{_≡_, refl, sym, _∙_}
 use mathlib.Core.List.{List, [], _∷_, _++_}
 use mathlib.Core.Bool.{Bool, true, false, not, _||_}
 use native.Mathlib.Omega.{arith}
+use mathlib.Core.Logic.{_⊎_, inl, inr}
 use native.Mathlib.Decide.{decLe}
 use native.Mathlib.Nat.{lt-of-not-le, suc-inj}
-use lib.Dec.{leb}
+use lib.Dec.{leb, eqb}
 use lib.ListN.{length, drop, getD, length-append, List·getD-append}
 use borrow.Author.Tests.{eq-eqb}
 use Rattle.rules.specs.Orders.{Side}
@@ -18,22 +19,24 @@ use Rattle.rules.proofs.Tests.{by-test, clash}
 use Rattle.rules.proofs.NeighbourLaws.{slack}
 use Rattle.rules.proofs.BoundLaws.{gain}
 use Rattle.rules.proofs.LossLaws.{daySum-counted, against, losses, bound-with}
-use Rattle.rules.proofs.SetBits.{bits-at}
 use Rattle.rules.proofs.PlaceLaws.{place, place-none, place-split, pricesAt}
+use Rattle.rules.proofs.LinkLaws.{Closed}
 use Rattle.rules.proofs.TwinLaws.{block-at}
 use Rattle.rules.proofs.LawCutLaws.{couldKeep, taken-could}
 use Rattle.places.specs.Hours.{sumOfHours, sumOver, countedColumn, cell, ofHour, PricesOf, leastGap}
-use Rattle.places.specs.Blocks.{sideAt, hoursAt, limitAt, rowQuantity, keepsAt, allKeep, addedIn}
+use Rattle.places.specs.Blocks.{sideAt, hoursAt, limitAt, parentAt, rowQuantity, keepsAt, allKeep, addedIn}
 use Rattle.places.specs.Reach.{isOut, mustFrom, mayFrom, RestOf, ReachOf}
-use Rattle.search.specs.Decisions.{isRuledOut}
+use Rattle.search.specs.Decisions.{namesGone, isRuledOut, RuledOut}
 use Rattle.search.specs.Meaning.{AnHour, Shown, Known, Branch, lossAbove, At, DroppedFrom, JudgedFrom, lastReached}
 use Rattle.search.specs.Tables.{Tables}
 use Rattle.places.proofs.NumberLaws.{larger-least, larger-above, smaller-most, smaller-below, nearest-least}
 use Rattle.places.proofs.LimitLaws.{all-keep}
 use Rattle.places.proofs.ReachLaws.{taken-adds, left-adds, to-fits}
 use Rattle.places.proofs.CountedLaws.{day-sum, block-sum}
+use Rattle.search.proofs.ClosedLaws.{lawful-closed}
+use Rattle.search.proofs.DecisionLaws.{gone-named, gone-which}
 use Rattle.search.proofs.TradedLaws.{sells-at, buys-at}
-use Rattle.search.proofs.DecidedLaws.{an-hour, noBlock, price-at-table, lawful-place, gap-of-lawful, rest-below}
+use Rattle.search.proofs.DecidedLaws.{an-hour, noBlock, decided-bit, price-at-table, lawful-place, gap-of-lawful, rest-below}
 use Rattle.search.specs.declared.Node.{Node}
 
 -- THE PLACE OF THE REST at a loss below the limit, where it takes no block that is out
@@ -117,9 +120,10 @@ getD-behind : (d t : List Bool) (j : ℕ) → getD (d ++ t) (length d + j) false
 getD-behind [] t j = let e : 0 + j ≡ j = omega arith in rw e
 getD-behind (x ∷ d) t j = let e : suc (length d) + j ≡ suc (length d + j) = omega arith in rw e (getD-behind d t j)
 
-either-out : (was keeps : Bool) → keeps ≡ true → (was || not keeps) ≡ true → was ≡ true
-either-out true keeps k e = refl
-either-out false keeps k e = clash e (rw k)
+either-out : (was gone keeps : Bool) → keeps ≡ true → (was || gone || not keeps) ≡ true → (was ≡ true) ⊎ (gone ≡ true)
+either-out true gone keeps k e = inl refl
+either-out false true keeps k e = inr refl
+either-out false false keeps k e = clash e (rw k)
 
 -- ONE LAW FOR EACH REASON to drop a branch
 module _ {tables : Tables} {left out : ℕ} {node : Node} {limit : ℕ} where
@@ -250,7 +254,7 @@ module _ {tables : Tables} {left out : ℕ} {node : Node} {limit : ℕ} where
           all-keep (tables .blocks) (node .set) (countedColumn (tables .change) high) (countedColumn (tables .change) lowest) (tables .count - left) (λ j m bit.
           let here : j < length d = omega (arith, size) in
           block-could ph pl e k j (omega arith)
-          (List·getD-append d t false j here ∙ rw (← (branch .setIs)) (bits-at (length d) (node .set) j here ∙ eq-eqb _ 1 bit)))
+          (List·getD-append d t false j here ∙ decided-bit branch j here ∙ eq-eqb _ 1 bit))
 
       rest-could : {high lowest : List ℕ} → PricesOf (tables .unitPrices) from high → PricesOf (tables .unitPrices) to lowest → balances ≡ true →
           lossAbove day p rest (d ++ t) < limit → (j : ℕ) → j < left → getD t j false ≡ true →
@@ -276,18 +280,63 @@ module _ {tables : Tables} {left out : ℕ} {node : Node} {limit : ℕ} where
       dropped-by-limit misses day p rest d t at l law =
           unless _ _ (λ k. clash (rw (hc, lc) (decided-could t at l law ph pl e k)) misses)
 
-      -- WHAT IS OUT: what was before, and an undecided block that misses its limit at the best prices within reach
-      pub judged-open : left ≤ tables .count → {r : ℕ} →
-          ((k : ℕ) → k < tables .count - (tables .count - left) → isOut r k ≡ isRuledOut (tables .blocks) (tables .count - left + k) (isOut out k) high-counted low-counted) →
-          JudgedFrom tables left out node limit false r
-      unfolding isRuledOut
-      judged-open le is = record {
-        dropped = λ z. clash z refl;
-        outOf = λ _ day p rest d at t k l law less inside ruled.
+      -- WHAT IS OUT: what was before, a child of a block that is gone, and an undecided block that misses its limit at the best prices within reach
+      module _ (le : left ≤ tables .count) (r : ℕ) (is : RuledOut (tables .blocks) (tables .count) (tables .count - left) (node .set) out high-counted low-counted r)
+          {day : Day} {p rest : ℕ → ℕ} {d : List Bool} (at : At tables left node limit out day p rest d) (t : List Bool) (l : length t ≡ left)
+          (law : lawful day (d ++ t) ≡ true) (less : lossAbove day p rest (d ++ t) < limit) where
+        here-is : tables .count - left ≡ length d
+        here-is = omega (arith, at .size)
+
+        set-closed : Closed (at .known .parent) (d ++ t)
+        set-closed = lawful-closed (at .known) (d ++ t) (length-append d t ∙ rw l (at .size)) law
+
+        -- so a block whose parent is gone is not taken, if none before it that is out is
+        gone-not : (k : ℕ) → k < left → namesGone (parentAt (tables .blocks) (length d + k)) (length d) (node .set) r ≡ true →
+            ((j : ℕ) → j < k → isOut r j ≡ true → getD t j false ≡ false) → getD t k false ≡ true → ⊥
+        gone-not k inside gone before bit = by-which (gone-which name (length d) (node .set) r gone)
+          where
+            name : ℕ
+            name = parentAt (tables .blocks) (length d + k)
+
+            named : name ≡ suc (name - 1)
+            named = let some = gone-named name (length d) (node .set) r gone in omega arith
+
+            link : at .known .parent (length d + k) ≡ suc (name - 1)
+            link = sym (at .known .parentIs (length d + k) (omega (arith, at .size))) ∙ named
+
+            parent-in : getD (d ++ t) (name - 1) false ≡ true
+            parent-in = set-closed (length d + k) (name - 1) link (getD-behind d t k ∙ bit)
+
+            by-which : ((name - 1 < length d) × (eqb (node .set / 2 ^ (name - 1) % 2) 1 ≡ false)) ⊎
+                ((length d ≤ name - 1) × (isOut r (name - 1 - length d) ≡ true)) → ⊥
+            by-which (inl (early, zero-bit)) =
+                clash (sym (List·getD-append d t false (name - 1) early) ∙ parent-in)
+                (decided-bit (at .branch) (name - 1) early ∙ zero-bit)
+            by-which (inr (late, outs)) =
+                let e : length d + (name - 1 - length d) ≡ name - 1 = omega arith in
+                clash (sym (getD-behind d t (name - 1 - length d)) ∙ rw e parent-in)
+                (before (name - 1 - length d) (omega (arith, link, at .known .parents .before (length d + k))) outs)
+
+        ruled-not : (n k : ℕ) → k < n → k < left → isOut r k ≡ true → getD t k false ≡ false
+        unfolding isRuledOut
+        ruled-not zero k a inside ruled = absurd (omega arith)
+        ruled-not (suc n) k a inside ruled =
             by-test (λ u. getD t k false ≡ u → u ≡ false) (getD t k false)
             (λ bit _.
             let keeps = rest-could t at l law ph pl e less k inside bit in
             let was = rw (hc, lc) at (sym (is k (omega arith)) ∙ ruled) in
-            clash (sym (at .outOf t k l law less inside (either-out (isOut out k) _ keeps was)) ∙ bit) refl)
-            (λ _ _. refl) refl;
+            by-which bit (λ j b outs. ruled-not n j (omega arith) (omega arith) outs) (either-out (isOut out k) _ _ keeps was))
+            (λ _ _. refl) refl
+          where
+            by-which : getD t k false ≡ true → ((j : ℕ) → j < k → isOut r j ≡ true → getD t j false ≡ false) → (isOut out k ≡ true) ⊎
+                (namesGone (parentAt (tables .blocks) (tables .count - left + k)) (tables .count - left) (node .set) r ≡ true) → true ≡ false
+            by-which bit before (inl was) = sym bit ∙ at .outOf t k l law less inside was
+            by-which bit before (inr gone) = absurd (gone-not k inside (rw here-is at gone) before bit)
+
+      pub judged-open : left ≤ tables .count → {r : ℕ} →
+          RuledOut (tables .blocks) (tables .count) (tables .count - left) (node .set) out high-counted low-counted r →
+          JudgedFrom tables left out node limit false r
+      judged-open le is = record {
+        dropped = λ z. clash z refl;
+        outOf = λ _ day p rest d at t k l law less inside ruled. ruled-not le _ is at t l law less (suc k) k (omega arith) inside ruled;
       }

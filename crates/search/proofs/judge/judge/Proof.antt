@@ -151,7 +151,7 @@ ruled-out-requires : tie.Need-ruled-out-requires
 ruled-out-requires c κs =
     let low = counting (c .before .before .before) in
     let p = start (reached (back low) .before) .pre in
-    (p .0 .blocksFit .columns, p .0 .few, omega (arith, p .2), low .before .before .counted-prices .ensures .1, low .counted-prices2 .ensures .1)
+    (p .0 .blocksFit, p .0 .few, omega (arith, p .2), low .before .before .counted-prices .ensures .1, low .counted-prices2 .ensures .1)
 
 returns-6 : tie.Need-returns-6
 returns-6 c =
