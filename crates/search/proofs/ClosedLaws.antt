@@ -8,7 +8,6 @@ use native.Mathlib.Decide.{ℕ-discrete}
 use lib.ListN.{length, getD, length-append, List·getD-append}
 use lib.Seq.{getD-append-seam}
 use Rattle.rules.specs.Day.{Day, lawful}
-use Rattle.rules.proofs.Tests.{clash}
 use Rattle.rules.proofs.DayLaws.{lawful-contends}
 use Rattle.rules.proofs.LinkLaws.{Closed}
 use Rattle.rules.proofs.TwinLaws.{taken-within}
