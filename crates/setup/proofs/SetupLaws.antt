@@ -17,11 +17,12 @@ use Rattle.book.specs.Hours.{countedHours}
 use Rattle.book.specs.Refusals.{Accepted}
 use Rattle.orders.specs.Bridge.{dayFrom}
 use Rattle.orders.specs.Columns.{StepColumns, BlockColumns, sideFor, stepsFrom, blockOf, blocksFrom}
-use Rattle.orders.specs.Columns.{blockRecords, blockSideAt, blockHoursAt, blockPriceAt, blockQuantityAt}
+use Rattle.orders.specs.Columns.{blockRecords, blockSideAt, blockHoursAt, blockPriceAt, blockQuantityAt, parentColumn}
 use Rattle.orders.proofs.BridgeLaws.{prices-in-range, hours-in-range, day-quiet, day-hours-read, day-short, blocks-from-columns, block-count, hour-count}
 use Rattle.orders.proofs.FrontLaws.{block-records-front, block-sides-front, block-hours-front, block-prices-front, block-quantities-front}
 use Rattle.orders.proofs.HourLaws.{hour-from-columns, ends-rise, ends-fit}
 use Rattle.orders.proofs.PlaceLaws.{block-place}
+use Rattle.orders.proofs.LinkLaws.{links-stand, parents-read}
 use Rattle.rules.specs.Orders.{Side, buy, sell, Step, Block, maxPrice}
 use Rattle.rules.specs.Hour.{bySide, when, allBuys, allSells}
 use Rattle.rules.specs.Day.{changeHour, weight, overBlocks, sells, buys, stepsIn, priceSum}
@@ -36,7 +37,7 @@ use Rattle.rules.proofs.BoundsLaws.{weight-small}
 use Rattle.rules.proofs.LossLaws.{against}
 use Rattle.rules.proofs.PlaceLaws.{hourAt}
 use Rattle.rules.proofs.TwinLaws.{limitOf, Exchangeable, Ahead, ahead-by-limits}
-use Rattle.rules.proofs.LinkLaws.{parentPlace}
+use Rattle.rules.proofs.LinkLaws.{parentPlace, Parents, parents-stand}
 use Rattle.tables.specs.Tables.{UnitPrices, NotRising}
 use Rattle.tables.proofs.LevelLaws.{table-not-rising}
 use Rattle.tables.proofs.GapLaws.{gap-table, gap-falls, gap-rises}
@@ -47,6 +48,7 @@ use Rattle.search.specs.Meaning.{lastReached, Sized, Shown, Known, Turning}
 use Rattle.setup.specs.Setup.{
   StepsHeld,
   BlocksHeld,
+  ParentsHeld,
   fromTo,
   hourPart,
   rowPlaces,
@@ -508,3 +510,13 @@ blocks-held b count records sides hours prices quantities c a = record {
   pricesFit = λ i k. block-place b count records sides hours prices quantities c a i k .priceRange .1;
   quantitiesFit = λ i k. block-place b count records sides hours prices quantities c a i k .quantityRange .1;
 }
+
+-- THE PARENTS of an accepted book's blocks stand as the rules ask, and those that are read are theirs
+day-parents : (b : List ℕ) → Accepted b → Parents (dayFrom b) (parentPlace (dayFrom b))
+day-parents b a = parents-stand (dayFrom b) (links-stand b a)
+
+pub parents-held : (b parents : List ℕ) → Accepted b → parents ≡ parentColumn b → ParentsHeld parents
+parents-held b parents a e i k = rw (e, parents-read b a i) (day-parents b a .before i)
+
+pub parents-of : (b : List ℕ) (count : ℕ) (parents : List ℕ) → Accepted b → parents ≡ parentColumn b → ParentsOf b count parents
+parents-of b count parents a e = record { are = λ j k. rw e (parents-read b a j); stand = day-parents b a }
