@@ -18,7 +18,8 @@ use Rattle.rules.proofs.HourSums.{all-counted}
 use Rattle.records.specs.Records.{recordCount, dayHours, edition, kind, sideByte, hourByte}
 use Rattle.records.specs.Records.{stepAt, blockAt, linkAt, linkRest, recordAt, hoursSet}
 use Rattle.book.specs.Chains.{chainFrom, firstOn, kindOn, chainOf, isOn, countOn, stepOrder, blockOrder, linkOrder, steps, blocks, links}
-use Rattle.book.specs.Refusals.{wrongSize, linksTooEarly, wrongHead, brokenChain, wrongFieldOn, wrongField, stray, strayRecord, ownedBy, tooManyOf, tooManyBlocks}
+use Rattle.book.specs.Refusals.{wrongSize, linksTooEarly, wrongHead, brokenChain, wrongFieldOn, wrongField, stray, strayRecord}
+use Rattle.book.specs.Refusals.{ownedBy, tooManyOf, tooManyBlocks}
 use Rattle.book.specs.Refusals.{uncounted, uncountedOn, wrongHours, hasBlock, misnamed, wrongLink, firstCause, ownCauses, refusal, Accepted}
 use Rattle.book.specs.Refusals.{stepFits, blockFits, stepInRange, blockInRange, linkInRange, recordInRange, outOfRange}
 use Rattle.records.specs.declared.Step.{Step}
@@ -299,7 +300,8 @@ block-record b size i h =
       fields = block-bounds _ _ (and-right (side && none) _ r);
     }
 
-link-record : (b : List ℕ) → length b ≡ recordSize * recordCount b → (i : ℕ) → ((0 < i) × Placed b chain-of.Links i) × (outOfRange b i ≡ false) → LinkRecord b i
+link-record : (b : List ℕ) → length b ≡ recordSize * recordCount b → (i : ℕ) → ((0 < i) × Placed b chain-of.Links i) × (outOfRange b i ≡ false)
+    → LinkRecord b i
 unfolding outOfRange recordInRange linkInRange recordAt
 link-record b size i h =
     let place = h .0 .1 in

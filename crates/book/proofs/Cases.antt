@@ -9,9 +9,10 @@ use Rattle.rules.specs.Orders.{limits}
 use Rattle.rules.specs.Day.{weight, isCounted, sumTo, daySum}
 use Rattle.records.specs.Records.{stepAt, blockAt, linkAt, linkRest, recordAt, hoursSet}
 use Rattle.book.specs.Chains.{chainFrom, chains, isOn, stepOrder, blockOrder, linkOrder, links}
-use Rattle.book.specs.Refusals.{wrongSize, linksTooEarly, wrongHead, misplaced, broken, brokenOn, brokenChain, stepFits, blockFits, stepInRange, blockInRange}
-use Rattle.book.specs.Refusals.{recordInRange, outOfRange, wrongFieldOn, wrongField, stray, strayRecord, ownedBy, tooManyOf, tooManyBlocks, uncounted, uncountedOn, wrongHours, firstCause, ownCauses, refusal}
-use Rattle.book.specs.Refusals.{linkInRange, isNumber, hasBlock, misnamed, wrongLink}
+use Rattle.book.specs.Refusals.{wrongSize, linksTooEarly, wrongHead, misplaced, broken, brokenOn, brokenChain, stepFits, blockFits, stepInRange}
+use Rattle.book.specs.Refusals.{blockInRange, linkInRange, recordInRange, outOfRange, wrongFieldOn, wrongField, stray, strayRecord, ownedBy}
+use Rattle.book.specs.Refusals.{tooManyOf, tooManyBlocks, uncounted, uncountedOn, wrongHours, isNumber, hasBlock, misnamed, wrongLink}
+use Rattle.book.specs.Refusals.{firstCause, ownCauses, refusal}
 use Rattle.book.specs.Hours.{countedHours}
 use Rattle.book.specs.Answers.{reading}
 use Rattle.book.specs.declared.Reading.the-variants as reading-of
@@ -116,7 +117,8 @@ pub record SmallBooks : Type 0 where
 pub decided : SmallBooks
 unfolding
     headAlone stepAndBlock ownNext bothCauses leftOver headOn stepOf3 blockOver u16At u24At u32At nonzero within someBelow someIn countIn limits stepAt blockAt
-    recordAt hoursSet chainFrom chains isOn stepOrder blockOrder linkOrder links wrongSize linksTooEarly wrongHead misplaced broken brokenOn brokenChain stepFits blockFits stepInRange
+    recordAt hoursSet chainFrom chains isOn stepOrder blockOrder linkOrder links wrongSize linksTooEarly wrongHead misplaced broken brokenOn brokenChain
+    stepFits blockFits stepInRange
     blockInRange recordInRange outOfRange wrongFieldOn wrongField stray strayRecord ownedBy tooManyOf tooManyBlocks weight isCounted sumTo daySum countedHours
     uncounted uncountedOn wrongHours wrongLink firstCause ownCauses refusal reading
 decided = record {
@@ -157,7 +159,8 @@ pub record Editions : Type 0 where
 pub at-the-limits : Editions
 unfolding
     headOf blockOf blocksFrom portfolioOf u16At u24At u32At nonzero within someBelow someIn countIn limits stepAt blockAt recordAt hoursSet
-    chainFrom chains isOn stepOrder blockOrder linkOrder links wrongSize linksTooEarly wrongHead misplaced broken brokenOn brokenChain stepFits blockFits stepInRange blockInRange
+    chainFrom chains isOn stepOrder blockOrder linkOrder links wrongSize linksTooEarly wrongHead misplaced broken brokenOn brokenChain stepFits blockFits
+    stepInRange blockInRange
     recordInRange outOfRange wrongFieldOn wrongField stray strayRecord ownedBy tooManyOf tooManyBlocks wrongHours wrongLink firstCause ownCauses refusal reading
 at-the-limits =
     record {
@@ -177,7 +180,7 @@ at-the-limits =
     }
 
 -- LINKS
--- Of an edition, on a day of so many hours: blocks 2 and 4 over hours given as bits, and a third record with the link chain's first index
+-- Of an edition, on a day of so many hours: blocks 2 and 4 over hours given as bits, the index of the first link, and a third record
 pub familyOf : (hours edition bits first : ℕ) → List ℕ → List ℕ
 familyOf hours edition bits first third =
     0 ∷ 4 ∷ 0 ∷ 0 ∷ 0 ∷ 1 ∷ hours ∷ edition ∷ 0 ∷ first ∷ 0 ∷ 0 ∷ 0 ∷ 0 ∷ 0 ∷ 0
@@ -206,7 +209,7 @@ pub record Links : Type 0 where
   pub nineFirst : reading (familyOf 23 3 6 3 (linkBytes 0 0 4 0 0)) ≡ reading-of.Refused 9
   -- 2: editions without links
   pub second : reading (familyOf 24 2 3 3 (linkBytes 0 0 4 2 0)) ≡ reading-of.Refused 2
-  -- 3: a child of 0, a link that is its own next, a link on the block chain's kind
+  -- 3: a child of 0, a link that is its own next, a link chain that begins at a block
   pub childZero : reading (linked 0 2) ≡ reading-of.Refused 3
   pub loop : reading (familyOf 24 3 3 3 (linkBytes 0 3 4 2 0)) ≡ reading-of.Refused 3
   pub onBlocks : reading (familyOf 24 3 3 2 (linkBytes 0 0 4 2 0)) ≡ reading-of.Refused 3

@@ -12,7 +12,8 @@ use Rattle.book.specs.Tests.{within, someBelow, someIn, countIn}
 use Rattle.rules.specs.Orders.{maxPrice, Limits, limits}
 use Rattle.rules.specs.Day.{springHours, autumnHours, isCounted}
 use Rattle.records.specs.Records.{recordCount, firstLink, dayHours, edition, kind, sideByte, number, hourByte, portfolio, recordAt, linkRest, hoursSet}
-use Rattle.book.specs.Bounds.{mostRecords, firstEdition, lastEdition, firstLinkEdition, lastPortfolio, portfolioNumbers, mostStepQuantity, fewestHours, mostBlocks}
+use Rattle.book.specs.Bounds.{mostRecords, firstEdition, lastEdition, firstLinkEdition, lastPortfolio, portfolioNumbers}
+use Rattle.book.specs.Bounds.{mostStepQuantity, fewestHours, mostBlocks}
 use Rattle.book.specs.Hours.{countedHours}
 use Rattle.book.specs.Chains.{chains, kindOn, numbered, chainOf, isOn, countOn, blockOrder, links}
 use Rattle.records.specs.declared.Step.{Step}

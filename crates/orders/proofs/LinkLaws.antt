@@ -39,7 +39,8 @@ pub place-here : (b l : List ℕ) (i n : ℕ) → i < length l → number b (get
 unfolding placeAmong
 place-here b l i n h e = rw (drop-cons l i 0 h, eq-eqb _ _ e)
 
-pub place-later : (b l : List ℕ) (i n : ℕ) → i < length l → (number b (getD l i 0) ≡ n → ⊥) → placeAmong b i (drop i l) n ≡ placeAmong b (i + 1) (drop (i + 1) l) n
+pub place-later : (b l : List ℕ) (i n : ℕ) → i < length l → (number b (getD l i 0) ≡ n → ⊥)
+    → placeAmong b i (drop i l) n ≡ placeAmong b (i + 1) (drop (i + 1) l) n
 unfolding placeAmong
 place-later b l i n h e = rw (drop-cons l i 0 h, ne-eqb _ _ e, add-one)
 
@@ -194,6 +195,7 @@ parents-read b a j =
     let here : getD (parentColumn b) j 0 ≡ parentPlaceAt b l (getD l j 0) = rw (blocks-all b a) (column-at (parentPlaceAt b l) l _ j h) in
     here ∙ place-in b l _ rise ∙ sym (place-by-records b j ∙ rw (number-same b l j h)))
     (λ h.
-    let behind : getD (parentColumn b) j 0 ≡ 0 = rw (blocks-all b a) (column-behind (parentPlaceAt b l) l (blockPlaces - length (map (parentPlaceAt b l) l)) j h) in
+    let room = blockPlaces - length (map (parentPlaceAt b l) l) in
+    let behind : getD (parentColumn b) j 0 ≡ 0 = rw (blocks-all b a) (column-behind (parentPlaceAt b l) l room j h) in
     let none = no-parent b 0 (linkOrder b) 0 (links-rising b a) (omega arith) in
     behind ∙ sym (place-by-records b j ∙ rw (number-behind b l j h, none) (no-place b 0 0 l 0 rise (omega arith))))

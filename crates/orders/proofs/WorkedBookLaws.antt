@@ -1,8 +1,9 @@
--- S1 TO S10, AND THE DAYS OF 23 AND 25 HOURS, FROM BOOK BYTES: each book is accepted, its orders are those of the rules' table, and so what is published of it is what the table says.
--- Reading computes; the rules are not computed again. Assumes nothing.
+-- S1 TO S10, THE DAYS OF 23 AND 25 HOURS AND LINKS, FROM BOOK BYTES: each book is accepted, its orders are those of the rules' table, and so what is published
+-- of it is what the table says. Reading computes; the rules are not computed again. Assumes nothing.
 use Prim.Native.Nat.{ℕ}
 use mathlib.Core.Path.{_≡_, refl, ap, _∙_}
 use mathlib.Core.List.{List, [], _∷_}
+use lib.ListN.{replicate}
 use Rattle.records.specs.Bytes.{u16At, u24At, u32At, nonzero}
 use Rattle.book.specs.Tests.{within, someBelow, someIn, countIn}
 use Rattle.rules.specs.Orders.{limits}
@@ -47,7 +48,8 @@ use Rattle.rules.specs.Outcome.{published}
 use Rattle.rules.specs.WorkedDays.{WorkedDay, workedDays, changeDays, Hold}
 use Rattle.rules.proofs.WorkedDayLaws.{worked-days-hold, change-days-hold}
 use Rattle.orders.specs.Bridge.{stepFrom, orderFrom, blockFrom, linkFrom, ordersOf}
-use Rattle.orders.specs.WorkedBooks.{chained, bookWith, workedBooks, changeBooks, EachWorked}
+use Rattle.orders.specs.Columns.{blockRecords, padded, parentAmong, placeAmong, parentPlaceIn, parentPlaceAt, parentColumn}
+use Rattle.orders.specs.WorkedBooks.{chained, bookWith, workedBooks, changeBooks, familyBook, EachWorked}
 
 -- Every book of a list is accepted
 AllAccepted : List (List ℕ) → Type 0
@@ -100,3 +102,18 @@ change-books-read = (refl, (refl, (refl, (refl, tt))))
 
 pub change-books-hold : EachWorked changeBooks changeDays
 change-books-hold = worked changeBooks changeDays change-books-accepted change-books-read change-days-hold
+
+-- LINKS
+-- The book of a family is accepted, its links are those written, and the parents' column has for block 4 one more than the place of block 2, for block 5
+-- one more than that of block 4
+pub record FamilyRead : Type 0 where
+  pub accepted : refusal familyBook ≡ 0
+  pub linksRead : ordersOf familyBook .links ≡ record { child = 4; parent = 2 } ∷ record { child = 5; parent = 4 } ∷ []
+  pub parentsRead : parentColumn familyBook ≡ 0 ∷ 0 ∷ 2 ∷ 3 ∷ replicate 28 0
+
+pub family-read : FamilyRead
+unfolding familyBook bookWith chained refusal ownCauses firstCause wrongSize linksTooEarly wrongHead brokenChain brokenOn broken misplaced wrongField
+    wrongFieldOn outOfRange recordInRange stepInRange blockInRange linkInRange stepFits blockFits strayRecord stray tooManyBlocks tooManyOf ownedBy within someBelow someIn
+    countIn nonzero limits hoursSet recordAt stepAt blockAt linkAt linkRest chainFrom chains isOn blockOrder linkOrder links u16At u24At u32At wrongHours
+    isNumber hasBlock misnamed wrongLink ordersOf linkFrom blockRecords padded parentAmong placeAmong parentPlaceIn parentPlaceAt parentColumn
+family-read = record { accepted = refl; linksRead = refl; parentsRead = refl }

@@ -74,9 +74,21 @@ sellStep number hour = stepRecord number 1 hour 2
 abbrev pub sellBlock : ℕ → ℕ → ℕ → List ℕ
 sellBlock number = blockRecord number 1 3 3 50
 
--- The base book with blocks.
+-- The steps of the base book, and that book with blocks.
+abbrev pub baseSteps : List (ℕ → List ℕ)
+baseSteps = buyStep 1 1 100 5000 ∷ sellStep 2 1 100 3000 ∷ buyStep 3 2 100 5000 ∷ sellStep 4 2 100 3000 ∷ []
+
 abbrev pub baseBook : List (ℕ → List ℕ) → List ℕ
-baseBook = bookOf (buyStep 1 1 100 5000 ∷ sellStep 2 1 100 3000 ∷ buyStep 3 2 100 5000 ∷ sellStep 4 2 100 3000 ∷ [])
+baseBook = bookOf baseSteps
+
+-- The base book in edition 3 with blocks and links.
+abbrev pub linkedBook : (blocks links : List (ℕ → List ℕ)) → List ℕ
+linkedBook = bookWith firstLinkEdition normalHours baseSteps
+
+-- Blocks 1, 2, 4 and 5: block 4 the child of block 2, and block 5 of block 4.
+unfoldable pub familyBook : List ℕ
+familyBook =
+    linkedBook (sellBlock 1 2900 ∷ sellBlock 2 2900 ∷ sellBlock 4 2900 ∷ sellBlock 5 2900 ∷ []) (linkRecord 4 2 ∷ linkRecord 5 4 ∷ [])
 
 -- The books of S1 to S10, in the order of the rules' table.
 unfoldable pub workedBooks : List (List ℕ)

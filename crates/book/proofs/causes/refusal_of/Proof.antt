@@ -69,7 +69,8 @@ returns c =
     (λ z.
     let left = none-found _ _ 4 _ (omega arith) (outside .next-found3 .ensures) z in
     let unbroken = none-found _ _ 3 _ (omega arith) (broken .next-found2 .ensures) (left .0) in
-    stray-found b _ _ _ _ _ (pre .1) (pre .2) (pre .3) (short .before .record-count .ensures) (short .are-short .ensures) (pre .0) (sym is-broken ∙ unbroken .1))
+    stray-found b _ _ _ _ _ (pre .1) (pre .2) (pre .3) (short .before .record-count .ensures) (short .are-short .ensures) (pre .0)
+    (sym is-broken ∙ unbroken .1))
     (stray .next-found4 .ensures)
     in
     let six = one-cause b _ _ 6 _ _ _ (omega arith) five (λ z. many-found b _ _ (pre .2) (crowded .has-crowded-portfolio .ensures)) (many .next-found5 .ensures) in
