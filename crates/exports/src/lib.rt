@@ -105,10 +105,10 @@ pub extern "C" fn auction_families(book: &[u8], out: &mut [u8]) -> u32
     ensures bytes { λ _. ⌜ now (out .exit) ≡ bufferAfter (familySheetOf (now (book .entry))) (now (out .entry)) ⌝ }
 {
     let mut bytes = [0u8; MOST_FAMILY_SHEET];
-    let count = families(book, &mut bytes);
-    if out.len() < count {
-        return count as u32;
+    let needed = families(book, &mut bytes);
+    if out.len() < needed {
+        return needed as u32;
     }
-    put_text(out, 0, &bytes[..count]);
-    count as u32
+    put_text(out, 0, &bytes[..needed]);
+    needed as u32
 }

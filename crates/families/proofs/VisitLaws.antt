@@ -42,11 +42,27 @@ module _ (parents gains : List ℕ) where
   children-other (suc left) i j some e =
       rw (sub-one, add-one, ne-eqb (getD parents j 0) (suc i) (λ z. e (omega arith))) (omega arith)
 
-  -- a part is no more than the whole
-  pub children-later : (left i j : ℕ) → 0 < left → childrenGain parents gains (left - 1) i (j + 1) ≤ childrenGain parents gains left i j
-  unfolding childrenGain
-  children-later zero i j some = absurd (omega arith)
-  children-later (suc left) i j some = rw (sub-one, add-one) (omega arith)
+  -- what fits as a whole fits in parts, and the parts together
+  module _ (most : ℕ) where
+    pub visit-part-fits : (left i : ℕ) → visitGain parents gains left i < most → childrenGain parents gains left i (i + 1) < most
+    visit-part-fits left i fits = omega (arith, visit-is left i)
+
+    pub visit-sum-fits : (left i sum : ℕ) → visitGain parents gains left i < most → sum ≡ childrenGain parents gains left i (i + 1) →
+        getD gains i 0 + sum < most
+    visit-sum-fits left i sum fits e = omega (arith, visit-is left i)
+
+    pub later-fits : (left i j : ℕ) → 0 < left → childrenGain parents gains left i j < most → childrenGain parents gains (left - 1) i (j + 1) < most
+    unfolding childrenGain
+    later-fits zero i j some fits = absurd (omega arith)
+    later-fits (suc left) i j some fits = rw (sub-one, add-one) (omega arith)
+
+    pub child-fits : (left i j : ℕ) → 0 < left → getD parents j 0 ≡ i + 1 → childrenGain parents gains left i j < most →
+        visitGain parents gains (left - 1) j < most
+    child-fits left i j some e fits = omega (arith, children-child left i j some e)
+
+    pub child-sum-fits : (left i j own later : ℕ) → 0 < left → getD parents j 0 ≡ i + 1 → childrenGain parents gains left i j < most →
+        own ≡ visitGain parents gains (left - 1) j → later ≡ childrenGain parents gains (left - 1) i (j + 1) → own + later < most
+    child-sum-fits left i j own later some e fits o l = omega (arith, children-child left i j some e)
 
 -- BLOCKS BY THEIR POSITION
 pub number-at : (l : List Block) (j : ℕ) (other : Block) → j < length l → getD l j other .number ≡ numberAt l j

@@ -21,7 +21,7 @@ use Rattle.rules.proofs.Tests.{by-eq}
 use Rattle.rules.proofs.LinkLaws.{numberAt, parentPlace}
 use Rattle.rules.proofs.FamilyBounds.{family-small}
 use Rattle.orders.specs.Bridge.{blockFrom, blockOn, ordersOf, dayFrom}
-use Rattle.orders.specs.Columns.{blockRecords, parentPlaceAt, parentColumn, BlockColumns}
+use Rattle.orders.specs.Columns.{blockRecords, parentPlaceAt, parentColumn, padded, BlockColumns}
 use Rattle.orders.proofs.BridgeLaws.{day-blocks, day-short, prices-in-range}
 use Rattle.orders.proofs.RecordLaws.{blocks-all, block-records-fit}
 use Rattle.orders.proofs.ColumnLaws.{padded-front}
@@ -156,6 +156,19 @@ module _ (b result : List ℕ) (a : Accepted b) (is : result ≡ resultBytes b) 
     (bc : BlockColumns 32 b count records sides hours prices quantities) (ps : parents ≡ parentColumn b) (gs : gains ≡ gainColumn b result) where
   fronts : (take count records ≡ blockRecords b) × (take count parents ≡ parentsIn b) × (take count gains ≡ gainsIn b (resultBytes b))
   fronts = (block-records-front bc, rw (ps, bc .counted), rw (gs, is, bc .counted))
+
+  -- so many of each are lent
+  pub records-fit : count ≤ length records
+  unfolding padded
+  records-fit = rw (bc .recordsAre, length-append) (omega (arith, bc .counted))
+
+  pub lent : (count ≡ length (take count records)) × (count ≡ length (take count parents)) × (count ≡ length (take count gains))
+  lent =
+      let held = columns-held b a in (
+        rw (fronts .0) (bc .counted),
+        rw (fronts .1) (omega (arith, bc .counted, held .recordsSize, held .parentsSize)),
+        rw (fronts .2) (omega (arith, bc .counted, held .recordsSize)),
+      )
 
   pub report-held : ColumnsHeld (take count records) (take count parents) (take count gains)
   report-held = rw (fronts .0, fronts .1, fronts .2) (columns-held b a)

@@ -11,6 +11,7 @@ use book::hours::counted_hours;
 use orders::blocks_of;
 use orders::layout::BLOCK_PLACES;
 use orders::layout::HOURS;
+use orders::layout::LAST_HOUR_BYTE;
 use places::cells::counted_prices;
 use places::limits::price_sum;
 use records::day_hours;
@@ -23,7 +24,7 @@ fn prices_in(result: &[u8]) -> [u32; HOURS]
 {
     let mut prices = [0; HOURS];
     let mut h: u8 = 0;
-    while (h as usize) < HOURS {
+    while h < LAST_HOUR_BYTE {
         prices[h as usize] = price_in(result, h + 1);
         h += 1;
     }

@@ -12,6 +12,7 @@ use Rattle.rules.specs.Day.{Day, autumnHours, weight, sumTo, daySum, tak
 use Rattle.rules.specs.Contender.{PricesInRange}
 use Rattle.rules.specs.OutcomeRules.{EachBlock}
 use Rattle.rules.specs.Families.{isOfFamily, distance, blockGain, familyGain}
+use Rattle.rules.proofs.FamilyCases
 use Rattle.rules.proofs.CurveLaws.{when-le}
 use Rattle.rules.proofs.HourSums.{daySum-le, daySum-times}
 use Rattle.rules.proofs.BoundsLaws.{SmallBlock, product-le, price-small, taken-few, each-taken}

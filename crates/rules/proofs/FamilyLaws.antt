@@ -121,7 +121,7 @@ unfolding parentOf
 up-falls m n [] k some = absurd (some refl)
 up-falls m n (link ∷ l) k some = elim (ℕ-discrete (link .child) n) [
   | yes y ↦ by-le (λ t. when t 1 + upTo m l < when (leb (link .child) n) 1 + upTo n l) (link .child) m (λ a. absurd (omega arith))
-    (λ a. by-le (λ t. 0 + upTo m l < when t 1 + upTo n l) (link .child) n (λ b. omega (arith, up-order m n l (omega arith))) (λ b. absurd (omega arith)))
+      (λ a. by-le (λ t. 0 + upTo m l < when t 1 + upTo n l) (link .child) n (λ b. omega (arith, up-order m n l (omega arith))) (λ b. absurd (omega arith)))
   | no y ↦ omega (arith, one-more (link .child) m n (omega arith), up-falls m n l k (rw (ne-eqb (link .child) n y) at some))
 ]
 
@@ -175,8 +175,8 @@ module _ (links : List Link) (falling : EachLink (λ link. link .parent < link .
     | no y ↦ elim (ℕ-discrete (parentOf links n) 0) [
       | yes z ↦ absurd (y (eqb-true n root (sym (family-alone root n z) ∙ e)))
       | no z ↦
-        let up : isOfFamily links root (parentOf links n) ≡ true = rw (ne-eqb n root y) at (sym (family-linked root n z) ∙ e) in
-        omega (arith, parent-falls n z, family-above bound root (parentOf links n) (omega (arith, parent-falls n z)) up)
+          let up : isOfFamily links root (parentOf links n) ≡ true = rw (ne-eqb n root y) at (sym (family-linked root n z) ∙ e) in
+          omega (arith, parent-falls n z, family-above bound root (parentOf links n) (omega (arith, parent-falls n z)) up)
     ]
   ]
 
@@ -242,8 +242,8 @@ module _ (day : Day) (stand : LinksStand day) where
   one-root (suc bound) n x k among = elim (ℕ-discrete (up n) 0) [
     | yes y ↦ below-none 0 n x among y ∙ rw (eq-eqb (up n) 0 y)
     | no y ↦
-      let falls = parent-falls (day .links) (stand .parentBelow) n y in
-      below-some 0 n x among y ∙ rw (ne-eqb (up n) 0 y) (omega (arith, one-root bound (up n) x (omega arith) (parent-among n y)))
+        let falls = parent-falls (day .links) (stand .parentBelow) n y in
+        below-some 0 n x among y ∙ rw (ne-eqb (up n) 0 y) (omega (arith, one-root bound (up n) x (omega arith) (parent-among n y)))
   ]
 
   -- a block of a family is its root, or of the family of one child of the root
@@ -252,15 +252,15 @@ module _ (day : Day) (stand : LinksStand day) where
   one-child zero root n x k some among = absurd (omega arith)
   one-child (suc bound) root n x k some among = elim (ℕ-discrete (up n) 0) [
     | yes y ↦
-      rw (family-alone (day .links) (stand .parentBelow) root n y, below-none root n x among y, ne-eqb (up n) root (omega arith)) (omega arith)
+        rw (family-alone (day .links) (stand .parentBelow) root n y, below-none root n x among y, ne-eqb (up n) root (omega arith)) (omega arith)
     | no y ↦
-      let falls = parent-falls (day .links) (stand .parentBelow) n y in
-      omega (
-        arith,
-        family-when (day .links) (stand .parentBelow) root n x y,
-        one-child bound root (up n) x (omega arith) some (parent-among n y),
-        below-some root n x among y,
-      )
+        let falls = parent-falls (day .links) (stand .parentBelow) n y in
+        omega (
+          arith,
+          family-when (day .links) (stand .parentBelow) root n x y,
+          one-child bound root (up n) x (omega arith) some (parent-among n y),
+          below-some root n x among y,
+        )
   ]
 
   module _ (set : List Bool) where
@@ -321,9 +321,9 @@ module _ (day : Day) (stand : LinksStand day) where
       not-of-it (suc bound) n k is = elim (ℕ-discrete (up n) 0) [
         | yes y ↦ family-alone (day .links) (stand .parentBelow) root n y ∙ ne-eqb n root apart
         | no y ↦
-          let falls = parent-falls (day .links) (stand .parentBelow) n y in
-          family-linked (day .links) (stand .parentBelow) root n y
-          ∙ rw (ne-eqb n root apart) (not-of-it bound (up n) (omega arith) (parent-taken n is y))
+            let falls = parent-falls (day .links) (stand .parentBelow) n y in
+            family-linked (day .links) (stand .parentBelow) root n y
+            ∙ rw (ne-eqb n root apart) (not-of-it bound (up n) (omega arith) (parent-taken n is y))
       ]
         where
           apart : n ≡ root → ⊥
@@ -359,7 +359,7 @@ module _ (day : Day) (stand : LinksStand day) where
       none : parentPlace day j ≡ 0 → ((k : ℕ) × StandsAt (day .blocks) (up (numberAt (day .blocks) j)) k) → ⊥
       none e (k, s) =
           let place : parentPlace day j ≡ suc (0 + k) =
-            unfold parentPlace in (rw (← s .there) (place-stands 0 0 (day .blocks) k (stand .numbers) (s .inside))) in
+          unfold parentPlace in (rw (← s .there) (place-stands 0 0 (day .blocks) k (stand .numbers) (s .inside))) in
           absurd (omega arith)
 
       by-place : (m : ℕ) → parentPlace day j ≡ m → eqb m 0 ≡ eqb (up (numberAt (day .blocks) j)) 0

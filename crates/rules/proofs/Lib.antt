@@ -24,6 +24,7 @@ pub mod SetBits
 pub mod PlaceLaws
 pub mod QuietHours
 pub mod LawCutLaws
+pub mod FamilyCases
 pub mod LinkLaws
 pub mod TwinLaws
 pub mod OutcomeRulesLaws

@@ -14,6 +14,7 @@ use Rattle.rules.specs.Orders.{Block, Link}
 use Rattle.rules.specs.Day.{Day, taken, isAmong, keepsLink, everyLink, allowed}
 use Rattle.rules.specs.Contender.{NumbersRise, ChildrenRise, EachLink, LinksStand}
 use Rattle.rules.specs.Families.{parentOf}
+use Rattle.rules.proofs.FamilyCases
 use Rattle.rules.proofs.Tests.{by-test, both}
 
 -- one more than the position of the block with a number, where the list's first block stands at i; 0 where there is none

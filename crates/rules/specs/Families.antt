@@ -35,8 +35,8 @@ blockGain hours price b = b .quantity * distance (priceSum hours price b) (b .pr
 -- The gain of the family of block root under a set: that of the family's taken blocks.
 unfoldable pub familyGain : Day → List Bool → ℕ → ℕ
 familyGain day set root =
-    overBlocks (λ b. when (isOfFamily (day .links) root (b .number)) (blockGain (day .hours) (setPrices day (taken (day .blocks) set)) b))
-    (taken (day .blocks) set)
+    let blocks = taken (day .blocks) set in
+    overBlocks (λ b. when (isOfFamily (day .links) root (b .number)) (blockGain (day .hours) (setPrices day blocks) b)) blocks
 
 -- A line of the family report: a block without a parent, and its family's gain.
 pub record Family : Type 0 where

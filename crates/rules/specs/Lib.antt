@@ -8,4 +8,5 @@ pub mod Contender
 pub mod OutcomeRules
 pub mod Families
 pub mod WorkedDays
+pub mod WorkedFamilies
 pub mod Cases

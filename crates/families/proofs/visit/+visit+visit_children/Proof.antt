@@ -1,7 +1,17 @@
 -- `visit` and `visit_children` meet their contracts; what is left falls from call to call: twice the blocks left, and one more for a visit. Assumes nothing.
-use mathlib.Core.Path.{sym}
+use mathlib.Core.Path.{sym, _∙_}
 use native.Mathlib.Omega.{arith}
-use Rattle.families.proofs.VisitLaws.{visit-is, children-none, children-child, children-other, children-later}
+use Rattle.families.proofs.VisitLaws.{
+  visit-is,
+  children-none,
+  children-child,
+  children-other,
+  visit-part-fits,
+  visit-sum-fits,
+  later-fits,
+  child-fits,
+  child-sum-fits,
+}
 use borrow.Author.Needs.{needs}
 use Prim.Native.Nat.{ℕ, _+_, _*_, _<_}
 use borrow.Fn.Kinds.{In}
@@ -49,126 +59,93 @@ claims-visit t = (visit-children-below t, visit-children.Post)
 abbrev claims-visit-children : ℕ → visit-children-lts.Claims
 claims-visit-children t = (visit-children-below t, visit-children.Post, visit-below t, visit.Post)
 
--- src/visit.rt:14:5
 visit-mul-result : (t : ℕ) → visit-lts.Need-mul-result (claims-visit t) (visit-at t) visit.Post
 visit-mul-result t c = search needs
 
--- src/visit.rt:14:5
 visit-shared-slice-read-result : (t : ℕ) → visit-lts.Need-shared-slice-read-result (claims-visit t) (visit-at t) visit.Post
 visit-shared-slice-read-result t c = search needs
 
--- src/visit.rt:14:50
 visit-add-visit-children : (t : ℕ) → visit-lts.Need-add-visit-children (claims-visit t) (visit-at t) visit.Post
 visit-add-visit-children t c = search needs
 
--- src/visit.rt:14:16
 visit-visit-children-requires : (t : ℕ) → visit-lts.Need-visit-children-requires (claims-visit t) (visit-at t) visit.Post
 visit-visit-children-requires t c κs =
     let start = c .before .before .before in
-    let columns = start .pre .1 .0 in (
-      omega (arith, start .pre .0),
-      ((columns .0, columns .1, omega arith), omega (arith, start .pre .1 .1, visit-is (start .args .parents .now) (start .args .gains .now) (start .args .left) (start .args .i))),
-    )
+    let columns = start .pre .1 .0 in
+    (omega (arith, start .pre .0), ((columns .0, columns .1, omega arith), visit-part-fits _ _ _ _ _ (start .pre .1 .1)))
 
--- src/visit.rt:14:5
 visit-add-result : (t : ℕ) → visit-lts.Need-add-result (claims-visit t) (visit-at t) visit.Post
 visit-add-result t c =
     let start = c .before .before .before .before in
-    omega (arith, start .pre .1 .1, visit-is (start .args .parents .now) (start .args .gains .now) (start .args .left) (start .args .i), c .visit-children .ensures)
+    record { fits = visit-sum-fits _ _ _ (start .args .left) (start .args .i) _ (start .pre .1 .1) (c .visit-children .ensures) }
 
--- src/visit.rt:9:1
-visit-returns :
-    (t : ℕ) →
-    visit-lts.Need-returns (claims-visit t) (visit-at t) visit.Post
+visit-returns : (t : ℕ) → visit-lts.Need-returns (claims-visit t) (visit-at t) visit.Post
 visit-returns t c =
     let start = c .before .before .before .before in
-    rw (c .visit-children .ensures, visit-is (start .args .parents .now) (start .args .gains .now) (start .args .left) (start .args .i))
+    rw (c .visit-children .ensures) (sym (visit-is _ _ (start .args .left) (start .args .i)))
 
--- src/visit.rt:24:9
 visit-children-returns : (t : ℕ) → visit-children-lts.Need-returns (claims-visit-children t) (visit-children-at t) visit-children.Post
 visit-children-returns t c =
-    let start = c .before .before .before in
-    sym (children-none (start .args .parents .now) (start .args .gains .now) (start .args .left) (start .args .i) (start .args .j) (c .if1 .taken))
+    sym (children-none _ _ _ _ _ (c .if1 .taken))
 
--- src/visit.rt:26:51
 visit-children-add-visit-children : (t : ℕ) → visit-children-lts.Need-add-visit-children (claims-visit-children t) (visit-children-at t) visit-children.Post
 visit-children-add-visit-children t c = search needs
 
--- src/visit.rt:26:58
 visit-children-sub-visit-children : (t : ℕ) → visit-children-lts.Need-sub-visit-children (claims-visit-children t) (visit-children-at t) visit-children.Post
 visit-children-sub-visit-children t c = search needs
 
--- src/visit.rt:26:9
 visit-children-visit-children-requires : (t : ℕ) → visit-children-lts.Need-visit-children-requires (claims-visit-children t) (visit-children-at t) visit-children.Post
 visit-children-visit-children-requires t c κs =
     let start = c .before .before .before in
     let some : 0 < start .args .left = omega (arith, c .if1 .left) in
     let columns = start .pre .1 .0 in (
       omega (arith, start .pre .0),
-      ((columns .0, omega (arith, columns .1), omega (arith, columns .2)), omega (arith, start .pre .1 .1, children-later (start .args .parents .now) (start .args .gains .now) (start .args .left) (start .args .i) (start .args .j) some)),
+      ((columns .0, omega (arith, columns .1), omega (arith, columns .2)), later-fits _ _ _ _ _ _ some (start .pre .1 .1)),
     )
 
--- src/visit.rt:27:8
 visit-children-mul-if2 : (t : ℕ) → visit-children-lts.Need-mul-if2 (claims-visit-children t) (visit-children-at t) visit-children.Post
 visit-children-mul-if2 t c = search needs
 
--- src/visit.rt:27:8
 visit-children-shared-slice-read-if2 : (t : ℕ) → visit-children-lts.Need-shared-slice-read-if2 (claims-visit-children t) (visit-children-at t) visit-children.Post
 visit-children-shared-slice-read-if2 t c = search needs
 
--- src/visit.rt:27:8
 visit-children-cast-if2 : (t : ℕ) → visit-children-lts.Need-cast-if2 (claims-visit-children t) (visit-children-at t) visit-children.Post
 visit-children-cast-if2 t c =
     omega (arith, c .before .before .before .before .shared-slice-known .given (c .before .before .before .before .before .args .j))
 
--- src/visit.rt:27:31
 visit-children-add-if2 : (t : ℕ) → visit-children-lts.Need-add-if2 (claims-visit-children t) (visit-children-at t) visit-children.Post
 visit-children-add-if2 t c = search needs
 
--- src/visit.rt:28:41
 visit-children-sub-visit : (t : ℕ) → visit-children-lts.Need-sub-visit (claims-visit-children t) (visit-children-at t) visit-children.Post
 visit-children-sub-visit t c = search needs
 
--- src/visit.rt:28:16
 visit-children-visit-requires : (t : ℕ) → visit-children-lts.Need-visit-requires (claims-visit-children t) (visit-children-at t) visit-children.Post
 visit-children-visit-requires t c κs =
     let start = c .before .before .before .before .before .before in
     let some : 0 < start .args .left = omega (arith, c .before .before .before .if1 .left) in
     let columns = start .pre .1 .0 in (
       omega (arith, start .pre .0),
-      ((columns .0, omega (arith, columns .1)), omega (arith, start .pre .1 .1, children-child (start .args .parents .now) (start .args .gains .now) (start .args .left) (start .args .i) (start .args .j) some (c .if2 .taken))),
+      ((columns .0, omega (arith, columns .1)), child-fits _ _ _ _ _ _ some (c .if2 .taken) (start .pre .1 .1)),
     )
 
--- src/visit.rt:28:16
 visit-children-add-result : (t : ℕ) → visit-children-lts.Need-add-result (claims-visit-children t) (visit-children-at t) visit-children.Post
 visit-children-add-result t c =
     let start = c .before .before .before .before .before .before .before in
     let some : 0 < start .args .left = omega (arith, c .before .before .before .before .if1 .left) in
-    omega (
-      arith,
-      start .pre .1 .1,
-      children-child (start .args .parents .now) (start .args .gains .now) (start .args .left) (start .args .i) (start .args .j) some (c .before .if2 .taken),
-      c .visit .ensures,
-      c .before .before .before .visit-children .ensures,
-    )
+    let later = c .before .before .before .visit-children .ensures in
+    record { fits = child-sum-fits _ _ _ _ _ _ _ _ some (c .before .if2 .taken) (start .pre .1 .1) (c .visit .ensures) later }
 
--- src/visit.rt:28:9
 visit-children-returns-2 : (t : ℕ) → visit-children-lts.Need-returns-2 (claims-visit-children t) (visit-children-at t) visit-children.Post
 visit-children-returns-2 t c =
     let start = c .before .before .before .before .before .before .before in
     let some : 0 < start .args .left = omega (arith, c .before .before .before .before .if1 .left) in
-    rw (
-      c .visit .ensures,
-      c .before .before .before .visit-children .ensures,
-      children-child (start .args .parents .now) (start .args .gains .now) (start .args .left) (start .args .i) (start .args .j) some (c .before .if2 .taken),
-    )
+    rw (c .visit .ensures, c .before .before .before .visit-children .ensures) (sym (children-child _ _ _ _ _ some (c .before .if2 .taken)))
 
--- src/visit.rt:18:1
 visit-children-returns-3 : (t : ℕ) → visit-children-lts.Need-returns-3 (claims-visit-children t) (visit-children-at t) visit-children.Post
 visit-children-returns-3 t c =
     let start = c .before .before .before .before .before .before in
     let some : 0 < start .args .left = omega (arith, c .before .before .before .if1 .left) in
-    rw (c .before .before .visit-children .ensures, children-other (start .args .parents .now) (start .args .gains .now) (start .args .left) (start .args .i) (start .args .j) some (c .if2 .left))
+    c .before .before .visit-children .ensures ∙ sym (children-other _ _ _ _ _ some (c .if2 .left))
 
 pub +visit+visit-children-spec : {M : Type 1} → statement M
 +visit+visit-children-spec = close μ-visit μ-visit-children (λ t. visit-lts.spec (claims-visit t)
