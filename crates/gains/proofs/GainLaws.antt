@@ -193,8 +193,8 @@ module _ (b : List ℕ) (a : Accepted b) where
   pub day-few : dayHours b ≤ autumnHours
   day-few = rw (← (day-hours-read b)) (day-short b a)
 
-  pub often-few : weight (dayHours b) changeHour ≤ 2
-  often-few = weight-small (dayHours b) changeHour day-few
+  pub often-few : (day : ℕ) → day ≡ dayHours b → weight day changeHour ≤ 2
+  often-few day e = weight-small day changeHour (rw e day-few)
 
   module _ (count : ℕ) (records sides hours prices quantities : List ℕ) (bc : BlockColumns 32 b count records sides hours prices quantities) (i : ℕ) (inside : i < count) where
     here : i < length (blockRecords b)

@@ -30,7 +30,7 @@ counted-prices-requires : tie.Need-counted-prices-requires Inv-loop μ-loop
 counted-prices-requires c κs =
     let start = c .before .before .before .before .before in
     let a = start .pre .0 in
-    (rw (c .before .prices-in .ensures, start .pre .1) (prices-small _ a), rw (c .change-weight .ensures, c .before .before .day-hours .ensures) (often-few _ a))
+    (rw (c .before .prices-in .ensures, start .pre .1) (prices-small _ a), rw (c .change-weight .ensures) (often-few _ a _ (c .before .before .day-hours .ensures)))
 
 blocks-of-requires : tie.Need-blocks-of-requires Inv-loop μ-loop
 blocks-of-requires c κs = search needs
