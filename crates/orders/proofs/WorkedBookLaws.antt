@@ -45,11 +45,11 @@ use Rattle.book.specs.Refusals.{
 use Rattle.book.specs.Hours.{countedHours}
 use Rattle.rules.specs.Day.{weight, isCounted, sumTo, daySum}
 use Rattle.rules.specs.Outcome.{published}
-use Rattle.rules.specs.WorkedDays.{WorkedDay, workedDays, changeDays, Hold}
-use Rattle.rules.proofs.WorkedDayLaws.{worked-days-hold, change-days-hold}
+use Rattle.rules.specs.WorkedDays.{WorkedDay, workedDays, changeDays, linkedDays, Hold}
+use Rattle.rules.proofs.WorkedDayLaws.{worked-days-hold, change-days-hold, linked-days-hold}
 use Rattle.orders.specs.Bridge.{stepFrom, orderFrom, blockFrom, linkFrom, ordersOf}
 use Rattle.orders.specs.Columns.{blockRecords, padded, parentAmong, placeAmong, parentPlaceIn, parentPlaceAt, parentColumn}
-use Rattle.orders.specs.WorkedBooks.{chained, bookWith, workedBooks, changeBooks, familyBook, EachWorked}
+use Rattle.orders.specs.WorkedBooks.{chained, bookWith, workedBooks, changeBooks, linkedBooks, familyBook, EachWorked}
 
 -- Every book of a list is accepted
 AllAccepted : List (List ℕ) → Type 0
@@ -102,6 +102,22 @@ change-books-read = (refl, (refl, (refl, (refl, tt))))
 
 pub change-books-hold : EachWorked changeBooks changeDays
 change-books-hold = worked changeBooks changeDays change-books-accepted change-books-read change-days-hold
+
+-- THE DAYS WITH LINKED BLOCKS
+linked-books-accepted : AllAccepted linkedBooks
+unfolding AllAccepted linkedBooks bookWith chained refusal ownCauses firstCause wrongSize linksTooEarly wrongHead brokenChain brokenOn broken misplaced wrongField
+    wrongFieldOn outOfRange recordInRange stepInRange blockInRange linkInRange stepFits blockFits strayRecord stray tooManyBlocks tooManyOf ownedBy within someBelow someIn
+    countIn nonzero limits hoursSet recordAt stepAt blockAt linkAt linkRest chainFrom chains isOn blockOrder linkOrder links u16At u24At u32At wrongHours
+    isNumber hasBlock misnamed wrongLink
+linked-books-accepted = (refl, (refl, (refl, (refl, (refl, tt)))))
+
+linked-books-read : AllRead linkedBooks linkedDays
+unfolding AllRead linkedBooks linkedDays bookWith chained ordersOf orderFrom stepFrom blockFrom linkFrom stepAt blockAt linkAt stepOrder blockOrder linkOrder
+    chainFrom u16At u24At u32At
+linked-books-read = (refl, (refl, (refl, (refl, (refl, tt)))))
+
+pub linked-books-hold : EachWorked linkedBooks linkedDays
+linked-books-hold = worked linkedBooks linkedDays linked-books-accepted linked-books-read linked-days-hold
 
 -- LINKS
 -- The book of a family is accepted, its links are those written, and the parents' column has for block 4 one more than the place of block 2, for block 5

@@ -124,6 +124,26 @@ changeBooks =
     ∷ autumnBook 50 3334
     ∷ []
 
+-- A buy block like the sell block above, and a sell block of half its quantity.
+abbrev pub buyBlock : ℕ → ℕ → ℕ → List ℕ
+buyBlock number = blockRecord number 0 3 3 50
+
+abbrev pub halfBlock : ℕ → ℕ → ℕ → List ℕ
+halfBlock number = blockRecord number 1 3 3 25
+
+-- The books of the days with linked blocks, in the order of the rules' table: two blocks over hours 1 and 2 (bits 3), block 2 the child of block 1.
+abbrev pub pairBook : (parent child : ℕ → List ℕ) → List ℕ
+pairBook parent child = linkedBook (parent ∷ child ∷ []) (linkRecord 2 1 ∷ [])
+
+unfoldable pub linkedBooks : List (List ℕ)
+linkedBooks =
+    pairBook (sellBlock 1 3500) (buyBlock 2 4500)
+    ∷ pairBook (sellBlock 1 3500) (buyBlock 2 3900)
+    ∷ pairBook (sellBlock 1 4500) (sellBlock 2 2900)
+    ∷ pairBook (halfBlock 1 3000) (halfBlock 2 3000)
+    ∷ pairBook (halfBlock 1 3001) (halfBlock 2 3000)
+    ∷ []
+
 -- A book is accepted, all that is published of it is what a worked day says, and so are the prices told of it.
 pub record Worked (b : List ℕ) (d : WorkedDay) : Type 0 where
   pub accepted : refusal b ≡ 0
