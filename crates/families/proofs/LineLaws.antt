@@ -1,12 +1,10 @@
 -- The lines of families, written one after another. Assumes nothing.
-use mathlib.Core.Path.{_≡_, refl, sym, ap, _∙_}
-use mathlib.Core.Bool.{Bool, true, false, cond}
+use mathlib.Core.Path.{_≡_, refl, sym}
 use mathlib.Core.List.{List, [], _++_}
 use Prim.Native.Nat.{ℕ, zero, suc, _+_, _-_, _≤_, _<_}
 use native.Mathlib.Omega.{arith}
 use native.Mathlib.Nat.{add-zero, add-suc}
 use native.Mathlib.Numerals.{add-one}
-use lib.Dec.{eqb}
 use lib.ListN.{length, getD, length-append}
 use borrow.Author.Tests.{eq-eqb, ne-eqb}
 use Rattle.records.specs.Records.{number}
@@ -15,7 +13,7 @@ use Rattle.text.proofs.BufferLaws.{splice-none}
 use Rattle.text.proofs.TextLaws.{room-first, room-then, put-then}
 use Rattle.families.specs.Report.{familyLine}
 use Rattle.families.specs.Visit.{visitGain}
-use Rattle.families.specs.Lines.{gainOf, lineAt, linesTo, allLines}
+use Rattle.families.specs.Lines.{gainOf, lineAt, linesTo}
 
 -- nothing is put
 pub put-none : (l : List ℕ) (at : ℕ) → Put l at [] l at

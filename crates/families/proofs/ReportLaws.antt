@@ -1,11 +1,10 @@
 -- THE LINES OUT OF COLUMNS ARE THE FAMILY REPORT of the rules, where the columns are those of a day whose links stand; and how long they are. Assumes
 -- nothing.
-use mathlib.Core.Path.{_≡_, refl, sym, ap, _∙_}
+use mathlib.Core.Path.{_≡_, refl, _∙_}
 use mathlib.Core.Bool.{Bool, true, false, cond}
 use mathlib.Core.List.{List, [], _∷_, _++_, append-assoc, append-nil}
 use Prim.Native.Nat.{ℕ, zero, suc, _+_, _-_, _*_, _^_, _≤_, _<_}
 use native.Mathlib.Omega.{arith}
-use native.Mathlib.Numerals.{add-one}
 use lib.Dec.{eqb}
 use lib.ListN.{length, take, getD, length-append}
 use lib.Seq.{take-suc, take-length}
@@ -19,10 +18,9 @@ use Rattle.rules.proofs.Tests.{by-test}
 use Rattle.rules.proofs.LinkLaws.{numberAt, parentPlace}
 use Rattle.rules.proofs.FamilyLaws.{root-test}
 use Rattle.records.specs.Records.{number}
-use Rattle.text.specs.Text.{text, decimal, field}
+use Rattle.text.specs.Text.{text, field}
 use Rattle.text.proofs.TextLaws.{few-digits}
 use Rattle.families.specs.Report.{familyLine, familyLines, reportText}
-use Rattle.families.specs.Visit.{visitGain}
 use Rattle.families.specs.Lines.{gainOf, lineAt, linesTo, allLines}
 use Rattle.families.proofs.VisitLaws.{number-at, visit-gives}
 

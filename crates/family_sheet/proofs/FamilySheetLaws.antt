@@ -1,6 +1,6 @@
 -- THE FAMILY REPORT OUT OF THE RESULT'S BYTES IS THE REPORT OF THE RULES, and no more than 587 bytes are written. Assumes nothing.
-use mathlib.Core.Path.{_≡_, refl, sym, ap, _∙_}
-use mathlib.Core.Bool.{Bool, true, false, cond}
+use mathlib.Core.Path.{_≡_, refl, _∙_}
+use mathlib.Core.Bool.{false, cond}
 use mathlib.Core.List.{List, [], _∷_, _++_, map}
 use Prim.Native.Nat.{ℕ, zero, suc, _+_, _*_, _^_, _≤_, _<_}
 use native.Mathlib.Omega.{arith}
@@ -12,8 +12,7 @@ use Rattle.records.specs.Records.{number, blockAt}
 use Rattle.book.specs.Chains.{blockOrder}
 use Rattle.book.specs.Refusals.{refusal, Accepted}
 use Rattle.book.proofs.Accepted.{accepted, accepted-zero}
-use Rattle.rules.specs.Orders.{Side, buy, Block}
-use Rattle.rules.specs.Day.{Day}
+use Rattle.rules.specs.Orders.{buy, Block}
 use Rattle.rules.specs.Outcome.{outcome}
 use Rattle.rules.specs.OutcomeRules.{EachBlock}
 use Rattle.rules.specs.Families.{familyGain, familiesOf, familyReport}
@@ -23,7 +22,7 @@ use Rattle.rules.proofs.FamilyBounds.{family-small}
 use Rattle.orders.specs.Bridge.{blockFrom, blockOn, ordersOf, dayFrom}
 use Rattle.orders.specs.Columns.{blockRecords, parentPlaceAt, parentColumn, padded, BlockColumns}
 use Rattle.orders.proofs.BridgeLaws.{day-blocks, day-short, prices-in-range}
-use Rattle.orders.proofs.RecordLaws.{blocks-all, block-records-fit}
+use Rattle.orders.proofs.RecordLaws.{blocks-all}
 use Rattle.orders.proofs.ColumnLaws.{padded-front}
 use Rattle.orders.proofs.FrontLaws.{block-records-front}
 use Rattle.orders.proofs.LinkLaws.{links-stand, parents-read}
@@ -38,7 +37,7 @@ use Rattle.gains.proofs.GainLaws.{gains-read}
 use Rattle.families.specs.Report.{reportText, familyLines}
 use Rattle.families.specs.Lines.{gainOf, allLines, ColumnsHeld}
 use Rattle.families.proofs.ReportLaws.{gain-gives, lines-are, report-short}
-use Rattle.family_sheet.specs.FamilySheet.{mostFamilySheet, familySheetOf}
+use Rattle.family_sheet.specs.FamilySheet.{familySheetOf}
 use Rattle.family_sheet.specs.Lines.{parentsIn, gainsIn, familyTextIn}
 
 -- THE COLUMNS of an accepted book

@@ -1,5 +1,4 @@
 // The family report of a book, or its refusal, as text.
-ghost use mathlib.Core.Path.{_≡_};
 ghost use Prim.Native.Nat.{_≤_};
 ghost use lib.ListN.{length};
 ghost use Rattle.book.specs.Refusals.{Accepted};

@@ -1,6 +1,6 @@
 -- WHAT EACH BLOCK GAINS out of the bytes of a result is its gain of the rules, where it is taken. Assumes nothing.
 use Prim.Native.Nat.{ℕ, zero, suc, _+_, _-_, _*_, _^_, _≤_, _<_}
-use mathlib.Core.Bool.{Bool, true, false, cond}
+use mathlib.Core.Bool.{Bool, true, false}
 use mathlib.Core.Path.{_≡_, refl, sym, ap, _∙_}
 use mathlib.Core.List.{List, [], _∷_, _++_, map}
 use native.Mathlib.Omega.{arith}
@@ -12,7 +12,7 @@ use lib.Seq.{take-length, take-suc-set, getD-take}
 use borrow.Author.Tests.{ne-eqb}
 use Rattle.rules.specs.Orders.{buy, Block, maxPrice}
 use Rattle.rules.specs.Hour.{when}
-use Rattle.rules.specs.Day.{Day, autumnHours, changeHour, weight, isCounted, daySum, taken, setPrices, hourCount, priceSum}
+use Rattle.rules.specs.Day.{autumnHours, changeHour, weight, isCounted, daySum, taken, setPrices, hourCount, priceSum}
 use Rattle.rules.specs.Contender.{Counts}
 use Rattle.rules.specs.Outcome.{outcome, forHours}
 use Rattle.rules.specs.Families.{distance, blockGain}
@@ -24,7 +24,7 @@ use Rattle.records.specs.Records.{dayHours, holdsHour, blockAt}
 use Rattle.book.specs.Chains.{blockOrder}
 use Rattle.book.specs.Refusals.{Accepted}
 use Rattle.book.specs.Hours.{countedHours}
-use Rattle.book.proofs.Members.{Each, each-place}
+use Rattle.book.proofs.Members.{each-place}
 use Rattle.book.proofs.Accepted.{BlockRecord, block-records}
 use Rattle.orders.specs.Bridge.{blockOn, dayFrom}
 use Rattle.orders.specs.Columns.{blockRecords, blockSideAt, blockHoursAt, blockPriceAt, blockQuantityAt, blockOf, padded, BlockColumns}
@@ -39,14 +39,14 @@ use Rattle.orders.proofs.BridgeLaws.{
   hour-count,
 }
 use Rattle.orders.proofs.FrontLaws.{block-records-front}
-use Rattle.orders.proofs.RecordLaws.{BlockAsRead, block-as-read, blocks-all}
+use Rattle.orders.proofs.RecordLaws.{block-as-read, blocks-all}
 use Rattle.places.specs.Layout.{mostLimit}
-use Rattle.places.specs.Hours.{sumOfHours, countedColumn, Small}
+use Rattle.places.specs.Hours.{sumOfHours, Small}
 use Rattle.places.proofs.CountedLaws.{block-sum}
-use Rattle.result.specs.Result.{priceIn, rowIn, takenIn, resultBytes}
-use Rattle.result.specs.Promise.{RowsInFull, Demands}
+use Rattle.result.specs.Result.{priceIn, rowIn, resultBytes}
+use Rattle.result.specs.Promise.{RowsInFull}
 use Rattle.result.proofs.RowsLaws.{publishedBlocks}
-use Rattle.result.proofs.PromiseLaws.{Says, result-says, taken-is, promise-kept, outcome-count, hours-length, hour-at}
+use Rattle.result.proofs.PromiseLaws.{result-says, taken-is, promise-kept, hours-length, hour-at}
 use Rattle.gains.specs.Gains.{pricesIn, countedPricesIn, gainAmong, gainAt, gainColumn}
 
 -- THE PRICES, read one after another

@@ -1,7 +1,7 @@
 -- HOW LARGE A GAIN GETS, for the code's number widths: of a day of at most 25 hours and 32 blocks of at most 250 each, at prices up to 300000, a block
 -- gains at most 1,875,000,000 and a family at most 60,000,000,000. Assumes nothing.
-use Prim.Native.Nat.{ℕ, _+_, _-_, _*_, _≤_}
-use mathlib.Core.Bool.{Bool, true, false}
+use Prim.Native.Nat.{ℕ, _-_, _*_, _≤_}
+use mathlib.Core.Bool.{Bool}
 use mathlib.Core.List.{List, [], _∷_}
 use native.Mathlib.Omega.{arith}
 use native.Mathlib.Nat.{le-trans}

@@ -1,7 +1,7 @@
 -- FAMILIES: who is of one, by going up a link; a family's gain out of its children's; the families' gains together are the gains of all taken blocks; and a
 -- family whose root is left out gains nothing. Of days whose links stand (`LinksStand`), under any set. Assumes nothing.
-use Prim.Native.Nat.{ℕ, zero, suc, _+_, _*_, _≤_, _<_}
-use mathlib.Core.Bool.{Bool, true, false, cond, not, _&&_, _||_, true≢false}
+use Prim.Native.Nat.{ℕ, zero, suc, _+_, _≤_, _<_}
+use mathlib.Core.Bool.{Bool, true, false, not, _||_}
 use mathlib.Core.Path.{_≡_, refl, sym, ap, _∙_}
 use mathlib.Core.List.{List, [], _∷_}
 use native.Mathlib.Omega.{arith}
@@ -14,7 +14,7 @@ use Rattle.rules.specs.Hour.{when}
 use Rattle.rules.specs.Day.{Day, keep, taken, overBlocks, setPrices, isAmong, keepsLink, allowed}
 use Rattle.rules.specs.Contender.{NumbersRise, EachLink, LinksStand}
 use Rattle.rules.specs.OutcomeRules.{EachBlock}
-use Rattle.rules.specs.Families.{parentOf, isBelow, isOfFamily, blockGain, familyGain, Family, familiesOf, totalGain}
+use Rattle.rules.specs.Families.{parentOf, isBelow, isOfFamily, blockGain, familyGain, familiesOf, totalGain}
 use Rattle.rules.proofs.Tests.{by-test, by-le, clash}
 use Rattle.rules.proofs.CurveLaws.{when-zero}
 use Rattle.rules.proofs.BoundsLaws.{each-taken}

@@ -34,7 +34,6 @@ use Rattle.setup.specs.Setup.{
   TwinsAt,
   StandsIn,
   noWorse,
-  TwinAt,
   TwinOf,
   TwinsEmpty,
   TwinsWritten,

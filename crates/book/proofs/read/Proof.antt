@@ -1,5 +1,5 @@
 -- `book::read` meets its contract: an answer for number 1, one for any other number, and one for none. Assumes nothing.
-use mathlib.Core.Path.{_≡_, sym, _∙_}
+use mathlib.Core.Path.{sym, _∙_}
 use native.Mathlib.Omega.{arith}
 use Rattle.book.proofs.Refused.{refusal-size, steps-counted, blocks-counted, reading-accepted, reading-refused}
 use borrow.Author.Needs.{needs}

@@ -1,6 +1,6 @@
 -- `gains_of` meets its contract: the gains of the first i blocks are filled in. Assumes nothing.
 use Prim.Native.Nat.{_-_, _≤_}
-use mathlib.Core.Path.{_≡_, refl, sym, ap, _∙_}
+use mathlib.Core.Path.{refl}
 use native.Mathlib.Omega.{arith}
 use Rattle.orders.specs.Columns.{blockRecords}
 use Rattle.orders.proofs.ColumnLaws.{Filled, filled-next, filled-all}

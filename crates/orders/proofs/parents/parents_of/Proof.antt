@@ -1,7 +1,7 @@
 -- `orders::parents::parents_of` meets its contract: zeros without links, else the places of the blocks passed and then zeros, and those of the others are to
 -- come. Assumes nothing.
 use Prim.Native.Nat.{_-_, _≤_, _<_}
-use mathlib.Core.Path.{_≡_, refl, sym, _∙_}
+use mathlib.Core.Path.{refl, sym, _∙_}
 use native.Mathlib.Omega.{arith}
 use lib.ListN.{take}
 use lib.Seq.{length-take-le}
