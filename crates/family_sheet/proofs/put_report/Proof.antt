@@ -21,51 +21,62 @@ slice-aggregate-put-text c = search needs
 put-text-requires : tie.Need-put-text-requires
 unfolding text
 put-text-requires c κs =
-    let start = c .before .before .before .before .before .before .before .before .before in
-    let blocks = c .before .before .before .before .before .blocks-of .ensures in
-    room-title _ _ (start .pre .0 .0) (start .pre .0 .1) _ _ _ _ _ _ _ _ blocks (c .before .before .before .parents-of .ensures) (c .before .before .gains-of .ensures) (λ i. omega (arith, c .before .before .before .before .before .before .before .shared-slice-known .given i)) _ (start .pre .1)
+    let gains = c .before .before in
+    let parents = gains .before in
+    let blocks = parents .before .before in
+    let start = blocks .before .before .before .before in
+    room-title _ _ (start .pre .0 .0) (start .pre .0 .1) _ _ _ _ _ _ _ _ (blocks .blocks-of .ensures) (parents .parents-of .ensures) (gains .gains-of .ensures)
+    (λ i. omega (arith, blocks .before .before .shared-slice-known .given i)) _ (start .pre .1)
 
 array-share-prefix-records : tie.Need-array-share-prefix-records
 array-share-prefix-records c =
-    let start = c .before .before .before .before .before .before .before .before .before .before .before .before .before in
-    let blocks = c .before .before .before .before .before .before .before .before .before .blocks-of .ensures in
-    records-fit _ _ (start .pre .0 .0) (start .pre .0 .1) _ _ _ _ _ _ _ _ blocks (c .before .before .before .before .before .before .before .parents-of .ensures) (c .before .before .before .before .before .before .gains-of .ensures)
+    let gains = c .before .before .before .before .before .before in
+    let parents = gains .before in
+    let blocks = parents .before .before in
+    let start = blocks .before .before .before .before in
+    records-fit _ _ (start .pre .0 .0) (start .pre .0 .1) _ _ _ _ _ _ _ _ (blocks .blocks-of .ensures) (parents .parents-of .ensures) (gains .gains-of .ensures)
 
 slice-aggregate-put-families : tie.Need-slice-aggregate-put-families
 slice-aggregate-put-families c =
-    let start = c .before .before .before .before .before .before .before .before .before .before .before .before .before .before in
-    let blocks = c .before .before .before .before .before .before .before .before .before .before .blocks-of .ensures in
-    lent _ _ (start .pre .0 .0) (start .pre .0 .1) _ _ _ _ _ _ _ _ blocks (c .before .before .before .before .before .before .before .before .parents-of .ensures) (c .before .before .before .before .before .before .before .gains-of .ensures) .0
+    let gains = c .before .before .before .before .before .before .before in
+    let parents = gains .before in
+    let blocks = parents .before .before in
+    let start = blocks .before .before .before .before in
+    lent _ _ (start .pre .0 .0) (start .pre .0 .1) _ _ _ _ _ _ _ _ (blocks .blocks-of .ensures) (parents .parents-of .ensures) (gains .gains-of .ensures) .0
 
 array-share-prefix-parents : tie.Need-array-share-prefix-parents
 array-share-prefix-parents c = search needs
 
 slice-aggregate-put-families-2 : tie.Need-slice-aggregate-put-families-2
 slice-aggregate-put-families-2 c =
-    let start = c .before .before .before .before .before .before .before .before .before .before .before .before .before .before .before in
-    let blocks = c .before .before .before .before .before .before .before .before .before .before .before .blocks-of .ensures in
-    lent _ _ (start .pre .0 .0) (start .pre .0 .1) _ _ _ _ _ _ _ _ blocks (c .before .before .before .before .before .before .before .before .before .parents-of .ensures) (c .before .before .before .before .before .before .before .before .gains-of .ensures) .1
+    let gains = c .before .before .before .before .before .before .before .before in
+    let parents = gains .before in
+    let blocks = parents .before .before in
+    let start = blocks .before .before .before .before in
+    lent _ _ (start .pre .0 .0) (start .pre .0 .1) _ _ _ _ _ _ _ _ (blocks .blocks-of .ensures) (parents .parents-of .ensures) (gains .gains-of .ensures) .1
 
 array-share-prefix-gains : tie.Need-array-share-prefix-gains
 array-share-prefix-gains c = search needs
 
 slice-aggregate-put-families-3 : tie.Need-slice-aggregate-put-families-3
 slice-aggregate-put-families-3 c =
-    let start = c .before .before .before .before .before .before .before .before .before .before .before .before .before .before .before .before in
-    let blocks = c .before .before .before .before .before .before .before .before .before .before .before .before .blocks-of .ensures in
-    lent _ _ (start .pre .0 .0) (start .pre .0 .1) _ _ _ _ _ _ _ _ blocks (c .before .before .before .before .before .before .before .before .before .before .parents-of .ensures) (c .before .before .before .before .before .before .before .before .before .gains-of .ensures) .2
+    let gains = c .before .before .before .before .before .before .before .before .before in
+    let parents = gains .before in
+    let blocks = parents .before .before in
+    let start = blocks .before .before .before .before in
+    lent _ _ (start .pre .0 .0) (start .pre .0 .1) _ _ _ _ _ _ _ _ (blocks .blocks-of .ensures) (parents .parents-of .ensures) (gains .gains-of .ensures) .2
 
 put-families-requires : tie.Need-put-families-requires
 unfolding text
 put-families-requires c κs =
-    let start = c .before .before .before .before .before .before .before .before .before .before .before .before .before .before .before .before in
-    let known = c .before .before .before .before .before .before .before .before .before .before .before .before .before .before .shared-slice-known .given in
-    let blocks = c .before .before .before .before .before .before .before .before .before .before .before .before .blocks-of .ensures in
-    let parents = c .before .before .before .before .before .before .before .before .before .before .parents-of .ensures in
-    let gains = c .before .before .before .before .before .before .before .before .before .gains-of .ensures in (
-      report-held _ _ (start .pre .0 .0) (start .pre .0 .1) _ _ _ _ _ _ _ _ blocks parents gains,
-      room-lines _ _ (start .pre .0 .0) (start .pre .0 .1) _ _ _ _ _ _ _ _ blocks parents gains (λ i. omega (arith, known i)) _ (start .pre .1)
-          _ _ (c .before .before .before .before .before .before .put-text .ensures),
+    let gains = c .before .before .before .before .before .before .before .before .before in
+    let parents = gains .before in
+    let blocks = parents .before .before in
+    let start = blocks .before .before .before .before in
+    let title = c .before .before .before .before .before .before .put-text .ensures in (
+      report-held _ _ (start .pre .0 .0) (start .pre .0 .1) _ _ _ _ _ _ _ _ (blocks .blocks-of .ensures) (parents .parents-of .ensures) (gains .gains-of .ensures),
+      room-lines _ _ (start .pre .0 .0) (start .pre .0 .1) _ _ _ _ _ _ _ _ (blocks .blocks-of .ensures) (parents .parents-of .ensures) (gains .gains-of .ensures)
+          (λ i. omega (arith, blocks .before .before .shared-slice-known .given i)) _ (start .pre .1) _ _ title,
     )
 
 same-length : tie.Need-same-length
@@ -74,13 +85,13 @@ same-length c = search needs
 returns : tie.Need-returns
 unfolding text
 returns c =
-    let start = c .before .before .before .before .before .before .before .before .before .before .before .before .before .before .before .before .before .before .before in
-    let known = c .before .before .before .before .before .before .before .before .before .before .before .before .before .before .before .before .before .shared-slice-known .given in
-    let blocks = c .before .before .before .before .before .before .before .before .before .before .before .before .before .before .before .blocks-of .ensures in
-    let parents = c .before .before .before .before .before .before .before .before .before .before .before .before .before .parents-of .ensures in
-    let gains = c .before .before .before .before .before .before .before .before .before .before .before .before .gains-of .ensures in
-    report-put _ _ (start .pre .0 .0) (start .pre .0 .1) _ _ _ _ _ _ _ _ blocks parents gains (λ i. omega (arith, known i)) _ (start .pre .1)
-    _ _ (c .before .before .before .before .before .before .before .before .before .put-text .ensures) _ _ (c .before .before .put-families .ensures)
+    let gains = c .before .before .before .before .before .before .before .before .before .before .before .before in
+    let parents = gains .before in
+    let blocks = parents .before .before in
+    let start = blocks .before .before .before .before in
+    let title = c .before .before .before .before .before .before .before .before .before .put-text .ensures in
+    report-put _ _ (start .pre .0 .0) (start .pre .0 .1) _ _ _ _ _ _ _ _ (blocks .blocks-of .ensures) (parents .parents-of .ensures) (gains .gains-of .ensures)
+    (λ i. omega (arith, blocks .before .before .shared-slice-known .given i)) _ (start .pre .1) _ _ title _ _ (c .before .before .put-families .ensures)
 
 pub put-report-spec : {M : Type 1} → statement M
 put-report-spec =
