@@ -1,5 +1,5 @@
 -- The decisions that are made for certain, as the code tests them, and the bits of the blocks that are out. Assumes nothing.
-use Prim.Native.Nat.{ℕ, zero, suc, _+_, _-_, _/_, _%_, _^_, _≤_, _<_}
+use Prim.Native.Nat.{ℕ, zero, suc, _+_, _-_, _*_, _/_, _%_, _^_, _≤_, _<_}
 use mathlib.Core.Path.{_≡_, refl, sym, ap, _∙_}
 use mathlib.Core.List.{List, [], _∷_, _++_}
 use mathlib.Core.Bool.{Bool, true, false, cond, not, _||_}
@@ -11,13 +11,15 @@ use lib.ListN.{length, List·getD-append}
 use lib.Seq.{getD-append-seam}
 use borrow.Author.Tests.{eqb-true, ne-eqb, lt-ltb, le-ltb}
 use lib.Pow.{pow-mono}
+use Rattle.rules.specs.Hour.{when}
 use Rattle.rules.specs.Day.{decisions}
 use Rattle.rules.proofs.Tests.{by-test, clash}
 use Rattle.rules.proofs.SetBits.{bits-at, bits-taken, bits-left}
 use Rattle.book.specs.Bounds.{mostBlocks}
 use Rattle.places.specs.Blocks.{sideAt, hoursAt, limitAt, againstAt, gainAt, parentAt, aheadAt, behindAt, keepsAt}
+use Rattle.places.specs.Layout.{mostLoss}
 use Rattle.places.specs.Reach.{isOut}
-use Rattle.search.specs.Decisions.{namesLeft, namesGone, isBarred, isDue, isForced, isRuledOut, RuledOut}
+use Rattle.search.specs.Decisions.{namesLeft, namesGone, isBarred, isDue, isForced, isRuledOut, outGains, RuledOut}
 
 -- A BLOCK THAT IS NAMED by a column
 module _ (name chosen : ℕ) where
@@ -147,25 +149,48 @@ gone-which name n chosen out e =
       | no k ↦ inr (omega arith, gone-open name n chosen out some (omega arith) ∙ e)
     ]
 
+-- a number that is chosen, or 0
+pub chosen-small : (test : Bool) (x g : ℕ) → g ≡ cond test x 0 → g ≤ x
+chosen-small true x g e = omega arith
+chosen-small false x g e = omega arith
+
+-- what is out gains the same by the bits below the k-th
+gains-same : (blocks : List ℕ) (n out more k : ℕ) → ((j : ℕ) → j < k → isOut more j ≡ isOut out j) → outGains blocks n more k ≡ outGains blocks n out k
+unfolding outGains
+gains-same blocks n out more zero same = refl
+gains-same blocks n out more (suc k) same = rw (gains-same blocks n out more k (λ j a. same j (omega arith)), same k (omega arith))
+
 module _ (blocks : List ℕ) (count at chosen out : ℕ) (high low : List ℕ) where
   abbrev ruledAt : ℕ → ℕ → Bool
   ruledAt r k = isRuledOut blocks (at + k) (isOut out k) (namesGone (parentAt blocks (at + k)) at chosen r) high low
 
-  pub record RuledTo (i r : ℕ) : Type 0 where
+  pub record RuledTo (i r gains : ℕ) : Type 0 where
     pub from : at ≤ i
     pub to : i ≤ count
     pub fits : r < 2 ^ (i - at)
     pub is : (k : ℕ) → k < i - at → isOut r k ≡ ruledAt r k
+    pub gained : gains ≡ outGains blocks at r (i - at)
+    pub gainsFit : gains ≤ (i - at) * 2 ^ 32
 
-  pub ruled-start : at ≤ count → RuledTo at 0
+  pub ruled-start : at ≤ count → RuledTo at 0 0
+  unfolding outGains
   ruled-start le =
       let none : at - at ≡ 0 = omega arith in
-      record { from = omega arith; to = le; fits = rw none (omega arith); is = λ k a. absurd (omega arith) }
+      record {
+        from = omega arith;
+        to = le;
+        fits = rw none (omega arith);
+        is = λ k a. absurd (omega arith);
+        gained = rw none;
+        gainsFit = omega arith;
+      }
 
-  pub ruled-next : ((i : ℕ) → i < mostBlocks → parentAt blocks i ≤ i) → count ≤ mostBlocks → (i r b : ℕ) (was gone test : Bool) → RuledTo i r →
+  pub ruled-next : ((i : ℕ) → i < mostBlocks → parentAt blocks i ≤ i) → count ≤ mostBlocks → (i r b gains g : ℕ) (was gone test : Bool) → RuledTo i r gains →
       i < count → was ≡ isOut out (i - at) →
-      gone ≡ namesGone (parentAt blocks i) at chosen r → test ≡ isRuledOut blocks i was gone high low → b ≡ cond test (2 ^ (i - at)) 0 → RuledTo (i + 1) (r + b)
-  ruled-next parents few i r b was gone test v inside ew eg et e =
+      gone ≡ namesGone (parentAt blocks i) at chosen r → test ≡ isRuledOut blocks i was gone high low → b ≡ cond test (2 ^ (i - at)) 0 →
+      g ≡ cond test (gainAt blocks i) 0 → gainAt blocks i < 2 ^ 32 → RuledTo (i + 1) (r + b) (gains + g)
+  unfolding outGains
+  ruled-next parents few i r b gains g was gone test v inside ew eg et e gg small =
       let n : i + 1 - at ≡ suc (i - at) = omega (arith, v .from) in
       record {
         from = omega (arith, v .from);
@@ -175,6 +200,8 @@ module _ (blocks : List ℕ) (count at chosen out : ℕ) (high low : List ℕ) w
           | yes z ↦ rw z top
           | no z ↦ lower k (omega arith)
         ];
+        gained = rw n gained;
+        gainsFit = omega (arith, v .from, v .gainsFit, gain-small);
       }
     where
       same : (k : ℕ) → k < i - at → isOut (r + b) k ≡ isOut r k
@@ -192,10 +219,27 @@ module _ (blocks : List ℕ) (count at chosen out : ℕ) (high low : List ℕ) w
           let here : at + (i - at) ≡ i = omega (arith, v .from) in
           top-bit (i - at) r b test (v .fits) e ∙ et ∙ rw (gone-at (i - at) (omega arith), here, ew, eg)
 
+      -- what it gains, where it is out
+      gain-is : g ≡ when test (gainAt blocks i)
+      gain-is = by-test (λ u. g ≡ cond u (gainAt blocks i) 0 → g ≡ when u (gainAt blocks i)) test (λ _ z. z) (λ _ z. z) gg
+
+      gain-small : g ≤ 2 ^ 32
+      gain-small = omega (arith, chosen-small test (gainAt blocks i) g gg)
+
+      gained : gains + g ≡ outGains blocks at (r + b) (i - at) + when (isOut (r + b) (i - at)) (gainAt blocks (at + (i - at)))
+      gained =
+          let here : at + (i - at) ≡ i = omega (arith, v .from) in
+          rw (gains-same blocks at r (r + b) (i - at) same, top-bit (i - at) r b test (v .fits) e, here, ← gain-is, ← (v .gained))
+
   -- no bit is lost
-  pub ruled-room : count ≤ mostBlocks → (i r b : ℕ) (test : Bool) → RuledTo i r → i < count → b ≡ cond test (2 ^ (i - at)) 0 → r + b < 2 ^ 32
-  ruled-room few i r b test v inside e =
+  pub ruled-room : count ≤ mostBlocks → (i r b gains : ℕ) (test : Bool) → RuledTo i r gains → i < count → b ≡ cond test (2 ^ (i - at)) 0 → r + b < 2 ^ 32
+  ruled-room few i r b gains test v inside e =
       omega (arith, more-fits (i - at) r b test (v .fits) e, pow-mono {i = suc (i - at)} {j = 32} (omega (arith, v .from)))
 
-  pub ruled-all : (i r : ℕ) → RuledTo i r → count ≤ i → RuledOut blocks count at chosen out high low r
-  ruled-all i r v le k a = v .is k (omega (arith, v .to))
+  pub ruled-all : (i r gains : ℕ) → RuledTo i r gains → count ≤ i → RuledOut blocks count at chosen out high low r
+  ruled-all i r gains v le k a = v .is k (omega (arith, v .to))
+
+  pub gained-all : count ≤ mostBlocks → (i r gains : ℕ) → RuledTo i r gains → count ≤ i → (gains ≡ outGains blocks at r (count - at)) × (gains ≤ mostLoss)
+  gained-all few i r gains v le =
+      let e : i ≡ count = omega (arith, v .to) in
+      (rw e at (v .gained), omega (arith, v .gainsFit))

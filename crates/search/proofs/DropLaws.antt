@@ -1,7 +1,7 @@
 -- THE REACH OF A BRANCH: the places of a lawful completion lie in it, so a branch is dropped where some hour has no place to balance, or where the least
 -- gaps in it come to too much. Assumes nothing.
 use Prim.Native.Nat.{ℕ, zero, suc, _+_, _-_, _/_, _%_, _^_, _≤_, _<_}
-use mathlib.Core.Path.{_≡_, refl, sym, _∙_}
+use mathlib.Core.Path.{_≡_, refl, sym, ap, _∙_}
 use mathlib.Core.List.{List, [], _∷_, _++_}
 use mathlib.Core.Bool.{Bool, true, false, not, _||_}
 use native.Mathlib.Omega.{arith}
@@ -9,13 +9,16 @@ use mathlib.Core.Logic.{_⊎_, inl, inr}
 use native.Mathlib.Decide.{decLe}
 use native.Mathlib.Nat.{lt-of-not-le, suc-inj}
 use lib.Dec.{leb, eqb}
+use lib.Pow.{shr-shr}
 use lib.ListN.{length, drop, getD, length-append, List·getD-append}
-use borrow.Author.Tests.{eq-eqb}
+use borrow.Author.Tests.{leb-true, eq-eqb}
 use Rattle.rules.specs.Orders.{Side}
+use Rattle.rules.specs.Hour.{when}
 use Rattle.rules.specs.Execution.{testSide}
 use Rattle.rules.specs.Day.{Day, taken, hourOf, priceSum, lawful}
 use Rattle.rules.proofs.HourSums.{daySum-add}
 use Rattle.rules.proofs.Tests.{by-test, clash}
+use Rattle.rules.proofs.CurveLaws.{when-le}
 use Rattle.rules.proofs.NeighbourLaws.{slack}
 use Rattle.rules.proofs.BoundLaws.{gain}
 use Rattle.rules.proofs.LossLaws.{daySum-counted, against, losses, bound-with}
@@ -24,9 +27,9 @@ use Rattle.rules.proofs.LinkLaws.{Closed}
 use Rattle.rules.proofs.TwinLaws.{block-at}
 use Rattle.rules.proofs.LawCutLaws.{couldKeep, taken-could}
 use Rattle.places.specs.Hours.{sumOfHours, sumOver, countedColumn, cell, ofHour, PricesOf, leastGap}
-use Rattle.places.specs.Blocks.{sideAt, hoursAt, limitAt, parentAt, rowQuantity, keepsAt, allKeep, addedIn}
+use Rattle.places.specs.Blocks.{sideAt, hoursAt, limitAt, gainAt, parentAt, rowQuantity, keepsAt, allKeep, addedIn}
 use Rattle.places.specs.Reach.{isOut, mustFrom, mayFrom, RestOf, ReachOf}
-use Rattle.search.specs.Decisions.{namesGone, isRuledOut, RuledOut}
+use Rattle.search.specs.Decisions.{namesGone, isRuledOut, outGains, RuledOut}
 use Rattle.search.specs.Meaning.{AnHour, Shown, Known, Branch, lossAbove, At, DroppedFrom, JudgedFrom, lastReached}
 use Rattle.search.specs.Tables.{Tables}
 use Rattle.places.proofs.NumberLaws.{larger-least, larger-above, smaller-most, smaller-below, nearest-least}
@@ -84,6 +87,34 @@ module _ {day : Day} {p rest : ℕ → ℕ} {tables : Tables} (known : Known day
       let more = rest-within n (suc i) t (omega arith) (omega arith) (suc-inj l) (avoids-next n i false t le f) (omega arith) in
       let adds = buys-at s h c in
       rw (s .next) (omega arith, omega arith)
+
+-- WHAT IS OUT IS LOST: a rest that takes no block that is out loses what these would gain
+next-bit : (out k : ℕ) → isOut out (suc k) ≡ isOut (out / 2) k
+next-bit out k = let e : 1 + k ≡ suc k = omega arith in rw (← (rw e at (shr-shr out 1 k)))
+
+gains-front : (blocks : List ℕ) (i out k : ℕ) → outGains blocks i out (suc k) ≡ when (isOut out 0) (gainAt blocks i) + outGains blocks (suc i) (out / 2) k
+unfolding outGains
+gains-front blocks i out zero = let e : i + 0 ≡ i = omega arith in rw e (omega arith)
+gains-front blocks i out (suc k) =
+    let e : i + suc k ≡ suc i + k = omega arith in
+    rw (gains-front blocks i out k, next-bit out k, e) (omega arith)
+
+gains-lost : {day : Day} {p rest : ℕ → ℕ} {tables : Tables} → Known day p rest tables → (n i out : ℕ) (t : List Bool) → i + n ≡ tables .count → length t ≡ n →
+    ((k : ℕ) → k < n → isOut out k ≡ true → getD t k false ≡ false) →
+    outGains (tables .blocks) i out n ≤ losses (day .hours) p (drop i (day .blocks)) t
+unfolding outGains losses
+gains-lost known zero i out t e l avoids = omega arith
+gains-lost known (suc n) i out [] e l avoids = absurd (omega arith)
+gains-lost {tables = tables} known (suc n) i out (true ∷ t) e l avoids =
+    let s = known .shown i (omega arith) in
+    let more = gains-lost known n (suc i) (out / 2) t (omega arith) (suc-inj l) (λ k a is. avoids (suc k) (omega arith) (next-bit out k ∙ is)) in
+    let none : isOut out 0 ≡ false =
+    by-test (λ u. isOut out 0 ≡ u → u ≡ false) (isOut out 0) (λ is _. clash refl (avoids 0 (omega arith) is)) (λ _ _. refl) refl in
+    rw (s .next) (omega (arith, gains-front (tables .blocks) i out n, ap (λ u. when u (gainAt (tables .blocks) i)) none, more))
+gains-lost {tables = tables} known (suc n) i out (false ∷ t) e l avoids =
+    let s = known .shown i (omega arith) in
+    let more = gains-lost known n (suc i) (out / 2) t (omega arith) (suc-inj l) (λ k a is. avoids (suc k) (omega arith) (next-bit out k ∙ is)) in
+    rw (s .next) (omega (arith, gains-front (tables .blocks) i out n, when-le (isOut out 0) (gainAt (tables .blocks) i), s .gainIs, more))
 
 -- LIMITS AT THE BEST PRICES WITHIN REACH, by the columns
 same-could : (side side′ : Side) (floor floor′ cap cap′ limit limit′ : ℕ) → side ≡ side′ → floor ≡ floor′ → cap ≡ cap′ → limit ≡ limit′ →
@@ -193,14 +224,15 @@ module _ {tables : Tables} {left out : ℕ} {node : Node} {limit : ℕ} where
           )
 
       -- its gaps are at least the least gaps there
-      gaps-least : lossAbove day p rest (d ++ t) < limit → node .loss + sumOver (tables .change) (leastGap (tables .gaps) (tables .turn) from to) ≤ lossAbove day p rest (d ++ t)
+      gaps-least : lossAbove day p rest (d ++ t) < limit → (more : ℕ) → more ≤ losses (day .hours) p (drop (length d) (day .blocks)) t →
+          node .loss + more + sumOver (tables .change) (leastGap (tables .gaps) (tables .turn) from to) ≤ lossAbove day p rest (d ++ t)
       unfolding lossAbove
-      gaps-least k =
+      gaps-least k more lost =
           let g = leastGap (tables .gaps) (tables .turn) from to in
           omega (
             arith,
             branch .lossIs,
-            bound-with day p d t 0 (λ h. g h + rest h) (omega arith) (λ h c. gap-least h (an-hour c)),
+            bound-with day p d t more (λ h. g h + rest h) lost (λ h c. gap-least h (an-hour c)),
             daySum-add (day .hours) g rest,
             rw (known .changeIs) at (day-sum (day .hours) g),
           )
@@ -271,7 +303,7 @@ module _ {tables : Tables} {left out : ℕ} {node : Node} {limit : ℕ} where
 
     -- the least gaps within reach come to as much
     pub dropped-by-gaps : limit ≤ node .loss + sumOver (tables .change) (leastGap (tables .gaps) (tables .turn) from to) → DroppedFrom tables left out node limit
-    dropped-by-gaps z day p rest d t at l law = unless _ _ (λ k. absurd (omega (arith, gaps-least t at l law k)))
+    dropped-by-gaps z day p rest d t at l law = unless _ _ (λ k. absurd (omega (arith, gaps-least t at l law k 0 (omega arith))))
 
     -- a taken block misses its limit at the best prices within reach
     module _ {high lowest : List ℕ} (ph : PricesOf (tables .unitPrices) from high) (pl : PricesOf (tables .unitPrices) to lowest) (e : balances ≡ true)
@@ -333,10 +365,26 @@ module _ {tables : Tables} {left out : ℕ} {node : Node} {limit : ℕ} where
             by-which bit before (inl was) = sym bit ∙ at .outOf t k l law less inside was
             by-which bit before (inr gone) = absurd (gone-not k inside (rw here-is at gone) before bit)
 
-      pub judged-open : left ≤ tables .count → {r : ℕ} →
+      -- or the branch is dropped: what they would gain and the least gaps come to as much
+      pub judged-open : left ≤ tables .count → {r gaps gains : ℕ} →
           RuledOut (tables .blocks) (tables .count) (tables .count - left) (node .set) out high-counted low-counted r →
-          JudgedFrom tables left out node limit false r
-      judged-open le is = record {
-        dropped = λ z. clash z refl;
+          gaps ≡ sumOver (tables .change) (leastGap (tables .gaps) (tables .turn) from to) →
+          gains ≡ outGains (tables .blocks) (tables .count - left) r (tables .count - (tables .count - left)) →
+          JudgedFrom tables left out node limit (leb limit (node .loss + gaps + gains)) r
+      judged-open le {r} {gaps} {gains} is gapped gained = record {
+        dropped = λ much day p rest d t at l law. unless _ _ (λ less. absurd (omega (
+          arith,
+          leb-true limit (node .loss + gaps + gains) much,
+          gaps-least t at l law less gains (lost at t l law less),
+        )));
         outOf = λ _ day p rest d at t k l law less inside ruled. ruled-not le _ is at t l law less (suc k) k (omega arith) inside ruled;
       }
+        where
+          lost : {day : Day} {p rest : ℕ → ℕ} {d : List Bool} (at : At tables left node limit out day p rest d) (t : List Bool) → length t ≡ left →
+              lawful day (d ++ t) ≡ true → lossAbove day p rest (d ++ t) < limit → gains ≤ losses (day .hours) p (drop (length d) (day .blocks)) t
+          lost {d = d} at t l law less =
+              let here : tables .count - left ≡ length d = omega (arith, at .size) in
+              let size : tables .count - length d ≡ left = omega (arith, at .size) in
+              let all = rw (here, size) at gained in
+              omega (arith, all, gains-lost (at .known) left (length d) r t (at .size) l
+              (λ k inside ruled. ruled-not le _ is at t l law less (suc k) k (omega arith) inside ruled))

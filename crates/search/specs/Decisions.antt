@@ -1,12 +1,13 @@
 -- THE DECISIONS that are made for certain: of a child, of twins, of a block whose other way loses too much, of one that is out. Definitions only. Assumes
 -- nothing.
-use Prim.Native.Nat.{ℕ, _+_, _-_, _/_, _%_, _^_, _<_}
+use Prim.Native.Nat.{ℕ, zero, suc, _+_, _-_, _/_, _%_, _^_, _<_}
 use mathlib.Core.Bool.{Bool, cond, not, _&&_, _||_}
 use mathlib.Core.List.{List}
 use mathlib.Core.Path.{_≡_}
 use lib.Dec.{eqb, leb, ltb}
 use Rattle.places.specs.Blocks.{sideAt, hoursAt, limitAt, againstAt, gainAt, parentAt, aheadAt, behindAt, keepsAt}
 use Rattle.places.specs.Reach.{isOut}
+use Rattle.rules.specs.Hour.{when}
 
 -- A column names a block by 1 and its number, none by 0. The block that is named is left out of a set.
 unfoldable pub namesLeft : (name set : ℕ) → Bool
@@ -32,6 +33,11 @@ isForced blocks n set loss limit =
 -- Undecided block i is out: it was before, its parent is gone, or it misses its limit at these prices.
 unfoldable pub isRuledOut : (blocks : List ℕ) (i : ℕ) (was gone : Bool) (high low : List ℕ) → Bool
 isRuledOut blocks i was gone high low = was || gone || not (keepsAt (sideAt blocks i) (hoursAt blocks i) (limitAt blocks i) high low)
+
+-- What the first k undecided blocks, those from number n on, would gain, of them that are out: to leave these out loses so much.
+unfoldable pub outGains : (blocks : List ℕ) (n out : ℕ) → ℕ → ℕ
+outGains blocks n out zero = 0
+outGains blocks n out (suc k) = outGains blocks n out k + when (isOut out k) (gainAt blocks (n + k))
 
 -- The undecided blocks that are out, those from number n on: each bit by the definition, where the parent's own bit tells of an undecided one.
 abbrev pub RuledOut : (blocks : List ℕ) (count n set out : ℕ) (high low : List ℕ) (r : ℕ) → Type 0
