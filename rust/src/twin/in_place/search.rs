@@ -172,8 +172,17 @@ impl<'a, const ROOM: usize, const LINKED: bool> Search<'a, ROOM, LINKED> {
         self.fix(at, loss);
         self.passes(set, loss) && {
             self.rule_out(at);
-            true
+            self.limit > loss + self.state.gaps + self.lost_by_out(at)
         }
+    }
+
+    /// What the undecided blocks that are out would gain.
+    fn lost_by_out(&self, at: usize) -> u64 {
+        bits_of(self.state.out & self.undecided(at)).map(|i| self.choices[i].left).sum()
+    }
+
+    fn undecided(&self, at: usize) -> u32 {
+        (u32::MAX.checked_shl(at as u32).unwrap_or(0)) & self.all
     }
 
     /// Whether the other decision of the last block would have lost the limit: then what
@@ -241,7 +250,7 @@ impl<'a, const ROOM: usize, const LINKED: bool> Search<'a, ROOM, LINKED> {
     /// Leaves out the undecided blocks that miss their limits at the best prices in reach,
     /// and those below them or below blocks that were left out.
     fn rule_out(&mut self, at: usize) {
-        let undecided = (u32::MAX.checked_shl(at as u32).unwrap_or(0)) & self.all;
+        let undecided = self.undecided(at);
         let tested = self.state.risk & undecided & !self.state.out;
         let mut missing = 0;
         for sells in [true, false] {

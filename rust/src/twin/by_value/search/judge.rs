@@ -53,6 +53,13 @@ fn is_ruled_out(blocks: &[u32], i: usize, was: bool, gone: bool, high: &[u32], l
     )
 }
 
+// The undecided blocks that are out, and what they would gain.
+#[derive(Clone, Copy)]
+pub struct Ruled {
+    pub out: u32,
+    pub gains: u64,
+}
+
 // The undecided blocks that are out, from the one at number at on, whose bit is the lowest; a parent before its children.
 fn ruled_out(
     blocks: &[u32],
@@ -62,18 +69,20 @@ fn ruled_out(
     out: u32,
     high: &[u32],
     low: &[u32],
-) -> u32
+) -> Ruled
 {
     let mut r: u32 = 0;
+    let mut gains: u64 = 0;
     let mut i = at;
     while i < count {
         let k = i - at;
         let gone = is_gone(blocks[PARENT + i], at, set, r);
         let test = is_ruled_out(blocks, i, is_out(out, k), gone, high, low);
         r = r + choose(test, bit(k as u32), 0);
+        gains = gains + (choose(test, blocks[GAIN + i], 0) as u64);
         i += 1;
     }
-    r
+    Ruled { out: r, gains }
 }
 
 // Whether the other way to decide the block that was decided last loses the limit or more: then what a branch can reach is as it was before that block.
@@ -101,7 +110,8 @@ pub struct Judged {
 
 // A branch is dropped where no completion can be lawful and lose less than the limit: where the decided blocks lose as much already, where an hour can no
 // longer balance, where the least gaps within reach come to as much, or where a taken block misses its limit at the best prices within reach. An undecided
-// block that misses its limit there is out, and so is a child of one that is out or left out.
+// block that misses its limit there is out, and so is a child of one that is out or left out; the branch is dropped too where what they would gain and the
+// least gaps come to as much.
 pub fn judge(
     unit_prices: &[u32],
     gap: &[u32],
@@ -137,7 +147,8 @@ pub fn judge(
     let from = reach.from;
     let to = reach.to;
     let often = hours[CHANGE];
-    if limit <= node.loss + counted_least_gaps(gap, &hours[TURN..CHANGE], from, to, often) {
+    let least = node.loss + counted_least_gaps(gap, &hours[TURN..CHANGE], from, to, often);
+    if limit <= least {
         return drop;
     }
     let high = counted_prices(prices_at(unit_prices, from), often);
@@ -145,8 +156,10 @@ pub fn judge(
     if !keeps_limits(blocks, at, node.set, &high, &lowest) {
         return drop;
     }
+    let ruled = ruled_out(blocks, count as usize, at, node.set, out, &high, &lowest);
+    let with_gains = least + ruled.gains;
     Judged {
-        dropped: false,
-        out: ruled_out(blocks, count as usize, at, node.set, out, &high, &lowest),
+        dropped: limit <= with_gains,
+        out: ruled.out,
     }
 }
