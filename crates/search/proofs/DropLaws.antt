@@ -386,5 +386,9 @@ module _ {tables : Tables} {left out : ℕ} {node : Node} {limit : ℕ} where
               let here : tables .count - left ≡ length d = omega (arith, at .size) in
               let size : tables .count - length d ≡ left = omega (arith, at .size) in
               let all = rw (here, size) at gained in
-              omega (arith, all, gains-lost (at .known) left (length d) r t (at .size) l
-              (λ k inside ruled. ruled-not le _ is at t l law less (suc k) k (omega arith) inside ruled))
+              omega (
+                arith,
+                all,
+                gains-lost (at .known) left (length d) r t (at .size) l
+                    (λ k inside ruled. ruled-not le _ is at t l law less (suc k) k (omega arith) inside ruled),
+              )
