@@ -1,4 +1,4 @@
-/* Clears the book of a file by the proved library and prints its sheet. At the root of the repository:
+/* Clears the book of a file by the proved library and prints its sheet; standard error tells more. At the root of the repository:
  *
  *     ./build library
  *     cc -Iinclude -o clear examples/clear.c target/lib/libauction.a
@@ -16,6 +16,7 @@
 static uint8_t book[AUCTION_MOST_BOOK + 1];
 static uint8_t result[AUCTION_RESULT_SIZE(AUCTION_MOST_RECORDS)];
 static uint8_t sheet[AUCTION_MOST_SHEET];
+static uint8_t families[AUCTION_MOST_FAMILIES];
 
 /* The number in 4 bytes, high byte first. */
 static uint32_t number_at(const uint8_t *bytes)
@@ -60,8 +61,11 @@ int main(int count, char **words)
         return 2;
     }
     uint32_t refusal = auction_read(book, length);
-    if (refusal == AUCTION_DONE)
+    if (refusal == AUCTION_DONE) {
         tell_hour_1(length);
+        /* What each family of linked blocks gains. */
+        fwrite(families, 1, auction_families(book, length, families, sizeof families), stderr);
+    }
     /* Of a refused book the sheet is `refused;` and the number. */
     fwrite(sheet, 1, auction_sheet(book, length, sheet, sizeof sheet), stdout);
     if (fflush(stdout) != 0) {

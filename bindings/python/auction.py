@@ -7,6 +7,7 @@ is no book is refused, by an exception with the number and the words of the caus
     import auction
     outcome = auction.clear(book)
     outcome.hours[0].price, outcome.welfare, outcome.taken
+    auction.families(book)[0].gain
 
     python3 -m auction day.book         prints the sheet of a book's file
 
@@ -32,7 +33,7 @@ class Missing(Exception):
 
 
 class Refused(Exception):
-    """A book or a call that is refused: `number`, 1 to 9, and the `words` of the cause."""
+    """A book or a call that is refused: `number`, 1 to 10, and the `words` of the cause."""
 
     def __init__(self, number: int):
         self.number = number
@@ -65,6 +66,7 @@ _CALLS = {
     "auction_price": (_BYTES, _SIZE, _NUMBER, _NUMBER, _NUMBER),
     "auction_clear": (_BYTES, _SIZE, _BYTES, _SIZE),
     "auction_sheet": (_BYTES, _SIZE, _BYTES, _SIZE),
+    "auction_families": (_BYTES, _SIZE, _BYTES, _SIZE),
 }
 
 
@@ -104,7 +106,7 @@ class Hour:
 @dataclass(frozen=True)
 class Row:
     """What an order gets: `kind` is "step" or "block", each numbered separately; `executed` are tenths of a MW
-    in each of its hours, 0 for a block that is left out."""
+    in each of its hours, 0 for a block that is left out. A row of kind "link" has its child's number and 0."""
 
     kind: str
     number: int
@@ -114,7 +116,7 @@ class Row:
 @dataclass(frozen=True)
 class Outcome:
     """What is published of an accepted book: the welfare in tenths of a cent, the hours from hour 1 on, and the
-    orders as they stand in the book."""
+    orders and links as they stand in the book."""
 
     welfare: int
     hours: Tuple[Hour, ...]
@@ -147,6 +149,14 @@ class Outcome:
     def set(self) -> int:
         """The taken blocks as a set for `price`: the lowest bit is the first block of the chain."""
         return sum(1 << position for position, row in enumerate(self._blocks()) if row.executed)
+
+
+@dataclass(frozen=True)
+class Family:
+    """A block without a parent, by its number, and what it and all blocks below it gain, in tenths of a cent."""
+
+    block: int
+    gain: int
 
 
 def read(book: bytes) -> None:
@@ -182,8 +192,27 @@ def clear(book: bytes) -> Outcome:
 
 def sheet(book: bytes) -> str:
     """The sheet of a book, or the line `refused;` and the number."""
-    out = ctypes.create_string_buffer(_NUMBERS["MOST_SHEET"])
-    length = _library().auction_sheet(*_bytes(book), out, len(out))
+    return _text("auction_sheet", "MOST_SHEET", book)
+
+
+def families(book: bytes) -> Tuple[Family, ...]:
+    """The gain of each family at the published prices, in rising number of the block without a parent; a block
+    without links is its own family. Raises Refused."""
+    first, *lines = (line.split(";") for line in family_report(book).splitlines())
+    if first[0] == "refused":
+        raise Refused(int(first[1]))
+    return tuple(Family(int(block), int(gain)) for block, gain in lines)
+
+
+def family_report(book: bytes) -> str:
+    """The family report of a book, or the line `refused;` and the number."""
+    return _text("auction_families", "MOST_FAMILIES", book)
+
+
+def _text(call: str, most: str, book: bytes) -> str:
+    """What a call writes of a book."""
+    out = ctypes.create_string_buffer(_NUMBERS[most])
+    length = getattr(_library(), call)(*_bytes(book), out, len(out))
     return out.raw[:length].decode("ascii")
 
 
@@ -211,7 +240,7 @@ def _outcome(book: bytes, result: bytes) -> Outcome:
     for record in range(1, len(book) // size):
         order = book[size * record : size * (record + 1)]
         at = _NUMBERS["RESULT_HEAD"] + step * record
-        kind = "step" if order[0] == 1 else "block"
+        kind = {1: "step", 2: "block", 3: "link"}[order[0]]
         rows.append(Row(kind, _number(order[4:6]), _number(result[at : at + step])))
     return Outcome(_number(result[:8]), hours, tuple(rows))
 

@@ -38,7 +38,7 @@ def said(book: bytes) -> tuple:
         prices = [auction.price(book, outcome.set, hour) for hour in hours_of(book)]
     except auction.Refused as refused:
         outcome, prices = refused.number, None
-    return outcome, prices, auction.sheet(book)
+    return outcome, prices, auction.sheet(book), auction.family_report(book)
 
 
 def hours_of(book: bytes) -> list:
@@ -83,6 +83,27 @@ class Calls(unittest.TestCase):
         for set_ in 0, 1:
             self.assertEqual(refusal(auction.price, sample("day-23.book"), set_, 3), 8)
 
+    def test_the_outcomes_of_linked_blocks(self):
+        outcome = auction.clear(sample("linked-both.book"))
+        self.assertEqual((outcome.welfare, outcome.taken), (500_000, (1, 2)))
+        self.assertEqual(outcome.rows[6], auction.Row("link", 2, 0))
+        outcome = auction.clear(sample("linked-left-out.book"))
+        self.assertEqual((outcome.welfare, outcome.taken, outcome.block(2)), (400_000, (), 0))
+
+    def test_families(self):
+        gains = auction.Family(1, 64_500), auction.Family(6, 30_000)
+        self.assertEqual(auction.families(sample("linked-generations.book")), gains)
+        self.assertEqual(auction.families(sample("S1.book")), ())
+        self.assertEqual(auction.families(sample("S6.book")), (auction.Family(1, 10_000), auction.Family(2, 0)))
+        for path in SAMPLES.glob("*.families"):
+            book, report = path.with_suffix(".book").read_bytes(), path.read_text()
+            self.assertEqual(auction.family_report(book), report, path.name)
+            if report.startswith("refused;"):
+                self.assertEqual(f"refused;{refusal(auction.families, book)}\n", report, path.name)
+            else:
+                lines = [f"{family.block};{family.gain}" for family in auction.families(book)]
+                self.assertEqual(report.split("\n"), ["block;gain", *lines, ""], path.name)
+
     def test_the_sheets_of_the_samples(self):
         for path in SAMPLES.glob("*.sheet"):
             book = path.with_suffix(".book").read_bytes()
@@ -90,7 +111,7 @@ class Calls(unittest.TestCase):
 
     def test_outcomes_and_prices_are_those_of_the_sheets(self):
         for name, book in books().items():
-            outcome, prices, sheet = said(book)
+            outcome, prices, sheet, _ = said(book)
             if prices is None:
                 self.assertEqual(sheet, f"refused;{outcome}\n", name)
                 continue
@@ -113,9 +134,10 @@ class Calls(unittest.TestCase):
     def test_each_refusal(self):
         names = {f"refused-{number}": number for number in range(1, 7)}
         names.update({"refused-4-edition-2": 4, "refused-6-edition-2": 6, "refused-9-step": 9, "refused-9-block": 9})
+        names.update({"refused-2-edition-3": 2, "refused-10": 10, "refused-10-order": 10})
         for name, number in names.items():
             book = sample(f"{name}.book")
-            for call, *words in (auction.read,), (auction.clear,), (auction.price, 0, 1):
+            for call, *words in (auction.read,), (auction.clear,), (auction.price, 0, 1), (auction.families,):
                 self.assertEqual(refusal(call, book, *words), number)
         for hour in 0, 25, 1 << 31:
             self.assertEqual(refusal(auction.price, sample("S5.book"), 0, hour), 8)
@@ -134,7 +156,8 @@ class Calls(unittest.TestCase):
     def test_bytes_and_nothing_else(self):
         book = sample("S5.book")
         for other in None, "text", 5, bytearray(book), memoryview(book), [1, 2], SAMPLES / "S5.book":
-            for call, *words in (auction.read,), (auction.clear,), (auction.sheet,), (auction.price, 0, 1):
+            calls = (auction.read,), (auction.clear,), (auction.sheet,), (auction.families,), (auction.price, 0, 1)
+            for call, *words in calls:
                 with self.assertRaisesRegex(TypeError, "a book is bytes, and not "):
                     call(other, *words)
         for set_, hour in (-1, 1), (1 << 32, 1), (0, -1), (0, 1 << 32), (0.0, 1), (0, "1"):

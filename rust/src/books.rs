@@ -6,6 +6,7 @@
 //! - `random`: accepted books of many kinds;
 //! - `damage`: refused books, by cause or by accident;
 //! - `days`: both kinds for days of 23, 24 and 25 hours;
+//! - `links`: links among the blocks of edition 3, right and wrong;
 //! - `families`: large books for the benchmark;
 //! - `expected`: what is expected of the books in `bench-books`;
 //! - `worked`: the days of documents 01 and 02 that are checked by hand;
@@ -18,28 +19,30 @@ mod days;
 mod dice;
 mod expected;
 mod families;
+mod links;
 mod random;
 mod worked;
 
-pub use builder::{hour_bits, hours_in, BlockOrder, Orders, StepOrder};
+pub use builder::{hour_bits, hours_in, BlockOrder, LinkOrder, Orders, StepOrder};
 pub use count::{count, raised, Met};
 pub use damage::{
     book_with_causes, book_with_causes_of, edge_books, edition_edges, every_byte_changed,
     reader_book, reader_book_of, SOME_EDITIONS,
 };
 pub use days::{
-    book_with_causes_on, day_edges, pricing_case_on, reader_book_on, small_book_on,
+    book_with_causes_on, day_edges, own_causes, pricing_case_on, reader_book_on, small_book_on,
     small_orders_on, tiny_book_on, DAYS, DAYS_AND_EDITIONS, OWN_CAUSES,
 };
 pub use dice::Dice;
 pub use expected::Expected;
-pub use families::{full_day, Family, FAMILIES};
+pub use families::{full_day, linked_day, Family, FAMILIES};
+pub use links::{link_edges, Shape};
 pub use random::{
     pricing_case, pricing_case_of, small_book, small_book_of, small_orders, small_orders_of,
     tiny_book, tiny_book_of,
 };
 pub use worked::{
     block_beside_the_day, day_of_23_hours, day_of_25_hours, edition_2_day, head_alone,
-    opposite_blocks, step_beside_the_day, thirty_two_blocks, worked_days, EDITION_2_BLOCKS,
-    THIRTY_TWO_BLOCKS_TAKEN,
+    link_upwards, link_without_parent, linked_days, opposite_blocks, step_beside_the_day,
+    thirty_two_blocks, worked_days, CHAIN_OF_32_TAKEN, EDITION_2_BLOCKS, THIRTY_TWO_BLOCKS_TAKEN,
 };

@@ -1,26 +1,32 @@
 //! Documents 01 and 02, implemented by their own words.
 //!
-//! - `read`: any bytes to a book or its first refusal, 1 to 6 or 9, by the limits of its
+//! - `read`: any bytes to a book or its first refusal, 1 to 6, 9 or 10, by the limits of its
 //!   edition and the hours of its day;
 //! - `hour`: the price of one hour under a set of blocks, or refusal 8;
-//! - `day`: lawful sets, welfare, the published result, or refusal 7;
+//! - `day`: lawful sets that hold their blocks' parents, welfare, the published result, or
+//!   refusal 7;
 //! - `contenders`: demand 3 taken literally, for tiny books;
-//! - `sheet`: what the program auction-print writes.
+//! - `sheet`: what the program auction-print writes;
+//! - `families`: what the program family-print writes.
 
 mod contenders;
 mod day;
+mod families;
 mod hour;
 mod read;
 mod sheet;
 
 pub use contenders::{contenders, for_each_contender, BestContender, Contender};
 pub use day::{
-    clear, is_better, keeps_limit, net_block_sales, outcome, result_bytes, result_length,
-    result_length_for, tie_goes_to, Outcome, Published,
+    clear, holds_parents, is_better, keeps_limit, net_block_sales, outcome, result_bytes,
+    result_length, result_length_for, tie_goes_to, Outcome, Published,
 };
+pub use families::{families, families_of, root_of, sheet_and_families};
 pub use hour::{
     beyond_totals, candidates, clears, executed, price_hour, price_hour_by_scan, scan, HourAnswer,
     DOES_NOT_CLEAR, HIGHEST_PRICE, LOWEST_PRICE,
 };
-pub use read::{limits, passing_hours, read, Block, Book, Limits, Side, Step, CHANGED_HOUR, HOURS};
+pub use read::{
+    limits, passing_hours, read, Block, Book, Limits, Link, Side, Step, CHANGED_HOUR, HOURS,
+};
 pub use sheet::{sheet, sheet_of};

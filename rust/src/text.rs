@@ -9,26 +9,29 @@
 //! block buy hours 1-8,21-24 price 4100 quantity 10 portfolio 3
 //! ```
 //!
-//! - A line `edition 2` in front of all orders makes a book of edition 2. Without one the
-//!   book is of edition 1.
+//! - A line `edition 2` or `edition 3` in front of all orders makes a book of that edition.
+//!   Without one the book is of edition 1.
 //! - A line `day 23` or `day 25` in front of all orders makes the book of a day of so many
 //!   hours. Without one the day has 24.
 //! - A line of an order begins with `step` or `block` and `buy` or `sell`. The fields
 //!   follow, each a word and its value, in any order.
 //! - Prices are whole cents per MWh, 1 to 300000. Quantities are whole tenths of
 //!   a MW: 1 to 99999 for a step, for a block 1 to 50 in edition 1 and 1 to 250 in
-//!   edition 2.
+//!   editions 2 and 3.
 //! - `number` may be left out: an order then gets one more than the order of
 //!   its kind on the line before it; the first gets 1. Steps and blocks are
 //!   numbered separately.
-//! - The first order stands in record 1 of the book, the second in record 2, and
+//! - In edition 3 a line `link child 4 parent 2` says that block 4 may be taken only with
+//!   block 2. The parent has the lower number, and a block is a child once at most; the
+//!   blocks may stand on later lines.
+//! - The first order or link stands in record 1 of the book, the second in record 2, and
 //!   so on. The chains follow the numbers, whatever the order of the lines.
 //!
 //! So every accepted book has a text that gives back its very bytes. No text
 //! gives a refused book.
 
-use crate::books::{hour_bits, hours_in, BlockOrder, Orders, StepOrder};
-use crate::paper::{limits, passing_hours, read, Block, Book, Limits, Side, Step};
+use crate::books::{hour_bits, hours_in, BlockOrder, LinkOrder, Orders, StepOrder};
+use crate::paper::{limits, passing_hours, read, Block, Book, Limits, Link, Side, Step};
 use std::fmt;
 use std::ops::RangeInclusive;
 
@@ -50,29 +53,33 @@ impl fmt::Display for TextError {
 pub fn refusal_meaning(refusal: u8) -> &'static str {
     match refusal {
         1 => "the length is not 16 x R, below 16 bytes, or R is outside 1 to 2048",
-        2 => "head: hours not 23, 24 or 25, edition not 1 or 2, or bytes 8 to 15 not all 0",
+        2 => "head: hours not 23, 24 or 25, edition not 1 to 3, or bytes 8 to 15, in edition 3 bytes 10 to 15, not all 0",
         3 => "on a chain: an index of R or more, a kind not the chain's, or a number that does not rise",
         4 => "on a chain: a field outside its range",
         5 => "a record is on no chain",
-        6 => "more than 32 blocks, or of one portfolio more than 5 in edition 1, 10 in edition 2",
+        6 => "more than 32 blocks, or of one portfolio more than 5 in edition 1, 10 in editions 2 and 3",
         7 => "the result buffer is not 196 + 4 x R bytes",
         8 => "the hour is outside 1 to 24, or 3 on a day of 23 hours, or the set names a block position not there",
         9 => "on a day of 23 hours: a step for hour 3, or a block with fewer than two other hours",
+        10 => "a link that names a block not in the book, or whose parent's number is not below the child's",
         _ => "not a refusal of documents 01 and 02",
     }
 }
 
-/// An order with the line it stands on.
+/// An order or a link with the line it stands on.
 struct Line<T> {
     line: usize,
-    /// The record the order gets.
+    /// The record that it gets.
     record: usize,
     order: T,
 }
 
 /// The edition of a text that names none, and the latest that it can name.
 const FIRST_EDITION: u32 = 1;
-const LAST_EDITION: u32 = 2;
+const LAST_EDITION: u32 = 3;
+
+/// The first edition with links.
+const LINKED_EDITION: u32 = 3;
 
 /// The hours of a day, where a text says nothing of them, and those that it can name.
 const USUAL_DAY: u32 = 24;
@@ -97,12 +104,13 @@ struct Lines {
     day: Option<u32>,
     steps: Vec<Line<StepOrder>>,
     blocks: Vec<Line<BlockOrder>>,
+    links: Vec<Line<LinkOrder>>,
 }
 
 impl Lines {
     /// Adds the line that begins with the word `kind`.
     fn add(&mut self, line: usize, kind: &str, words: &[&str]) -> Result<(), String> {
-        let record = self.orders() + 1;
+        let record = self.records() + 1;
         match kind {
             "edition" => return self.name_edition(words),
             "day" => return self.name_day(words),
@@ -118,9 +126,13 @@ impl Lines {
                 self.check_block(&order)?;
                 self.blocks.push(Line { line, record, order });
             }
+            "link" => {
+                let order = link_of(words, self.edition())?;
+                self.links.push(Line { line, record, order });
+            }
             other => {
                 return Err(format!(
-                    "`{other}` where an order begins; expected `step` or `block`, or `edition` or `day` in front of them"
+                    "`{other}` where an order begins; expected `step` or `block`, `link` in edition 3, or `edition` or `day` in front of them"
                 ))
             }
         }
@@ -130,9 +142,9 @@ impl Lines {
         Ok(())
     }
 
-    /// The orders so far.
-    fn orders(&self) -> usize {
-        self.steps.len() + self.blocks.len()
+    /// The orders and links so far.
+    fn records(&self) -> usize {
+        self.steps.len() + self.blocks.len() + self.links.len()
     }
 
     /// The line `edition` and its value, on which the ranges of the blocks depend.
@@ -167,7 +179,7 @@ impl Lines {
         if so_far.is_some() {
             return Err(format!("`{name}` stands twice; expected it once"));
         }
-        if self.orders() > 0 {
+        if self.records() > 0 {
             return Err(format!("`{name}` after an order; expected it in front of all orders"));
         }
         Ok(value)
@@ -217,14 +229,18 @@ impl Lines {
         check_blocks(&self.blocks, self.limits())?;
         sort_by_number(&mut self.steps, "step", |order| order.number)?;
         sort_by_number(&mut self.blocks, "block", |order| order.number)?;
+        check_links(&self.links, &self.blocks)?;
+        sort_by_number(&mut self.links, "child", |order| order.child)?;
         let step_records = self.steps.iter().map(|entry| entry.record);
         let block_records = self.blocks.iter().map(|entry| entry.record);
-        let records: Vec<usize> = step_records.chain(block_records).collect();
+        let link_records = self.links.iter().map(|entry| entry.record);
+        let records: Vec<usize> = step_records.chain(block_records).chain(link_records).collect();
         let orders = Orders {
             edition: self.edition(),
             day: self.day(),
             steps: self.steps.iter().map(|entry| entry.order).collect(),
             blocks: self.blocks.iter().map(|entry| entry.order).collect(),
+            links: self.links.iter().map(|entry| entry.order).collect(),
         };
         Ok(orders.book_at(&records))
     }
@@ -256,6 +272,19 @@ fn check_blocks(blocks: &[Line<BlockOrder>], limits: Limits) -> Result<(), TextE
     Ok(())
 }
 
+/// The blocks of refusal 10, with the link that names one that is not there.
+fn check_links(links: &[Line<LinkOrder>], blocks: &[Line<BlockOrder>]) -> Result<(), TextError> {
+    for entry in links {
+        for (word, number) in [("child", entry.order.child), ("parent", entry.order.parent)] {
+            if !blocks.iter().any(|block| block.order.number == number) {
+                let message = format!("`{word} {number}`; expected the number of a block");
+                return Err(TextError { line: entry.line, message });
+            }
+        }
+    }
+    Ok(())
+}
+
 /// Brings orders into chain order; a number may be there only once.
 fn sort_by_number<T>(
     orders: &mut [Line<T>],
@@ -268,7 +297,8 @@ fn sort_by_number<T>(
         if number(&pair[0].order) == number(&pair[1].order) {
             let (number, first) = (number(&pair[1].order), pair[0].line);
             let message = format!(
-                "{kind} number {number} is already on line {first}; expected each number once among the {kind}s"
+                "{kind} number {number} is already on line {first}; expected each number once among the {}",
+                if kind == "child" { "children".into() } else { format!("{kind}s") }
             );
             return Err(TextError { line: pair[1].line, message });
         }
@@ -278,6 +308,7 @@ fn sort_by_number<T>(
 
 const STEP_FIELDS: [&str; 5] = ["hour", "price", "quantity", "portfolio", "number"];
 const BLOCK_FIELDS: [&str; 5] = ["hours", "price", "quantity", "portfolio", "number"];
+const LINK_FIELDS: [&str; 2] = ["child", "parent"];
 
 fn step_of(words: &[&str], default_number: u32) -> Result<StepOrder, String> {
     let (side, rest) = side_of(words)?;
@@ -303,6 +334,20 @@ fn block_of(words: &[&str], default_number: u32, limits: Limits) -> Result<Block
         quantity: fields.whole("quantity", limits.block_quantity)?,
         portfolio: fields.whole("portfolio", 255)?,
     })
+}
+
+fn link_of(words: &[&str], edition: u32) -> Result<LinkOrder, String> {
+    if edition < LINKED_EDITION {
+        return Err(format!(
+            "`link` in edition {edition}; expected `edition 3` in front of all orders"
+        ));
+    }
+    let fields = Fields::new(words, &LINK_FIELDS)?;
+    let (child, parent) = (fields.whole("child", 65_535)?, fields.whole("parent", 65_535)?);
+    if parent >= child {
+        return Err(format!("`child {child} parent {parent}`; expected a parent below its child"));
+    }
+    Ok(LinkOrder { child, parent })
 }
 
 fn side_of<'a, 'b>(words: &'a [&'b str]) -> Result<(Side, &'a [&'b str]), String> {
@@ -414,7 +459,11 @@ fn wrong_hours(list: &str) -> String {
 /// Turns a book into its text, or gives the book's refusal.
 pub fn to_text(book: &[u8]) -> Result<String, u8> {
     let book = read(book)?;
-    let mut text = format!("# {} steps, {} blocks\n", book.steps.len(), book.blocks.len());
+    let mut text = format!("# {} steps, {} blocks", book.steps.len(), book.blocks.len());
+    if !book.links.is_empty() {
+        text += &format!(", {} links", book.links.len());
+    }
+    text += "\n";
     if book.edition != FIRST_EDITION {
         text += &format!("edition {}\n", book.edition);
     }
@@ -428,15 +477,13 @@ pub fn to_text(book: &[u8]) -> Result<String, u8> {
     Ok(text)
 }
 
-/// The line of the order that stands in a record.
+/// The line of the order or link that stands in a record.
 fn line_of(book: &Book, record: usize) -> String {
-    let step = book.steps.iter().find(|step| step.record == record);
-    let block = book.blocks.iter().find(|block| block.record == record);
-    match (step, block) {
-        (Some(step), _) => step_line(step),
-        (_, Some(block)) => block_line(block),
-        _ => unreachable!("every record of an accepted book is on a chain"),
-    }
+    let step = book.steps.iter().find(|step| step.record == record).map(step_line);
+    let block = || book.blocks.iter().find(|block| block.record == record).map(block_line);
+    let link = || book.links.iter().find(|link| link.record == record).map(link_line);
+    let line = step.or_else(block).or_else(link);
+    line.expect("every record of an accepted book is on a chain")
 }
 
 fn step_line(step: &Step) -> String {
@@ -450,6 +497,10 @@ fn block_line(block: &Block) -> String {
     let side = side_word(block.side);
     let hours = hours_text(&hours_in(block.hours));
     format!("block {side} hours {hours} price {price} quantity {quantity} portfolio {portfolio} number {number}")
+}
+
+fn link_line(link: &Link) -> String {
+    format!("link child {} parent {}", link.child, link.parent)
 }
 
 fn side_word(side: Side) -> &'static str {

@@ -1,355 +1,76 @@
-//! The program auction-print against this package's sheets: books on its
-//! standard input, in every manner that bytes arrive. Compiled with the feature
-//! `proved` only.
+//! The program auction-print against this package's sheets: books on its standard input, in
+//! every manner that bytes arrive. Compiled with the feature `proved` only.
 //!
-//! The program is `../target/bin/auction_print`, which `rt check auction_print`
-//! builds, or the one that the environment variable AUCTION_PRINT names. BOOKS
-//! raises the count of random books (at least 3000).
+//! The program is `../target/bin/auction_print`, which `./build` at the root of the repository
+//! makes, or the one that the environment variable AUCTION_PRINT names. BOOKS raises the count
+//! of random books (at least 3000).
 
+mod printing;
 mod sample_files;
 
-use auction_listing::books::{
-    count, reader_book_of, reader_book_on, small_book_of, small_book_on, small_orders,
-    thirty_two_blocks, Dice, Met, Orders, StepOrder, DAYS,
+use auction_listing::paper;
+use printing::Program;
+
+const AUCTION_PRINT: Program = Program {
+    name: "auction_print",
+    variable: "AUCTION_PRINT",
+    command: "auction-print",
+    ending: "sheet",
+    listing: paper::sheet,
+    of_result: paper::sheet_of,
 };
-use auction_listing::paper::{self, Side};
-use auction_listing::twin::by_value::{clearing, result::Clearing};
-use sample_files::{names, path, sample};
-use std::fs::File;
-use std::io::Write;
-use std::os::fd::OwnedFd;
-use std::os::unix::net::UnixDatagram;
-use std::path::{Path, PathBuf};
-use std::process::{Child, ChildStdin, Command, Stdio};
-use std::thread::sleep;
-use std::time::Duration;
-
-/// The most bytes and records that a book has.
-const FULL: usize = 32_768;
-const FULL_RECORDS: usize = 2_048;
-/// The first seed: other books than those the library is tried on.
-const FIRST_SEED: u64 = 1_000_000;
-
-fn repository() -> PathBuf {
-    Path::new(env!("CARGO_MANIFEST_DIR")).join("..")
-}
-
-fn program() -> PathBuf {
-    match std::env::var_os("AUCTION_PRINT") {
-        Some(named) => named.into(),
-        None => repository().join("target/bin/auction_print"),
-    }
-}
-
-fn start(program: &Path, input: Stdio) -> Child {
-    let mut command = Command::new(program);
-    command.stdin(input).stdout(Stdio::piped()).stderr(Stdio::piped());
-    command.spawn().unwrap_or_else(|error| {
-        panic!("{}: {error}; `rt check auction_print` builds it", program.display())
-    })
-}
-
-/// What the program writes until it ends, which it does without complaint.
-fn sheet_from(running: Child) -> Vec<u8> {
-    let output = running.wait_with_output().expect("the program ends");
-    let complaint = String::from_utf8_lossy(&output.stderr);
-    assert_eq!((output.status.code(), &*complaint), (Some(0), ""));
-    output.stdout
-}
-
-/// The sheet of what is written to the program's pipe, which is then closed.
-fn printed_from_pipe(write: impl FnOnce(&mut ChildStdin)) -> Vec<u8> {
-    let mut running = start(&program(), Stdio::piped());
-    write(&mut running.stdin.take().expect("piped"));
-    sheet_from(running)
-}
-
-fn printed(book: &[u8]) -> Vec<u8> {
-    printed_from_pipe(|pipe| {
-        // Of an input that is too long the program does not read the rest.
-        let written = pipe.write_all(book);
-        assert!(written.is_ok() || book.len() > FULL, "a book of {} bytes", book.len());
-    })
-}
-
-/// The sheet of a book that comes in two parts.
-fn printed_in_parts(book: &[u8], cut: usize) -> Vec<u8> {
-    printed_from_pipe(|pipe| {
-        pipe.write_all(&book[..cut]).expect("the program reads");
-        sleep(Duration::from_millis(20));
-        pipe.write_all(&book[cut..]).expect("the program reads on");
-    })
-}
-
-/// The sheet of a book in packets. A pipe may join what was written in parts; a
-/// read of a packet socket never gets more than one packet.
-fn printed_in_packets(book: &[u8], size: usize) -> Vec<u8> {
-    let (ours, theirs) = UnixDatagram::pair().expect("two sockets");
-    let running = start(&program(), OwnedFd::from(theirs).into());
-    for packet in book.chunks(size) {
-        ours.send(packet).expect("the program reads on");
-    }
-    // An empty packet is the end of the input.
-    ours.send(&[]).expect("the program reads on");
-    sheet_from(running)
-}
-
-/// The sheets as texts, which a failure shows better than bytes.
-fn assert_same(found: Vec<u8>, expected: &[u8], name: &str) {
-    let found = String::from_utf8_lossy(&found);
-    assert_eq!(found, String::from_utf8_lossy(expected), "{name}");
-}
-
-fn refused(number: u8) -> Vec<u8> {
-    format!("refused;{number}\n").into_bytes()
-}
 
 #[test]
 fn the_samples_are_printed() {
-    for name in names() {
-        let (book, expected) = (sample(&name, "book"), sample(&name, "sheet"));
-        assert_same(printed(&book), &expected, &name);
-        let file = File::open(path(&name, "book")).expect("the sample");
-        assert_same(sheet_from(start(&program(), file.into())), &expected, &name);
-    }
+    AUCTION_PRINT.prints_the_samples();
 }
 
-/// The books of the benchmark, whose sets of blocks are too many to list: against
-/// the sheet of the by-value twin's result.
 #[test]
 fn the_bench_books_are_printed() {
-    let folder = Path::new(env!("CARGO_MANIFEST_DIR")).join("bench-books");
-    let entries = std::fs::read_dir(folder).expect("the bench books");
-    let files = entries.map(|entry| entry.expect("an entry").path());
-    let books: Vec<PathBuf> =
-        files.filter(|file| file.extension().is_some_and(|e| e == "book")).collect();
-    assert_eq!(books.len(), 20);
-    for file in books {
-        let book = std::fs::read(&file).expect("a book");
-        let accepted = paper::read(&book).expect("accepted");
-        let mut result = vec![0; paper::result_length(accepted.record_count)];
-        assert!(matches!(clearing::clear(&book, &mut result), Clearing::Published));
-        let name = file.display().to_string();
-        assert_same(printed(&book), &paper::sheet_of(&accepted, &result), &name);
-    }
+    AUCTION_PRINT.prints_the_bench_books();
 }
 
-/// The command at the root of the repository, which builds the program where
-/// that is needed.
 #[test]
 fn the_command_prints_the_samples() {
-    let command = repository().join("auction-print");
-    for name in names() {
-        let file = File::open(path(&name, "book")).expect("the sample");
-        let printed = sheet_from(start(&command, file.into()));
-        assert_same(printed, &sample(&name, "sheet"), &name);
-    }
+    AUCTION_PRINT.the_command_prints_the_samples();
 }
 
-/// Half of them accepted books, half of them damaged in most cases, of both editions.
 #[test]
 fn random_books_are_printed() {
-    let wanted = count("BOOKS", 3_000);
-    let mut met = Met::default();
-    let mut seed = FIRST_SEED;
-    while met.all() < wanted {
-        let edition = 1 + (seed % 2) as u32;
-        let day = DAYS[seed as usize % DAYS.len()];
-        for (name, book) in [
-            (format!("small_book_of({edition}, {seed})"), small_book_of(edition, seed)),
-            (format!("reader_book_of({edition}, {seed})"), reader_book_of(edition, seed)),
-            (format!("small_book_on({day}, {edition}, {seed})"), small_book_on(day, edition, seed)),
-            (
-                format!("reader_book_on({day}, {edition}, {seed})"),
-                reader_book_on(day, edition, seed),
-            ),
-        ] {
-            let reading = paper::read(&book);
-            if reading.as_ref().is_ok_and(|accepted| accepted.blocks.len() > 10) {
-                continue; // the listing of all sets takes too long
-            }
-            assert_same(printed(&book), &paper::sheet(&book), &name);
-            met.add(reading.err().unwrap_or(0));
-        }
-        seed += 1;
-    }
-    met.has_each([0, 1, 2, 3, 4, 5, 6, 9], 1);
-}
-
-/// A head of so many records, and zeros up to a length.
-fn head_and_zeros(records: usize, length: usize) -> Vec<u8> {
-    let mut book = vec![0; length];
-    book[..2].copy_from_slice(&(records as u16).to_be_bytes());
-    book[6..8].copy_from_slice(&[24, 1]);
-    book
-}
-
-/// The book with 32 blocks, filled up to the most records by buys at 1 cent. No
-/// price of that day is below 3000, so they change nothing on its sheet.
-fn full_book() -> Vec<u8> {
-    let mut orders = thirty_two_blocks();
-    while orders.count() + 1 < FULL_RECORDS {
-        let hour = 1 + orders.count() as u32 % 24;
-        orders = orders.step(Side::Buy, hour, 1, 99_999, 1);
-    }
-    orders.book()
-}
-
-/// A random book of the most records, few of them blocks.
-fn full_random_book(seed: u64) -> Vec<u8> {
-    let mut dice = Dice::new(seed);
-    let mut orders = Orders { steps: Vec::new(), ..small_orders(&mut dice) };
-    orders.blocks.truncate(4);
-    while orders.count() + 1 < FULL_RECORDS {
-        orders.steps.push(StepOrder {
-            number: 1 + orders.steps.len() as u32,
-            side: dice.pick(&[Side::Buy, Side::Sell]),
-            hour: dice.between(1, 24),
-            price: dice.between(2_000, 6_000),
-            quantity: dice.between(1, 100),
-            portfolio: dice.between(1, 255),
-        });
-    }
-    orders.shuffled_book(&mut dice)
-}
-
-fn lengthened(book: &[u8], length: usize, filler: u8) -> Vec<u8> {
-    let mut longer = book.to_vec();
-    longer.resize(length, filler);
-    longer
-}
-
-/// An input's length, the input, and the answer that the paper gives.
-type Case = (usize, Vec<u8>, Vec<u8>);
-
-fn short_inputs() -> Vec<Case> {
-    let head = head_and_zeros(1, 16);
-    vec![
-        (0, Vec::new(), refused(1)),
-        (15, head[..15].to_vec(), refused(1)),
-        (15, vec![0; 15], refused(1)),
-        (16, head.clone(), sample("head-alone", "sheet")),
-        // R of 0, and an R that wants one record more.
-        (16, head_and_zeros(0, 16), refused(1)),
-        (16, head_and_zeros(2, 16), refused(1)),
-        (16, [&head[..15], &[1]].concat(), refused(2)),
-        (17, lengthened(&head, 17, 0), refused(1)),
-    ]
-}
-
-fn full_inputs() -> Vec<Case> {
-    let full = full_book();
-    let random = full_random_book(FIRST_SEED);
-    assert!(paper::read(&random).is_ok());
-    let sheet = paper::sheet(&random);
-    vec![
-        (FULL - 1, full[..FULL - 1].to_vec(), refused(1)),
-        (FULL, full, sample("thirty-two-blocks", "sheet")),
-        (FULL, random, sheet),
-        (FULL, vec![0; FULL], refused(1)),
-        (FULL, head_and_zeros(FULL_RECORDS - 1, FULL), refused(1)),
-        // Its records 1 to 2,047 are on no chain.
-        (FULL, head_and_zeros(FULL_RECORDS, FULL), refused(5)),
-        (FULL, sample("S5", "book").repeat(342)[..FULL].to_vec(), refused(1)),
-    ]
-}
-
-/// Whatever they hold, refusal 1: also where their start is a book by itself, and
-/// where R is the count of records, cut to its two bytes.
-fn long_inputs() -> Vec<Case> {
-    let mut inputs = Vec::new();
-    for length in [FULL + 1, FULL + 16, 65_536, 65_537, 100_000, 16 * 65_537] {
-        inputs.push(lengthened(&full_book(), length, 0));
-        inputs.push(lengthened(&full_book(), length, 255));
-        inputs.push(lengthened(&sample("S5", "book"), length, 0));
-        inputs.push(head_and_zeros(length / 16, length));
-        inputs.push(vec![0; length]);
-    }
-    inputs.into_iter().map(|input| (input.len(), input, refused(1))).collect()
+    AUCTION_PRINT.prints_random_books();
 }
 
 #[test]
 fn each_length_has_its_answer() {
-    for inputs in [short_inputs(), full_inputs(), long_inputs()] {
-        for (index, (length, input, expected)) in inputs.into_iter().enumerate() {
-            assert_eq!(input.len(), length);
-            assert_same(printed(&input), &expected, &format!("input {index} of {length} bytes"));
-        }
-    }
+    AUCTION_PRINT.each_length_has_its_answer();
 }
 
-/// From a file there is no writer that could feel a program's early end.
 #[test]
 fn a_long_file_is_refused() {
-    let name = Path::new(env!("CARGO_TARGET_TMPDIR")).join("long.book");
-    for length in [FULL + 1, 100_000] {
-        std::fs::write(&name, lengthened(&full_book(), length, 0)).expect("a file");
-        let file = File::open(&name).expect("the file");
-        assert_same(sheet_from(start(&program(), file.into())), &refused(1), "a long file");
-    }
+    AUCTION_PRINT.refuses_a_long_file();
 }
 
 #[test]
 fn single_bytes_give_the_same_sheet() {
-    for name in ["S5", "S6", "refused-1", "refused-3"] {
-        let (book, expected) = (sample(name, "book"), sample(name, "sheet"));
-        let printed = printed_from_pipe(|pipe| {
-            for byte in &book {
-                pipe.write_all(&[*byte]).expect("the program reads on");
-                pipe.flush().expect("the program reads on");
-                // So that the program has read it before the next one comes.
-                sleep(Duration::from_millis(1));
-            }
-        });
-        assert_same(printed, &expected, name);
-    }
+    AUCTION_PRINT.prints_from_single_bytes();
 }
 
 #[test]
 fn two_parts_give_the_same_sheet() {
-    let (book, expected) = (sample("S5", "book"), sample("S5", "sheet"));
-    for cut in [0, 1, 15, 16, 17, 48, 80, book.len() - 1, book.len()] {
-        assert_same(printed_in_parts(&book, cut), &expected, &format!("S5 cut at {cut}"));
-    }
-    let full = full_book();
-    let expected = sample("thirty-two-blocks", "sheet");
-    for cut in [1, 4_096, FULL / 2, FULL - 1] {
-        let name = format!("a full book cut at {cut}");
-        assert_same(printed_in_parts(&full, cut), &expected, &name);
-    }
+    AUCTION_PRINT.prints_from_two_parts();
 }
 
 #[test]
 fn short_reads_give_the_same_sheet() {
-    for name in names() {
-        for size in [1, 3, 16] {
-            let printed = printed_in_packets(&sample(&name, "book"), size);
-            assert_same(printed, &sample(&name, "sheet"), &format!("{name} in packets of {size}"));
-        }
-    }
-    for size in [1, 100, 4_095, 4_096] {
-        let printed = printed_in_packets(&full_book(), size);
-        let name = format!("a full book in packets of {size}");
-        assert_same(printed, &sample("thirty-two-blocks", "sheet"), &name);
-    }
+    AUCTION_PRINT.prints_from_short_reads();
 }
 
 #[test]
 fn no_input_is_refusal_1() {
-    assert_same(printed_from_pipe(|_| ()), &refused(1), "closed at once");
-    let late = printed_from_pipe(|_| sleep(Duration::from_millis(50)));
-    assert_same(late, &refused(1), "closed later");
-    assert_same(sheet_from(start(&program(), Stdio::null())), &refused(1), "an empty file");
+    AUCTION_PRINT.refuses_no_input();
 }
 
-/// Reads that fail at once count as no input.
 #[test]
 fn an_input_that_cannot_be_read_is_refusal_1() {
-    let directory = File::open(repository()).expect("a directory");
-    assert_same(sheet_from(start(&program(), directory.into())), &refused(1), "a directory");
-    let mut shell = Command::new("sh");
-    shell.args(["-c", "exec \"$0\" <&-"]).arg(program());
-    let output = shell.output().expect("a shell");
-    assert_eq!(output.status.code(), Some(0));
-    assert_same(output.stdout, &refused(1), "no standard input at all");
+    AUCTION_PRINT.refuses_an_input_that_cannot_be_read();
 }

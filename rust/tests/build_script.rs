@@ -1,4 +1,4 @@
-//! The script `build` by itself, in a folder with three crates and a toolchain that only
+//! The script `build` by itself, in a folder with a few crates and a toolchain that only
 //! writes down what it is asked: what it tells, when it is silent, how it fails, and two
 //! builds at once.
 
@@ -8,7 +8,7 @@ use std::path::{Path, PathBuf};
 use std::process::{Child, Command, Output, Stdio};
 
 /// Proves at once, but for the crate that a file `broken` names, and never twice at the
-/// same time. The program prints one line; the library has one call.
+/// same time. Each program prints one line; the library has one call.
 const RT: &str = r#"#!/bin/sh
 [ "$1" != version ] || { echo kit; exit 0; }
 mkdir busy || { echo "two at once" >>spoilt; exit 1; }
@@ -25,12 +25,21 @@ fi
 if [ -f "target/stamp/$2" ]; then echo "rt: $2 proved (unchanged since it was last proved)"; exit; fi
 sleep 0.1
 touch "target/stamp/$2"
-[ "$2" != auction_print ] || { printf '#!/bin/sh\necho sheet\n' >target/bin/auction_print; chmod +x target/bin/auction_print; }
+program() { printf '#!/bin/sh\necho %s\n' "$2" >"target/bin/$1"; chmod +x "target/bin/$1"; }
+case $2 in
+auction_print) program auction_print sheet ;;
+family_print) program family_print report ;;
+esac
 echo "rt: $2 proved (0 s)"
 "#;
 
-const CRATES: &str =
-    "# crates\nauction_print: middle low io\nexports: middle low\nmiddle: low\nlow:\n";
+const CRATES: &str = "# crates
+auction_print: middle low io
+family_print: middle low io
+exports: middle low
+middle: low
+low:
+";
 
 /// A folder of its own with the script, the crates and the toolchain.
 fn folder(name: &str) -> PathBuf {
@@ -38,7 +47,7 @@ fn folder(name: &str) -> PathBuf {
     let _ = fs::remove_dir_all(&folder);
     fs::create_dir_all(folder.join("bin")).expect("a folder");
     fs::create_dir_all(folder.join("crates/low/must-fail")).expect("a folder");
-    for script in ["build", "auction-print"] {
+    for script in ["build", "auction-print", "family-print"] {
         let source = Path::new(env!("CARGO_MANIFEST_DIR")).join("..").join(script);
         fs::copy(source, folder.join(script)).expect(script);
     }
@@ -90,6 +99,10 @@ fn each_crate_is_told_and_then_nothing() {
     let library = ["1 of 3: low, at hand", "2 of 3: middle, at hand", "3 of 3: exports, proved"];
     assert_eq!(told(&folder, &["build", "library"]), library);
     assert_eq!(run(&folder, &["build", "library", "program"]), SILENT);
+    let families =
+        ["1 of 3: low, at hand", "2 of 3: middle, at hand", "3 of 3: family_print, proved"];
+    assert_eq!(told(&folder, &["build", "families"]), families);
+    assert_eq!(run(&folder, &["build", "library", "families", "program"]), SILENT);
     let files = ["libauction.a", "libauction.so"].map(|name| folder.join("target/lib").join(name));
     assert!(files.iter().all(|file| file.is_file()));
     let left = fs::read_dir(folder.join("target")).expect("target").filter_map(Result::ok);
@@ -114,6 +127,13 @@ fn what_changed_is_built_again() {
     write(&folder, "target/bin/auction_print", "#!/bin/sh\necho another\n");
     assert_eq!(told(&folder, &both).last().unwrap(), "3 of 3: auction_print, proved");
     assert_eq!(run(&folder, &both), SILENT);
+    // Each program by itself.
+    assert_eq!(told(&folder, &["build", "families"]).len(), 3);
+    write(&folder, "target/bin/family_print", "#!/bin/sh\necho another\n");
+    assert_eq!(run(&folder, &both), SILENT);
+    let families = told(&folder, &["build", "families"]);
+    assert_eq!(families.last().unwrap(), "3 of 3: family_print, proved");
+    assert_eq!(run(&folder, &["family-print"]), (Some(0), "report\n".into(), String::new()));
 }
 
 #[test]
@@ -129,13 +149,25 @@ fn a_failure_is_told_in_the_words_of_the_toolchain() {
     assert_eq!(run(&folder, &["auction-print"]), (Some(0), "sheet\n".into(), String::new()));
 }
 
+/// A crate that is not listed is not built in silence.
+#[test]
+fn a_crate_that_is_not_listed() {
+    let folder = folder("unlisted");
+    write(&folder, "crates.txt", &CRATES.replace("family_print", "another"));
+    for _ in 0..2 {
+        let (code, out, told) = run(&folder, &["family-print"]);
+        assert_eq!((code, &*out), (Some(1), ""));
+        assert!(told.contains("no target/bin/family_print came of it"), "{told}");
+    }
+}
+
 #[test]
 fn wrong_words_and_a_missing_toolchain() {
     let folder = folder("words");
     assert_eq!(run(&folder, &["build", "everything"]).0, Some(2));
     let (code, _, told) = run(&folder, &["build"]);
     assert_eq!(code, Some(2));
-    assert!(told.starts_with("./build program|library.."), "{told}");
+    assert!(told.starts_with("./build program|families|library.."), "{told}");
     let mut command = Command::new("/bin/sh");
     fs::remove_file(folder.join("bin/rt")).expect("it was there");
     for tool in ["awk", "cat", "cut", "dirname", "find", "sha256sum", "sort", "uname"] {
@@ -150,19 +182,24 @@ fn wrong_words_and_a_missing_toolchain() {
     assert_eq!(output.status.code(), Some(1));
 }
 
-/// Six at once: each crate is proved once, and each build succeeds.
+/// Eight at once: each crate is proved once, and each build succeeds.
 #[test]
 fn builds_at_once_do_not_spoil_each_other() {
     let folder = folder("at-once");
-    let words: [&[&str]; 3] = [&["build", "library"], &["auction-print"], &["build", "program"]];
-    let running: Vec<Child> = (0..6).map(|index| started(&folder, words[index % 3])).collect();
+    let words: [(&[&str], &str); 4] = [
+        (&["build", "library"], ""),
+        (&["auction-print"], "sheet\n"),
+        (&["build", "program"], ""),
+        (&["family-print"], "report\n"),
+    ];
+    let running: Vec<Child> = (0..8).map(|index| started(&folder, words[index % 4].0)).collect();
     for (index, child) in running.into_iter().enumerate() {
         let (code, out, told) = ended(child);
-        let sheet = if index % 3 == 1 { "sheet\n" } else { "" };
-        assert_eq!((code, &*out), (Some(0), sheet), "{told}");
+        assert_eq!((code, &*out), (Some(0), words[index % 4].1), "{told}");
     }
     assert!(!folder.join("spoilt").exists(), "two toolchains at once");
     let asked = fs::read_to_string(folder.join("asked")).expect("what was asked");
     assert_eq!(asked.matches("staticlib exports\n").count(), 1, "{asked}");
     assert_eq!(asked.matches("check auction_print\n").count(), 1, "{asked}");
+    assert_eq!(asked.matches("check family_print\n").count(), 1, "{asked}");
 }

@@ -47,8 +47,8 @@ fn the_c_example_prints_the_sheets() {
         assert_eq!(output.status.code(), Some(name.starts_with("refused").into()), "{name}");
     }
     let told = String::from_utf8(cleared(&program, &path("S5", "book")).stderr).unwrap();
-    let expected = "hour 1: price 3000, traded 100\nhour 1 without blocks: price 4000\n";
-    assert_eq!(told, expected);
+    let hours = "hour 1: price 3000, traded 100\nhour 1 without blocks: price 4000\n";
+    assert_eq!(told, format!("{hours}block;gain\n1;10000\n"));
     what_is_no_book(&program);
     no_standard_output(&program);
 }

@@ -3,9 +3,9 @@
 
 use auction_listing::books::{
     block_beside_the_day, book_with_causes_on, count, day_edges, day_of_23_hours, day_of_25_hours,
-    every_byte_changed, hour_bits, hours_in, reader_book_on, small_book_on, small_orders_on,
-    step_beside_the_day, tiny_book_on, Dice, Met, Orders, StepOrder, DAYS, DAYS_AND_EDITIONS,
-    OWN_CAUSES,
+    every_byte_changed, hour_bits, hours_in, own_causes, reader_book_on, small_book_on,
+    small_orders_on, step_beside_the_day, tiny_book_on, Dice, Met, Orders, StepOrder, DAYS,
+    DAYS_AND_EDITIONS, OWN_CAUSES,
 };
 use auction_listing::paper::Side::{Buy, Sell};
 use auction_listing::paper::{
@@ -41,7 +41,7 @@ fn block_over(hours: &[u32]) -> Orders {
 #[test]
 fn head_byte_6() {
     let orders = block_over(&[4, 5]).step(Buy, 1, 5_000, 100, 1);
-    for edition in [1, 2] {
+    for edition in [1, 2, 3] {
         for day in 0..=255 {
             let expected = if DAYS.contains(&day) { 0 } else { 2 };
             for orders in [Orders::new(), orders.clone()] {
@@ -55,7 +55,7 @@ fn head_byte_6() {
         }
     }
     // An edition that is not there is refused whatever the day.
-    for (day, edition) in [(23, 0), (25, 3), (23, 255), (26, 3)] {
+    for (day, edition) in [(23, 0), (25, 4), (23, 255), (26, 4)] {
         assert_eq!(refusal_on(day, &orders.clone().of_edition(edition)), 2);
     }
 }
@@ -133,7 +133,8 @@ fn nine_among_the_others() {
             refusal(&changed.book())
         };
         assert_eq!(with(&|orders| orders.day = 22), 2);
-        assert_eq!(with(&|orders| orders.edition = 3), 2);
+        assert_eq!(with(&|orders| orders.edition = 4), 2);
+        assert_eq!(with(&|orders| orders.edition = 3), 9);
         assert_eq!(with(&|orders| orders.steps[1].number = 1), 3);
         assert_eq!(with(&|orders| orders.steps[0].price = 0), 4);
         let crowded =
@@ -154,7 +155,7 @@ fn the_first_cause_is_given() {
     let mut dice = Dice::new(1);
     let place = |cause| OWN_CAUSES.iter().position(|&other| other == cause);
     for (day, edition) in DAYS_AND_EDITIONS {
-        let causes = if day == 23 { &OWN_CAUSES[..] } else { &OWN_CAUSES[..6] };
+        let causes = own_causes(day, edition);
         for (&one, &other) in causes.iter().flat_map(|one| causes.iter().map(move |it| (one, it))) {
             let expected = if place(one) <= place(other) { one } else { other };
             for _ in 0..60 {
@@ -338,7 +339,7 @@ fn unfolded(orders: &Orders) -> Option<(u32, Orders, Vec<usize>)> {
 fn days_unfolded_to_24_hours() {
     let mut compared = 0;
     for seed in 0..count("BOOKS", 600) {
-        for (day, edition) in [(23, 1), (25, 1), (23, 2), (25, 2)] {
+        for (day, edition) in [(23, 1), (25, 1), (23, 2), (25, 2), (23, 3), (25, 3)] {
             let orders = small_orders_on(day, edition, &mut Dice::new(seed));
             let Some((spare, other, places)) = unfolded(&orders) else { continue };
             let name = format!("small_orders_on({day}, {edition}, Dice::new({seed}))");
@@ -358,7 +359,7 @@ fn days_unfolded_to_24_hours() {
         }
     }
     println!("{compared} days unfolded");
-    assert!(compared > 1_800);
+    assert!(compared > 2_700);
 }
 
 #[test]
@@ -379,8 +380,7 @@ fn every_refusal_is_met() {
     for (day, edition) in DAYS_AND_EDITIONS {
         let met: Met =
             (0..5_000).map(|seed| refusal(&reader_book_on(day, edition, seed))).collect();
-        let causes = if day == 23 { &OWN_CAUSES[..] } else { &OWN_CAUSES[..6] };
-        met.has_each([&[0], causes].concat(), 100);
+        met.has_each([vec![0], own_causes(day, edition)].concat(), 100);
     }
     let met: Met = day_edges().iter().map(|book| refusal(book)).collect();
     met.has_each([0, 2, 4, 9], 100);

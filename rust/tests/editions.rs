@@ -1,6 +1,6 @@
-//! Document 02, P1: the limits of editions 1 and 2, written down from the paper. What is
-//! said here of refusals is the listing's own; `proved_editions` holds the proved calls
-//! to the listing.
+//! Document 02, P1: the limits of editions 1 and 2, written down from the paper, and those of
+//! edition 3, which has all of edition 2. What is said here of refusals is the listing's
+//! own; `proved_editions` holds the proved calls to the listing.
 
 use auction_listing::books::{
     book_with_causes_of, edition_2_day, edition_edges, every_byte_changed, reader_book_of,
@@ -55,18 +55,20 @@ fn quantities_of_a_block() {
         let orders = blocks(quantity, &[1]);
         assert_eq!(refusal_in(1, &orders), in_edition_1, "{quantity} in edition 1");
         assert_eq!(refusal_in(2, &orders), in_edition_2, "{quantity} in edition 2");
+        assert_eq!(refusal_in(3, &orders), in_edition_2, "{quantity} in edition 3");
         // The last of several blocks as well as the first.
         let mut last = blocks(7, &[4]);
         last.blocks[3].quantity = quantity;
         assert_eq!(refusal_in(1, &last), in_edition_1, "{quantity} last in edition 1");
         assert_eq!(refusal_in(2, &last), in_edition_2, "{quantity} last in edition 2");
+        assert_eq!(refusal_in(3, &last), in_edition_2, "{quantity} last in edition 3");
     }
 }
 
 /// A step's quantity has its range in every edition.
 #[test]
 fn quantities_of_a_step() {
-    for edition in [1, 2] {
+    for edition in [1, 2, 3] {
         for (quantity, expected) in [(1, 0), (251, 0), (99_999, 0), (100_000, 4), (0, 4)] {
             let orders = Orders::new().step(Buy, 1, 5_000, quantity, 1);
             assert_eq!(refusal_in(edition, &orders), expected, "{quantity} in edition {edition}");
@@ -84,6 +86,7 @@ fn blocks_of_a_portfolio() {
             let orders = blocks(50, &portfolios);
             assert_eq!(refusal_in(1, &orders), in_edition_1, "{portfolios:?} in edition 1");
             assert_eq!(refusal_in(2, &orders), in_edition_2, "{portfolios:?} in edition 2");
+            assert_eq!(refusal_in(3, &orders), in_edition_2, "{portfolios:?} in edition 3");
         }
     }
     // A portfolio's steps are not counted with them.
@@ -99,23 +102,25 @@ fn blocks_of_a_portfolio() {
 fn blocks_in_all() {
     let fives = [5, 5, 5, 5, 5, 5, 2];
     let tens = [10, 10, 10, 2];
-    for edition in [1, 2] {
+    for edition in [1, 2, 3] {
         assert_eq!(refusal_in(edition, &blocks(50, &fives)), 0, "32 in edition {edition}");
         let more = [&fives[..], &[1]].concat();
         assert_eq!(refusal_in(edition, &blocks(50, &more)), 6, "33 in edition {edition}");
     }
-    assert_eq!(refusal_in(2, &blocks(250, &tens)), 0);
-    assert_eq!(refusal_in(2, &blocks(250, &[10, 10, 10, 3])), 6);
-    assert_eq!(refusal_in(2, &blocks(250, &[11, 10, 10])), 6);
+    for edition in [2, 3] {
+        assert_eq!(refusal_in(edition, &blocks(250, &tens)), 0);
+        assert_eq!(refusal_in(edition, &blocks(250, &[10, 10, 10, 3])), 6);
+        assert_eq!(refusal_in(edition, &blocks(250, &[11, 10, 10])), 6);
+    }
     assert_eq!(refusal_in(1, &blocks(50, &tens)), 6);
 }
 
-/// Of all bytes only 1 and 2 are an edition.
+/// Of all bytes only 1, 2 and 3 are an edition.
 #[test]
 fn edition_bytes() {
     let orders = blocks(50, &[5]).step(Buy, 1, 100, 10, 1);
     for edition in 0..=255 {
-        let expected = if edition == 1 || edition == 2 { 0 } else { 2 };
+        let expected = if (1..=3).contains(&edition) { 0 } else { 2 };
         assert_eq!(refusal_in(edition, &orders), expected, "edition {edition}");
         assert_eq!(refusal_in(edition, &Orders::new()), expected, "the head alone");
     }
@@ -134,8 +139,8 @@ fn two_causes_at_once() {
         // (edition, quantity, of one portfolio, refusal)
         (0, 251, 1, 2),
         (0, 50, 11, 2),
-        (3, 251, 11, 2),
-        (3, 50, 5, 2),
+        (4, 251, 11, 2),
+        (4, 50, 5, 2),
         (255, 251, 11, 2),
         (1, 51, 6, 4),
         (1, 250, 10, 4),
@@ -146,6 +151,11 @@ fn two_causes_at_once() {
         (2, 251, 10, 4),
         (2, 251, 11, 4),
         (2, 50, 33, 6),
+        (3, 51, 6, 0),
+        (3, 250, 10, 0),
+        (3, 250, 11, 6),
+        (3, 251, 10, 4),
+        (3, 251, 11, 4),
     ];
     for (edition, quantity, count, expected) in cases {
         let orders = blocks(quantity, &[count]);
@@ -173,7 +183,7 @@ fn every_boundary_with_every_other() {
     let expected = |edition: u32, quantity: u32, of_one: usize, in_all: usize| {
         let (most_quantity, most_of_one) = match edition {
             1 => (50, 5),
-            2 => (250, 10),
+            2 | 3 => (250, 10),
             _ => return 2,
         };
         if quantity < 1 || quantity > most_quantity {

@@ -4,7 +4,7 @@
 //! Compiled with the feature `proved` only.
 //!
 //! The environment variable BOOKS raises the count of generated books (at least
-//! 552, and those of [`CHOSEN`]).
+//! 736, and those of [`CHOSEN`]).
 
 mod answers;
 mod large_stack;
@@ -70,6 +70,8 @@ fn agreed(name: &str, book: &[u8]) -> (Book, Published, u32) {
     let outcome = paper::outcome(&accepted, set).expect("a lawful set");
     assert!(paper::result_bytes(&accepted, &outcome) == result, "{name}: not its set's result");
     assert_eq!(auction::sheet(book).as_bytes(), paper::sheet_of(&accepted, &result), "{name}");
+    let report = paper::families_of(&accepted, &result);
+    assert_eq!(auction::family_report(book).as_bytes(), report, "{name}");
     for hour in 1..=24 {
         let answer = hour_answer(auction::price(book, set, hour));
         if !accepted.hours.contains(&hour) {

@@ -1,4 +1,4 @@
-//! The implementation against itself, in slower words, on random books of both
+//! The implementation against itself, in slower words, on random books of all
 //! editions and of days of 23, 24 and 25 hours: prices by scan, "does not clear" by its
 //! rule, demand 2 by its properties, and demand 3 by the list of all contenders.
 //!
@@ -31,6 +31,12 @@ fn candidates_agree_with_the_scan() {
 #[test]
 fn candidates_agree_with_the_scan_in_edition_2() {
     compare_with_the_scan(|seed| of_edition(2, seed));
+}
+
+/// Pricing takes any set, whether it holds its blocks' parents or not.
+#[test]
+fn candidates_agree_with_the_scan_in_edition_3() {
+    compare_with_the_scan(|seed| of_edition(3, seed));
 }
 
 #[test]
@@ -88,15 +94,15 @@ fn compare_with_the_scan(case: fn(u64) -> Case) {
 }
 
 /// A number of seeds for each of the editions.
-fn of_both_editions(seeds: u64) -> impl Iterator<Item = (u32, u64)> {
-    [1, 2].into_iter().flat_map(move |edition| (0..seeds).map(move |seed| (edition, seed)))
+fn of_all_editions(seeds: u64) -> impl Iterator<Item = (u32, u64)> {
+    [1, 2, 3].into_iter().flat_map(move |edition| (0..seeds).map(move |seed| (edition, seed)))
 }
 
 /// Every price from L to H clears and executes the same quantities, so the
 /// middle price does too.
 #[test]
 fn all_prices_between_the_ends_execute_the_same() {
-    for (edition, seed) in of_both_editions(count("BOOKS", 2_000)) {
+    for (edition, seed) in of_all_editions(count("BOOKS", 2_000)) {
         let (book, set, hour) = pricing_case_of(edition, seed);
         let name = format!("pricing_case_of({edition}, {seed})");
         let HourAnswer::Cleared { low, high, price } = price_hour(&book, set, hour) else {
@@ -118,7 +124,7 @@ fn all_prices_between_the_ends_execute_the_same() {
 /// in rising number, every hour in balance, no block outside its limit.
 #[test]
 fn results_obey_the_outcome_properties() {
-    for (edition, seed) in of_both_editions(count("BOOKS", 1_000)) {
+    for (edition, seed) in of_all_editions(count("BOOKS", 1_000)) {
         let name = format!("small_book_of({edition}, {seed})");
         check_outcome(&small_book_of(edition, seed), &name);
     }
@@ -202,6 +208,13 @@ fn clearing_agrees_with_all_contenders_in_edition_2() {
     });
 }
 
+#[test]
+fn clearing_agrees_with_all_contenders_in_edition_3() {
+    compare_with_contenders(count("BOOKS", 400), |seed| {
+        (format!("tiny_book_of(3, {seed})"), tiny_book_of(3, seed))
+    });
+}
+
 /// Contenders, too, need no balance in an hour that counts nowhere.
 #[test]
 fn clearing_agrees_with_all_contenders_on_all_days() {
@@ -277,6 +290,19 @@ fn small_books_of_edition_2_are_varied() {
     assert!(met.more_than_50_taken >= 200);
     assert!(met.more_than_50_left_out >= 200);
     assert!(met.full_quantity_taken >= 50);
+}
+
+/// And those of edition 3; `links` has what is said of their links.
+#[test]
+fn small_books_of_edition_3_are_varied() {
+    let mut met = Variety::default();
+    for seed in 0..count("BOOKS", 1_500) {
+        met.look_at(&small_book_of(3, seed));
+    }
+    println!("{met:?}");
+    met.is_enough();
+    assert!(met.ten_of_a_portfolio >= 100);
+    assert!(met.more_than_50_taken >= 200);
 }
 
 #[derive(Debug, Default)]

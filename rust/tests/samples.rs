@@ -1,14 +1,16 @@
-//! The samples: each text gives its book, each book its sheet, and the program
-//! `book_text` does both.
+//! The samples: each text gives its book, each book its sheet and its family report, and
+//! the program `book_text` turns text and book into each other.
 
 mod sample_files;
 
 use auction_listing::books::{
     block_beside_the_day, day_of_23_hours, day_of_25_hours, edition_2_day, head_alone,
-    opposite_blocks, step_beside_the_day, thirty_two_blocks, worked_days, Orders,
-    THIRTY_TWO_BLOCKS_TAKEN,
+    link_upwards, link_without_parent, linked_days, opposite_blocks, step_beside_the_day,
+    thirty_two_blocks, worked_days, Orders, CHAIN_OF_32_TAKEN, THIRTY_TWO_BLOCKS_TAKEN,
 };
-use auction_listing::paper::{outcome, read, result_bytes, sheet, sheet_of};
+use auction_listing::paper::{
+    clear, families, families_of, outcome, read, result_bytes, result_length, sheet, sheet_of,
+};
 use auction_listing::text::{to_book, to_text};
 use sample_files::{names, sample};
 use std::io::Write;
@@ -22,11 +24,12 @@ fn accepted_samples() -> Vec<(&'static str, Orders)> {
     samples.push(("edition-2", edition_2_day()));
     samples.push(("day-25", day_of_25_hours()));
     samples.push(("day-23", day_of_23_hours()));
+    samples.extend(linked_days());
     samples
 }
 
 /// Each with its refusal.
-const REFUSED_SAMPLES: [(&str, u8); 10] = [
+const REFUSED_SAMPLES: [(&str, u8); 13] = [
     ("refused-1", 1),
     ("refused-2", 2),
     ("refused-3", 3),
@@ -37,6 +40,9 @@ const REFUSED_SAMPLES: [(&str, u8); 10] = [
     ("refused-6-edition-2", 6),
     ("refused-9-step", 9),
     ("refused-9-block", 9),
+    ("refused-2-edition-3", 2),
+    ("refused-10", 10),
+    ("refused-10-order", 10),
 ];
 
 #[test]
@@ -50,20 +56,33 @@ fn texts_give_the_books() {
     }
 }
 
+/// The result of a sample. 2^32 sets are too many to list: those of 32 blocks are known by
+/// reasons.
+fn result_of(name: &str, book: &[u8]) -> Vec<u8> {
+    let of_set = |set: u32| {
+        let book = read(book).unwrap();
+        result_bytes(&book, &outcome(&book, set).unwrap())
+    };
+    match name {
+        "thirty-two-blocks" => {
+            of_set(THIRTY_TWO_BLOCKS_TAKEN.iter().map(|number| 1 << (number - 1)).sum())
+        }
+        "linked-chain" => of_set((1 << CHAIN_OF_32_TAKEN) - 1),
+        _ => clear(book, result_length(book.len() / 16)).unwrap(),
+    }
+}
+
 #[test]
-fn books_give_the_sheets() {
+fn books_give_the_sheets_and_the_family_reports() {
     for (name, _) in accepted_samples() {
         let book = sample(name, "book");
-        // 2^32 sets are too many to list: its set is known by reasons.
-        let published = if name == "thirty-two-blocks" {
-            let book = read(&book).unwrap();
-            let set = THIRTY_TWO_BLOCKS_TAKEN.iter().map(|number| 1 << (number - 1)).sum();
-            sheet_of(&book, &result_bytes(&book, &outcome(&book, set).unwrap()))
-        } else {
-            sheet(&book)
-        };
-        let (published, expected) = (String::from_utf8(published), sample(name, "sheet"));
-        assert_eq!(published, String::from_utf8(expected), "{name}");
+        let (accepted, result) = (read(&book).unwrap(), result_of(name, &book));
+        for (ending, written) in
+            [("sheet", sheet_of(&accepted, &result)), ("families", families_of(&accepted, &result))]
+        {
+            let (written, expected) = (String::from_utf8(written), sample(name, ending));
+            assert_eq!(written, String::from_utf8(expected), "{name}.{ending}");
+        }
     }
 }
 
@@ -73,6 +92,7 @@ fn refused_samples() {
         let book = sample(name, "book");
         assert_eq!(read(&book).err(), Some(refusal), "{name}");
         assert_eq!(sheet(&book), sample(name, "sheet"), "{name}");
+        assert_eq!(families(&book), sample(name, "families"), "{name}");
         let told = book_text("to-text", &book);
         assert_eq!((told.status.code(), told.stdout.len()), (Some(1), 0));
         let message = String::from_utf8(told.stderr).unwrap();
@@ -102,6 +122,30 @@ fn refused_samples_of_a_day() {
         let mut book = sample(name, "book");
         assert_eq!((orders.book(), book[6]), (book.clone(), 23), "{name}");
         book[6] = 24;
+        assert!(read(&book).is_ok(), "{name}");
+    }
+}
+
+/// Those of edition 3: a byte of the head behind the links, a parent that is not there, and
+/// one that is not below its child. With these bytes right they are accepted.
+#[test]
+fn refused_samples_of_edition_3() {
+    let books = [("refused-10", link_without_parent()), ("refused-10-order", link_upwards())];
+    for (name, orders) in books {
+        assert_eq!(orders.book(), sample(name, "book"), "{name}");
+    }
+    let (child, parent) = (16 * 7 + 5, 16 * 7 + 7);
+    // (byte, its value, the right one)
+    for (name, changes) in [
+        ("refused-2-edition-3", &[(10, 1, 0)][..]),
+        ("refused-10", &[(parent, 2, 1)]),
+        ("refused-10-order", &[(child, 1, 2), (parent, 2, 1)]),
+    ] {
+        let mut book = sample(name, "book");
+        for &(at, wrong, right) in changes {
+            assert_eq!((book[7], book[at]), (3, wrong), "{name}");
+            book[at] = right;
+        }
         assert!(read(&book).is_ok(), "{name}");
     }
 }

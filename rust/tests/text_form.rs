@@ -49,13 +49,13 @@ fn numbers_and_records() {
 
 #[test]
 fn every_accepted_book_comes_back_to_the_byte() {
-    for (edition, seed) in (0..2_000).flat_map(|seed| [(1, seed), (2, seed)]) {
+    for (edition, seed) in (0..2_000).flat_map(|seed| [1, 2, 3].map(|edition| (edition, seed))) {
         let book = small_book_of(edition, seed);
         let text = to_text(&book).unwrap();
         assert_eq!(to_book(&text).unwrap(), book, "small_book_of({edition}, {seed})\n{text}");
         assert_eq!(to_text(&to_book(&text).unwrap()).unwrap(), text);
         // A text of edition 1 is what it was before there was another.
-        assert_eq!(text.contains("edition"), edition == 2, "{text}");
+        assert_eq!(text.contains("edition"), edition > 1, "{text}");
         assert!(!text.contains("day"), "{text}");
     }
 }
@@ -69,7 +69,7 @@ fn every_accepted_book_of_a_day_comes_back_to_the_byte() {
             let name = format!("small_book_on({day}, {edition}, {seed})");
             assert_eq!(to_book(&text).unwrap(), book, "{name}\n{text}");
             assert_eq!(text.contains(&format!("\nday {day}\n")), day != 24, "{text}");
-            assert_eq!(text.contains("\nedition 2\n"), edition == 2, "{text}");
+            assert_eq!(text.contains(&format!("\nedition {edition}\n")), edition > 1, "{text}");
         }
     }
 }
@@ -156,9 +156,9 @@ fn errors_of_editions() {
     let block = "block buy hours 1,2 price 10 quantity 1 portfolio 9";
     for (text, message) in [
         ("edition", "line 1: `edition` has no value; expected one after it"),
-        ("edition 0", "line 1: `edition 0`; expected a whole number from 1 to 2"),
-        ("edition 3", "line 1: `edition 3`; expected a whole number from 1 to 2"),
-        ("edition two", "line 1: `edition two`; expected a whole number from 1 to 2"),
+        ("edition 0", "line 1: `edition 0`; expected a whole number from 1 to 3"),
+        ("edition 4", "line 1: `edition 4`; expected a whole number from 1 to 3"),
+        ("edition two", "line 1: `edition two`; expected a whole number from 1 to 3"),
         ("edition 2 3", "line 1: `3` after the edition; expected the end of the line"),
         ("edition 2\nedition 2", "line 2: `edition` stands twice; expected it once"),
         (
@@ -187,6 +187,63 @@ fn errors_of_editions() {
     assert!(to_book(&format!("edition 2\n{}", format!("{block}\n").repeat(10))).is_ok());
     let full = block.replace("quantity 1", "quantity 250");
     assert!(to_book(&format!("edition 2\n{full}")).is_ok());
+}
+
+#[test]
+fn links_have_lines() {
+    let text = "edition 3
+        link parent 2 child 4
+        block sell hours 1,2 price 10 quantity 1 portfolio 1 number 2
+        block sell hours 1,2 price 10 quantity 1 portfolio 1
+        link child 3 parent 2
+        block sell hours 1,2 price 10 quantity 1 portfolio 1";
+    let book = to_book(text).unwrap();
+    let accepted = read(&book).unwrap();
+    let links: Vec<(usize, u32, u32)> =
+        accepted.links.iter().map(|link| (link.record, link.child, link.parent)).collect();
+    assert_eq!(links, [(4, 3, 2), (1, 4, 2)]);
+    let text = to_text(&book).unwrap();
+    let lines: Vec<&str> = text.lines().collect();
+    assert_eq!(lines[..3], ["# 0 steps, 3 blocks, 2 links", "edition 3", "link child 4 parent 2"]);
+    assert_eq!(to_book(&text).unwrap(), book);
+}
+
+/// What is wrong with a line `link`; the blocks are looked for when all lines are read.
+#[test]
+fn errors_of_links() {
+    let blocks = "block sell hours 1,2 price 10 quantity 1 portfolio 1\n".repeat(3);
+    let cases = [
+        ("link", "line 5: `child` is missing; expected `child` and its value"),
+        ("link child 2", "line 5: `parent` is missing; expected `parent` and its value"),
+        ("link child 2 parent", "line 5: `parent` has no value; expected one after it"),
+        ("link child 2 child 3", "line 5: `child` stands twice; expected it once"),
+        ("link block 2", "line 5: unknown field `block`; expected one of: child, parent"),
+        ("link child 0 parent 1", "line 5: `child 0`; expected a whole number from 1 to 65535"),
+        ("link child 2 parent 0", "line 5: `parent 0`; expected a whole number from 1 to 65535"),
+        ("link child 2 parent 2", "line 5: `child 2 parent 2`; expected a parent below its child"),
+        ("link child 1 parent 2", "line 5: `child 1 parent 2`; expected a parent below its child"),
+        ("link child 4 parent 2", "line 5: `child 4`; expected the number of a block"),
+        (
+            "link child 3 parent 1\nlink child 2 parent 1\nlink child 3 parent 2",
+            "line 7: child number 3 is already on line 5; expected each number once among the children",
+        ),
+    ];
+    for (lines, message) in cases {
+        let error = to_book(&format!("edition 3\n{blocks}{lines}\n")).unwrap_err();
+        assert_eq!(error.to_string(), message, "{lines}");
+    }
+    let gap = blocks.replacen("portfolio 1\n", "portfolio 1 number 2\n", 1);
+    let error = to_book(&format!("edition 3\nlink child 3 parent 1\n{gap}")).unwrap_err();
+    assert_eq!(error.to_string(), "line 2: `parent 1`; expected the number of a block");
+    for edition in [1, 2] {
+        let error = to_book(&format!("edition {edition}\n{blocks}link child 2 parent 1"));
+        let message = format!(
+            "line 5: `link` in edition {edition}; expected `edition 3` in front of all orders"
+        );
+        assert_eq!(error.unwrap_err().to_string(), message);
+    }
+    let late = to_book(&format!("edition 3\nlink child 2 parent 1\nday 23\n{blocks}"));
+    assert_eq!(late.unwrap_err().line, 3);
 }
 
 #[test]

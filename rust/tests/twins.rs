@@ -4,12 +4,13 @@
 mod large_stack;
 
 use auction_listing::books::{
-    day_edges, edge_books, edition_edges, reader_book_of, reader_book_on, small_book_of,
-    small_book_on, worked_days, DAYS_AND_EDITIONS, FAMILIES,
+    count, day_edges, edge_books, edition_edges, link_edges, linked_day, linked_days,
+    reader_book_of, reader_book_on, small_book_of, small_book_on, worked_days, Dice, Shape, DAYS,
+    DAYS_AND_EDITIONS, FAMILIES,
 };
 use auction_listing::paper::{self, result_length_for, Published};
 use auction_listing::twin::by_value::{clearing, result::Clearing};
-use auction_listing::twin::count::{self, Nodes};
+use auction_listing::twin::count::{taken, Nodes};
 use auction_listing::twin::in_place::{self, Workspace};
 use auction_listing::twin::source::differences;
 use std::path::Path;
@@ -33,19 +34,19 @@ fn untouched(size: usize) -> Vec<u8> {
 
 fn by_value(book: &[u8], size: usize) -> Run {
     let mut result = untouched(size);
-    count::taken();
+    taken();
     let answer = match clearing::clear(book, &mut result) {
         Clearing::Published => 0,
         Clearing::Refused(number) => u32::from(number),
     };
-    (answer, result, count::taken())
+    (answer, result, taken())
 }
 
 fn in_place(book: &[u8], size: usize, space: &mut Workspace) -> Run {
     let mut result = untouched(size);
-    count::taken();
+    taken();
     let answer = in_place::clear(book, &mut result, space);
-    (answer, result, count::taken())
+    (answer, result, taken())
 }
 
 /// Both twins against each other; the answer and the result.
@@ -73,11 +74,12 @@ fn compare(name: &str, book: &[u8], size: usize, space: &mut Workspace) {
 fn the_twins_clear_small_books_as_the_listing() {
     with_stack(|| {
         let mut space = Workspace::default();
-        for (name, orders) in worked_days() {
+        let linked = linked_days().into_iter().filter(|(name, _)| *name != "linked-chain");
+        for (name, orders) in worked_days().into_iter().chain(linked) {
             let book = orders.book();
             compare(name, &book, result_length_for(&book), &mut space);
         }
-        for (edition, seed) in (0..1000).flat_map(|seed| [(1, seed), (2, seed)]) {
+        for (edition, seed) in (0..1000).flat_map(|seed| [1, 2, 3].map(|edition| (edition, seed))) {
             let book = small_book_of(edition, seed);
             let name = format!("small_book_of({edition}, {seed})");
             compare(&name, &book, result_length_for(&book), &mut space);
@@ -89,8 +91,9 @@ fn the_twins_clear_small_books_as_the_listing() {
 fn the_twins_refuse_as_the_listing() {
     with_stack(|| {
         let mut space = Workspace::default();
-        let damaged = (0..400).flat_map(|seed| [1, 2].map(|edition| reader_book_of(edition, seed)));
-        let edges = edge_books().into_iter().chain(edition_edges());
+        let damaged =
+            (0..400).flat_map(|seed| [1, 2, 3].map(|edition| reader_book_of(edition, seed)));
+        let edges = edge_books().into_iter().chain(edition_edges()).chain(link_edges());
         for (i, book) in edges.chain(damaged).enumerate() {
             compare_sizes(&format!("damaged book {i}"), &book, &mut space);
         }
@@ -134,17 +137,68 @@ fn the_twins_agree_on_large_books() {
         let mut space = Workspace::default();
         for family in FAMILIES {
             let (name, book) = (family.name, (family.book)(1, family.usual_blocks));
-            let (answer, result) = agreed(name, &book, result_length_for(&book), &mut space);
-            assert_eq!(answer, 0, "{name}: refused");
-            let published = Published::from_bytes(&result);
-            let accepted = paper::read(&book).expect("accepted");
-            let outcome = paper::outcome(&accepted, published.set(&accepted)).expect("lawful");
-            assert!(
-                paper::result_bytes(&accepted, &outcome) == result,
-                "{name}: not its set's result"
-            );
+            agree_on_large(name, &book, &mut space);
         }
     });
+}
+
+/// Both twins against each other, and against what the paper makes of their set.
+fn agree_on_large(name: &str, book: &[u8], space: &mut Workspace) {
+    let (answer, result) = agreed(name, book, result_length_for(book), space);
+    assert_eq!(answer, 0, "{name}: refused");
+    let published = Published::from_bytes(&result);
+    let accepted = paper::read(book).expect("accepted");
+    let outcome = paper::outcome(&accepted, published.set(&accepted)).expect("lawful");
+    assert!(paper::result_bytes(&accepted, &outcome) == result, "{name}: not its set's result");
+}
+
+/// Blocks linked in every shape, on days of every length, and many of them alike.
+#[test]
+fn the_twins_agree_on_large_linked_books() {
+    with_stack(|| {
+        let mut space = Workspace::default();
+        let families = [2, 4, 8, 32].map(Shape::Families);
+        let shapes = [Shape::Chain, Shape::Star, Shape::Tree, Shape::Any];
+        // Two books of each seed and shape.
+        let seeds = count("BOOKS", 192).div_ceil(16);
+        for shape in shapes.into_iter().chain(families) {
+            for seed in 0..seeds {
+                let day = DAYS[seed as usize % 3];
+                let name = format!("{shape:?}, seed {seed}, day of {day} hours");
+                let mut book = on_day_of(day, linked_day(seed, 32, Some(shape)));
+                agree_on_large(&name, &book, &mut space);
+                make_blocks_alike(&mut book, &mut Dice::new(seed));
+                agree_on_large(&format!("{name}, alike"), &book, &mut space);
+            }
+        }
+    });
+}
+
+/// The book on a day of another length; the steps of hour 3 go to hour 4.
+fn on_day_of(day: u32, mut book: Vec<u8>) -> Vec<u8> {
+    for step in paper::read(&book).expect("accepted").steps_of(3) {
+        book[16 * step.record + 6] = 4;
+    }
+    book[6] = day as u8;
+    book
+}
+
+/// Gives half of the blocks the side, the hours and the quantity of one before them, and
+/// some of these its price.
+fn make_blocks_alike(book: &mut [u8], dice: &mut Dice) {
+    let records: Vec<usize> =
+        paper::read(book).expect("accepted").blocks.iter().map(|it| 16 * it.record).collect();
+    for (position, &block) in records.iter().enumerate().skip(1) {
+        let model = records[dice.below(position)];
+        let fields: &[(usize, usize)] = match dice.below(4) {
+            0 => &[(1, 2), (8, 16)],
+            1 => &[(1, 2), (8, 11), (14, 16)],
+            _ => &[],
+        };
+        for &(from, to) in fields {
+            book.copy_within(model + from..model + to, block + from);
+        }
+    }
 }
 
 #[test]

@@ -14,16 +14,21 @@
 //! assert_eq!(outcome.taken().collect::<Vec<u32>>(), [1]);
 //! assert_eq!(outcome.step(2), Some(50));
 //!
+//! let book = std::fs::read("../../samples/linked-both.book").expect("a sample");
+//! assert_eq!(auction::families(&book)?, [auction::Family { block: 1, gain: 100_000 }]);
+//!
 //! let refused = auction::clear(b"no book").unwrap_err();
 //! assert_eq!((refused, refused.number()), (auction::Refusal::Length, 1));
 //! assert!(refused.to_string().starts_with("refused with 1: length not 16 x R"));
 //! # Ok::<(), auction::Refusal>(())
 //! ```
 
+mod families;
 mod outcome;
 pub mod raw;
 mod refusal;
 
+pub use families::Family;
 pub use outcome::{Kind, Outcome, Row};
 pub use refusal::Refusal;
 
@@ -102,4 +107,26 @@ pub fn sheet_into(book: &[u8], out: &mut [u8]) -> usize {
     let (bytes, length) = (out.as_mut_ptr(), out.len());
     // SAFETY: as in `clear_into`.
     unsafe { raw::auction_sheet(book.as_ptr(), book.len(), bytes, length) as usize }
+}
+
+/// The gain of each family at the published prices, in rising number of the block that has
+/// no parent. A block without links is its own family.
+pub fn families(book: &[u8]) -> Result<Vec<Family>, Refusal> {
+    families::decoded(&family_report(book))
+}
+
+/// The family report of a book, or the line `refused;` and the number.
+pub fn family_report(book: &[u8]) -> String {
+    let mut out = vec![0; header::MOST_FAMILIES as usize];
+    let length = families_into(book, &mut out);
+    out.truncate(length);
+    String::from_utf8(out).expect("a report is plain text")
+}
+
+/// The length of a book's [`family_report`], which is put at the start of `out` where it has
+/// room.
+pub fn families_into(book: &[u8], out: &mut [u8]) -> usize {
+    let (bytes, length) = (out.as_mut_ptr(), out.len());
+    // SAFETY: as in `clear_into`.
+    unsafe { raw::auction_families(book.as_ptr(), book.len(), bytes, length) as usize }
 }

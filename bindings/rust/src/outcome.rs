@@ -15,22 +15,23 @@ pub struct Outcome {
     /// Tenths of a MW; the first element is hour 1. Hour 3 of a day of 25 hours, which is there
     /// twice, has what is traded each time.
     pub traded: [u32; HOURS],
-    /// The orders as they stand in the book; the first element is record 1.
+    /// The orders and links as they stand in the book; the first element is record 1.
     pub rows: Vec<Row>,
 }
 
-/// Hourly steps and all-or-none blocks are numbered separately.
+/// Hourly steps and all-or-none blocks are numbered separately. A link is no order.
 #[derive(Clone, Copy, Debug, PartialEq, Eq, Hash)]
 pub enum Kind {
     Step,
     Block,
+    Link,
 }
 
-/// What an order gets.
+/// What an order gets; a link gets 0.
 #[derive(Clone, Copy, Debug, PartialEq, Eq)]
 pub struct Row {
     pub kind: Kind,
-    /// The order's number among those of its kind.
+    /// The order's number among those of its kind; of a link its child's number.
     pub number: u32,
     /// The executed quantity in each of its hours, in tenths of a MW; of a block that is left out 0.
     pub executed: u32,
@@ -107,7 +108,11 @@ fn row(book: &[u8], result: &[u8], record: usize) -> Row {
     let order = &book[RECORD_SIZE * record..][..RECORD_SIZE];
     let executed_at = header::RESULT_HEAD as usize + header::RESULT_RECORD as usize * record;
     Row {
-        kind: if order[0] == 1 { Kind::Step } else { Kind::Block },
+        kind: match order[0] {
+            1 => Kind::Step,
+            2 => Kind::Block,
+            _ => Kind::Link,
+        },
         number: number_at(order, 4, 2) as u32,
         executed: number_at(result, executed_at, 4) as u32,
     }

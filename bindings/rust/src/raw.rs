@@ -10,4 +10,5 @@ extern "C" {
         result_len: usize,
     ) -> u32;
     pub fn auction_sheet(book: *const u8, book_len: usize, out: *mut u8, out_len: usize) -> u32;
+    pub fn auction_families(book: *const u8, book_len: usize, out: *mut u8, out_len: usize) -> u32;
 }

@@ -3,7 +3,7 @@
 use crate::header;
 use std::fmt;
 
-/// The first cause that holds: 1 to 6, then 9, then 7 or 8. Its number and words are those of
+/// The first cause that holds: 1 to 6, then 9, 10, then 7 or 8. Its number and words are those of
 /// `include/auction.h`.
 #[derive(Clone, Copy, Debug, PartialEq, Eq, PartialOrd, Ord, Hash)]
 #[repr(u32)]
@@ -17,11 +17,12 @@ pub enum Refusal {
     Result = header::REFUSED_RESULT,
     Call = header::REFUSED_CALL,
     Hours = header::REFUSED_HOURS,
+    Link = header::REFUSED_LINK,
 }
 
 impl Refusal {
     /// All of them, in rising number.
-    pub const ALL: [Refusal; 9] = [
+    pub const ALL: [Refusal; 10] = [
         Refusal::Length,
         Refusal::Head,
         Refusal::Chain,
@@ -31,9 +32,10 @@ impl Refusal {
         Refusal::Result,
         Refusal::Call,
         Refusal::Hours,
+        Refusal::Link,
     ];
 
-    /// 1 to 9.
+    /// 1 to 10.
     pub fn number(self) -> u32 {
         self as u32
     }
@@ -49,8 +51,12 @@ impl Refusal {
         if answer == header::DONE {
             return Ok(());
         }
-        let known = Refusal::ALL.into_iter().find(|refusal| refusal.number() == answer);
-        Err(known.expect("an answer of `include/auction.h`"))
+        Err(Refusal::numbered(answer).expect("an answer of `include/auction.h`"))
+    }
+
+    /// The refusal of a number, where it is one.
+    pub(crate) fn numbered(number: u32) -> Option<Refusal> {
+        Refusal::ALL.into_iter().find(|refusal| refusal.number() == number)
     }
 }
 

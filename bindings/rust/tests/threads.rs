@@ -1,6 +1,6 @@
 //! Many threads at once, and the stack that a call is said to need.
 
-use auction::{Outcome, Price, Refusal};
+use auction::{Family, Outcome, Price, Refusal};
 use std::path::Path;
 use std::sync::Barrier;
 use std::thread;
@@ -29,6 +29,7 @@ struct Said {
     read: Result<(), Refusal>,
     clear: Result<Outcome, Refusal>,
     sheet: String,
+    families: Result<Vec<Family>, Refusal>,
     prices: Vec<Result<Price, Refusal>>,
 }
 
@@ -36,7 +37,8 @@ fn said(book: &[u8]) -> Said {
     let clear = auction::clear(book);
     let set = clear.as_ref().map_or(0, Outcome::set);
     let prices = (0..=25).map(|hour| auction::price(book, set, hour)).collect();
-    Said { read: auction::read(book), clear, sheet: auction::sheet(book), prices }
+    let (sheet, families) = (auction::sheet(book), auction::families(book));
+    Said { read: auction::read(book), clear, sheet, families, prices }
 }
 
 /// Each thread has a book of its own and begins together with the others.

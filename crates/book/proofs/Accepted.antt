@@ -1,28 +1,30 @@
--- What an accepted book promises to the layers above, each law from `Accepted b` alone: its size and head, its chains, its steps and its blocks
--- (distinct, apart, rising, and every record one of them), the fields of each order, and how many orders there are. Assumes nothing.
+-- What an accepted book promises to the layers above, each law from `Accepted b` alone: its size and head, its chains, its steps, its blocks and its links
+-- (distinct, apart, rising, and every record one of them), the fields of each, and how many orders there are. Assumes nothing.
 use Prim.Native.Nat.{ℕ, suc, _+_, _*_, _≤_, _<_}
 use mathlib.Core.Path.{_≡_, refl, sym, _∙_}
-use mathlib.Core.List.{List}
+use mathlib.Core.List.{List, [], _∷_}
 use mathlib.Core.Bool.{Bool, true, false, cond, not, _||_, _&&_, true≢false}
 use native.Mathlib.Omega.{arith}
-use borrow.Author.Tests.{eq-eqb, ne-eqb, eqb-true, eqb-false, leb-true, ltb-false, le-leb, le-ltb, not-false}
+use borrow.Author.Tests.{eq-eqb, ne-eqb, eqb-true, eqb-false, leb-true, leb-false, ltb-false, le-leb, le-ltb, not-false, not-true}
 use lib.Dec.{eqb, leb, ltb}
 use lib.ListN.{length}
 use Rattle.records.specs.Bytes.{nonzero}
-use Rattle.records.specs.Layout.{recordSize, headRestOffset, headRestSize, stepKind, blockKind, lastSide, lastHour}
+use Rattle.records.specs.Layout.{recordSize, headRestOffset, headRestSize, stepKind, blockKind, linkKind, lastSide, lastHour}
 use Rattle.book.specs.Bounds.{mostRecords, firstEdition, lastEdition, lastPortfolio, portfolioNumbers, mostStepQuantity, fewestHours, mostBlocks}
 use Rattle.book.specs.Tests.{within, someBelow, countIn, member}
 use Rattle.rules.specs.Orders.{maxPrice, Limits, limits}
 use Rattle.rules.specs.Day.{springHours, autumnHours, isCounted}
 use Rattle.rules.proofs.HourSums.{all-counted}
 use Rattle.records.specs.Records.{recordCount, dayHours, edition, kind, sideByte, hourByte}
-use Rattle.records.specs.Records.{stepAt, blockAt, recordAt, hoursSet}
-use Rattle.book.specs.Chains.{chainFrom, firstOn, chainOf, isOn, countOn, stepOrder, blockOrder, steps, blocks}
-use Rattle.book.specs.Refusals.{wrongSize, wrongHead, brokenChain, wrongFieldOn, wrongField, stray, strayRecord, ownedBy, tooManyOf, tooManyBlocks}
-use Rattle.book.specs.Refusals.{uncounted, uncountedOn, wrongHours, firstCause, ownCauses, refusal, Accepted}
-use Rattle.book.specs.Refusals.{stepFits, blockFits, stepInRange, blockInRange, recordInRange, outOfRange}
+use Rattle.records.specs.Records.{stepAt, blockAt, linkAt, linkRest, recordAt, hoursSet}
+use Rattle.book.specs.Chains.{chainFrom, firstOn, kindOn, chainOf, isOn, countOn, stepOrder, blockOrder, linkOrder, steps, blocks, links}
+use Rattle.book.specs.Refusals.{wrongSize, linksTooEarly, wrongHead, brokenChain, wrongFieldOn, wrongField, stray, strayRecord}
+use Rattle.book.specs.Refusals.{ownedBy, tooManyOf, tooManyBlocks}
+use Rattle.book.specs.Refusals.{uncounted, uncountedOn, wrongHours, hasBlock, misnamed, wrongLink, firstCause, ownCauses, refusal, Accepted}
+use Rattle.book.specs.Refusals.{stepFits, blockFits, stepInRange, blockInRange, linkInRange, recordInRange, outOfRange}
 use Rattle.records.specs.declared.Step.{Step}
 use Rattle.records.specs.declared.Block.{Block}
+use Rattle.records.specs.declared.Link.{Link}
 use Rattle.records.specs.declared.Record.the-variants as record-of
 use Rattle.book.specs.declared.Chain.{Chain}
 use Rattle.book.specs.declared.Chain.the-variants as chain-of
@@ -48,6 +50,7 @@ accepted b e =
     let p5 = passed (strayRecord b) 4 _ (p4 .1) in
     let p6 = passed (tooManyBlocks b) 5 _ (p5 .1) in
     let p9 = passed (wrongHours b) 8 _ (p6 .1) in
+    let p10 = passed (wrongLink b) 9 _ (p9 .1) in
     record {
       rightSize = p1 .0;
       rightHead = p2 .0;
@@ -56,12 +59,13 @@ accepted b e =
       noStray = p5 .0;
       notTooMany = p6 .0;
       rightHours = p9 .0;
+      rightLinks = p10 .0;
     }
 
 -- .. and the number of an accepted book is 0
 pub accepted-zero : (b : List ℕ) → Accepted b → refusal b ≡ 0
 unfolding refusal ownCauses firstCause
-accepted-zero b a = rw (a .rightSize, a .rightHead, a .unbroken, a .inRange, a .noStray, a .notTooMany, a .rightHours)
+accepted-zero b a = rw (a .rightSize, a .rightHead, a .unbroken, a .inRange, a .noStray, a .notTooMany, a .rightHours, a .rightLinks)
 
 -- The length is 16 × R
 pub size : (b : List ℕ) → Accepted b → length b ≡ recordSize * recordCount b
@@ -81,7 +85,8 @@ unfolding wrongHead
 day-hours b a =
     let t = not (within springHours (dayHours b) autumnHours) in
     let u = not (within firstEdition (edition b) lastEdition) in
-    bounds _ _ _ (not-false _ (or-left t u (or-left (t || u) (nonzero b headRestOffset headRestSize) (a .rightHead))))
+    let v = linksTooEarly b in
+    bounds _ _ _ (not-false _ (or-left t u (or-left (t || u) v (or-left (t || u || v) (nonzero b headRestOffset headRestSize) (a .rightHead)))))
 
 -- The edition is one that there is
 pub edition-known : (b : List ℕ) → Accepted b → within firstEdition (edition b) lastEdition ≡ true
@@ -89,14 +94,15 @@ unfolding wrongHead
 edition-known b a =
     let t = not (within springHours (dayHours b) autumnHours) in
     let u = not (within firstEdition (edition b) lastEdition) in
-    not-false _ (or-right t u (or-left (t || u) (nonzero b headRestOffset headRestSize) (a .rightHead)))
+    let v = linksTooEarly b in
+    not-false _ (or-right t u (or-left (t || u) v (or-left (t || u || v) (nonzero b headRestOffset headRestSize) (a .rightHead))))
 
 -- The chains are whole: they end within R records, so that following them further finds nothing more
 pub chains-whole : (b : List ℕ) → Accepted b → (c : Chain) (m : ℕ) → chainFrom (recordCount b + m) b (firstOn b c) ≡ chainOf b c
 chains-whole b a c m =
     chain-whole (recordCount b) m b (firstOn b c) (chain-short b c (record-count b a .0) (unbroken b (a .unbroken) c))
 
--- No record stands twice among the steps or among the blocks, or among both
+-- No record stands twice among the steps, among the blocks or among the links
 pub steps-distinct : (b : List ℕ) → Accepted b → Distinct (stepOrder b)
 unfolding stepOrder
 steps-distinct b a = distinct b chain-of.Steps (unbroken b (a .unbroken) chain-of.Steps)
@@ -105,7 +111,11 @@ pub blocks-distinct : (b : List ℕ) → Accepted b → Distinct (blockOrder b)
 unfolding blockOrder
 blocks-distinct b a = distinct b chain-of.Blocks (unbroken b (a .unbroken) chain-of.Blocks)
 
--- The order numbers of the steps rise strictly, the first at least 1, and so do those of the blocks
+pub links-distinct : (b : List ℕ) → Accepted b → Distinct (linkOrder b)
+unfolding linkOrder
+links-distinct b a = distinct b chain-of.Links (unbroken b (a .unbroken) chain-of.Links)
+
+-- The order numbers of the steps rise strictly, the first at least 1, and so do those of the blocks and those of the links' children
 pub steps-rising : (b : List ℕ) → Accepted b → Rising b 0 (stepOrder b)
 unfolding stepOrder
 steps-rising b a = rising b chain-of.Steps refl (unbroken b (a .unbroken) chain-of.Steps)
@@ -114,14 +124,19 @@ pub blocks-rising : (b : List ℕ) → Accepted b → Rising b 0 (blockOrder b)
 unfolding blockOrder
 blocks-rising b a = rising b chain-of.Blocks refl (unbroken b (a .unbroken) chain-of.Blocks)
 
--- The head, the steps and the blocks are R together
-pub lengths : (b : List ℕ) → Accepted b → length (stepOrder b) + length (blockOrder b) + 1 ≡ recordCount b
-unfolding stepOrder blockOrder
+pub links-rising : (b : List ℕ) → Accepted b → Rising b 0 (linkOrder b)
+unfolding linkOrder
+links-rising b a = rising b chain-of.Links refl (unbroken b (a .unbroken) chain-of.Links)
+
+-- The head, the steps, the blocks and the links are R together
+pub lengths : (b : List ℕ) → Accepted b → length (stepOrder b) + length (blockOrder b) + length (linkOrder b) + 1 ≡ recordCount b
+unfolding stepOrder blockOrder linkOrder
 lengths b a =
     let p = record-count b a .0 in
     let most = chains-fit b p (a .unbroken) in
     let least =
-    ltb-false (countOn b chain-of.Steps + countOn b chain-of.Blocks + 1) (recordCount b) (sym (stray-short b p (a .unbroken)) ∙ a .noStray)
+    ltb-false (countOn b chain-of.Steps + countOn b chain-of.Blocks + countOn b chain-of.Links + 1) (recordCount b)
+    (sym (stray-short b p (a .unbroken)) ∙ a .noStray)
     in
     omega arith
 
@@ -142,21 +157,34 @@ portfolio-few b a p h =
     ltb-false (limits (edition b) .blocksOfPortfolio) (countIn (chainOf b chain-of.Blocks) (ownedBy b p))
     (none-below portfolioNumbers (tooManyOf b) (or-right (ltb mostBlocks (countOn b chain-of.Blocks)) _ (a .notTooMany)) p h)
 
--- Every record from 1 to R − 1 is a step or a block, and not both
-pub one-chain : (b : List ℕ) → Accepted b → (i : ℕ) → 0 < i → i < recordCount b → member i (stepOrder b) ≡ not (member i (blockOrder b))
-unfolding strayRecord stray isOn stepOrder blockOrder
+-- A record of one chain is on no other
+only-on : (b : List ℕ) → Accepted b → (c d : Chain) → (kindOn c ≡ kindOn d → ⊥) → (i : ℕ) → member i (chainOf b c) ≡ true → member i (chainOf b d) ≡ false
+only-on b a c d other i e = each-member (λ j. member j (chainOf b d) ≡ false) (chainOf b c) i (apart b c d other (a .unbroken)) e
+
+-- No link is a step or a block
+pub link-only : (b : List ℕ) → Accepted b → (i : ℕ) → member i (linkOrder b) ≡ true → (member i (stepOrder b) ≡ false) × (member i (blockOrder b) ≡ false)
+unfolding stepOrder blockOrder linkOrder
+link-only b a i e = (
+  only-on b a chain-of.Links chain-of.Steps (λ k. omega arith) i e,
+  only-on b a chain-of.Links chain-of.Blocks (λ k. omega arith) i e,
+)
+
+-- Every record from 1 to R − 1 is a step, or else a block or a link
+pub one-chain : (b : List ℕ) → Accepted b → (i : ℕ) → 0 < i → i < recordCount b
+    → member i (stepOrder b) ≡ not (member i (blockOrder b) || member i (linkOrder b))
+unfolding strayRecord stray isOn stepOrder blockOrder linkOrder
 one-chain b a i p h =
-    at (member i (chainOf b chain-of.Steps)) (member i (chainOf b chain-of.Blocks)) refl refl
+    at (member i (chainOf b chain-of.Steps)) (member i (chainOf b chain-of.Blocks)) (member i (chainOf b chain-of.Links)) refl refl refl
     (rw (← (on-some (isOn b i))) at (none-below (recordCount b) (stray b) (a .noStray) i h))
   where
-    at : (s t : Bool) → member i (chainOf b chain-of.Steps) ≡ s → member i (chainOf b chain-of.Blocks) ≡ t → (leb 1 i && not (s || t)) ≡ false
-        → s ≡ not t
-    at true true e f g =
-        absurd (true≢false (sym f
-        ∙ each-member (λ j. member j (chainOf b chain-of.Blocks) ≡ false) (chainOf b chain-of.Steps) i (apart b (a .unbroken)) e))
-    at true false e f g = refl
-    at false true e f g = refl
-    at false false e f g = absurd (true≢false (sym (rw (le-leb 1 i p)) ∙ g))
+    at : (s t u : Bool) → member i (chainOf b chain-of.Steps) ≡ s → member i (chainOf b chain-of.Blocks) ≡ t → member i (chainOf b chain-of.Links) ≡ u
+        → (leb 1 i && not (s || t || u)) ≡ false → s ≡ not (t || u)
+    at true true u e f l g = absurd (true≢false (sym f ∙ only-on b a chain-of.Steps chain-of.Blocks (λ k. omega arith) i e))
+    at true false true e f l g = absurd (true≢false (sym l ∙ only-on b a chain-of.Steps chain-of.Links (λ k. omega arith) i e))
+    at true false false e f l g = refl
+    at false true u e f l g = refl
+    at false false true e f l g = refl
+    at false false false e f l g = absurd (true≢false (sym (rw (le-leb 1 i p)) ∙ g))
 
 -- A step's fields are in their ranges
 pub record StepBounds (s : Step) : Type 0 where
@@ -223,6 +251,15 @@ pub record BlockRecord (b : List ℕ) (i : ℕ) : Type 0 where
   pub noHour : hourByte b i ≡ 0
   pub fields : BlockBounds (limits (edition b)) (blockAt b i)
 
+-- Record i of the link chain: its index from 1 to R − 1, read as a link, byte 1 and bytes 8-15 at 0
+pub record LinkRecord (b : List ℕ) (i : ℕ) : Type 0 where
+  pub positive : 0 < i
+  pub inside : i < recordCount b
+  pub ofKind : kind b i ≡ linkKind
+  pub read : recordAt b i ≡ record-of.Link (linkAt b i)
+  pub noSide : sideByte b i ≡ 0
+  pub noRest : linkRest b i ≡ false
+
 -- A record below R is whole
 whole : (b : List ℕ) (i : ℕ) → length b ≡ recordSize * recordCount b → i < recordCount b → ltb (length b) (recordSize * i + recordSize) ≡ false
 whole b i size h = le-ltb (length b) (recordSize * i + recordSize) (omega arith)
@@ -263,6 +300,26 @@ block-record b size i h =
       fields = block-bounds _ _ (and-right (side && none) _ r);
     }
 
+link-record : (b : List ℕ) → length b ≡ recordSize * recordCount b → (i : ℕ) → ((0 < i) × Placed b chain-of.Links i) × (outOfRange b i ≡ false)
+    → LinkRecord b i
+unfolding outOfRange recordInRange linkInRange recordAt
+link-record b size i h =
+    let place = h .0 .1 in
+    let k = place .ofKind in
+    let noStep = ne-eqb (kind b i) stepKind (λ e. omega arith) in
+    let noBlock = ne-eqb (kind b i) blockKind (λ e. omega arith) in
+    let read : recordAt b i ≡ record-of.Link (linkAt b i) = rw (whole b i size (place .below), noStep, noBlock, eq-eqb _ _ k) in
+    let r : linkInRange b i ≡ true = not-false _ (rw read at (h .1)) in
+    let none = eqb (sideByte b i) 0 in
+    record {
+      positive = h .0 .0;
+      inside = place .below;
+      ofKind = k;
+      read = read;
+      noSide = eqb-true _ _ (and-left none (not (linkRest b i)) r);
+      noRest = not-true _ (and-right none _ r);
+    }
+
 -- A record of a chain: its index is not 0, it belongs there, and its fields are in range
 chain-records : (b : List ℕ) → Accepted b → (c : Chain) → Each (λ i. ((0 < i) × Placed b c i) × (outOfRange b i ≡ false)) (chainOf b c)
 unfolding wrongField wrongFieldOn
@@ -285,6 +342,39 @@ unfolding blockOrder
 block-records b a =
     each-map (λ i. ((0 < i) × Placed b chain-of.Blocks i) × (outOfRange b i ≡ false)) (BlockRecord b) (chainOf b chain-of.Blocks)
     (block-record b (size b a)) (chain-records b a chain-of.Blocks)
+
+-- What holds of each record of the links
+pub link-records : (b : List ℕ) → Accepted b → Each (LinkRecord b) (linkOrder b)
+unfolding linkOrder
+link-records b a =
+    each-map (λ i. ((0 < i) × Placed b chain-of.Links i) × (outOfRange b i ≡ false)) (LinkRecord b) (chainOf b chain-of.Links)
+    (link-record b (size b a)) (chain-records b a chain-of.Links)
+
+-- A link's child and parent are blocks of the book, the parent's number below the child's
+pub record LinkNames (b : List ℕ) (l : Link) : Type 0 where
+  pub childIn : hasBlock b (l .child) ≡ true
+  pub parentIn : hasBlock b (l .parent) ≡ true
+  pub parentBelow : l .parent < l .child
+
+link-names : (b : List ℕ) (l : Link) → misnamed b l ≡ false → LinkNames b l
+unfolding misnamed
+link-names b l e =
+    let child = not (hasBlock b (l .child)) in
+    let parent = not (hasBlock b (l .parent)) in
+    let both = or-left (child || parent) (leb (l .child) (l .parent)) e in
+    record {
+      childIn = not-false _ (or-left child parent both);
+      parentIn = not-false _ (or-right child parent both);
+      parentBelow = leb-false _ _ (or-right (child || parent) _ e);
+    }
+
+links-name : (b : List ℕ) (l : List Link) → Each (λ x. misnamed b x ≡ false) l → Each (LinkNames b) l
+links-name b [] e = tt
+links-name b (x ∷ l) e = (link-names b x (e .0), links-name b l (e .1))
+
+pub links-named : (b : List ℕ) → Accepted b → Each (LinkNames b) (links b)
+unfolding wrongLink
+links-named b a = links-name b (links b) (none-in (links b) (misnamed b) (a .rightLinks))
 
 -- The book's steps and blocks, read
 pub steps-bounded : (b : List ℕ) → Accepted b → Each StepBounds (steps b)

@@ -1,4 +1,4 @@
--- Small books decided by the definitions alone, among them document 01's head alone, the record that is its own next, and hour 3 on each day.
+-- Small books decided by the definitions alone, among them document 01's head alone, the record that is its own next, hour 3 on each day, and links.
 -- Each line of bytes is a record. Assumes nothing.
 use Prim.Native.Nat.{ℕ, zero, suc, _+_}
 use mathlib.Core.Path.{_≡_, refl}
@@ -7,10 +7,12 @@ use Rattle.records.specs.Bytes.{u16At, u24At, u32At, nonzero}
 use Rattle.book.specs.Tests.{within, someBelow, someIn, countIn}
 use Rattle.rules.specs.Orders.{limits}
 use Rattle.rules.specs.Day.{weight, isCounted, sumTo, daySum}
-use Rattle.records.specs.Records.{stepAt, blockAt, recordAt, hoursSet}
-use Rattle.book.specs.Chains.{chainFrom, chains, isOn, stepOrder, blockOrder}
-use Rattle.book.specs.Refusals.{wrongSize, wrongHead, misplaced, broken, brokenOn, brokenChain, stepFits, blockFits, stepInRange, blockInRange}
-use Rattle.book.specs.Refusals.{recordInRange, outOfRange, wrongFieldOn, wrongField, stray, strayRecord, ownedBy, tooManyOf, tooManyBlocks, uncounted, uncountedOn, wrongHours, firstCause, ownCauses, refusal}
+use Rattle.records.specs.Records.{stepAt, blockAt, linkAt, linkRest, recordAt, hoursSet}
+use Rattle.book.specs.Chains.{chainFrom, chains, isOn, stepOrder, blockOrder, linkOrder, links}
+use Rattle.book.specs.Refusals.{wrongSize, linksTooEarly, wrongHead, misplaced, broken, brokenOn, brokenChain, stepFits, blockFits, stepInRange}
+use Rattle.book.specs.Refusals.{blockInRange, linkInRange, recordInRange, outOfRange, wrongFieldOn, wrongField, stray, strayRecord, ownedBy}
+use Rattle.book.specs.Refusals.{tooManyOf, tooManyBlocks, uncounted, uncountedOn, wrongHours, isNumber, hasBlock, misnamed, wrongLink}
+use Rattle.book.specs.Refusals.{firstCause, ownCauses, refusal}
 use Rattle.book.specs.Hours.{countedHours}
 use Rattle.book.specs.Answers.{reading}
 use Rattle.book.specs.declared.Reading.the-variants as reading-of
@@ -115,9 +117,10 @@ pub record SmallBooks : Type 0 where
 pub decided : SmallBooks
 unfolding
     headAlone stepAndBlock ownNext bothCauses leftOver headOn stepOf3 blockOver u16At u24At u32At nonzero within someBelow someIn countIn limits stepAt blockAt
-    recordAt hoursSet chainFrom chains isOn stepOrder blockOrder wrongSize wrongHead misplaced broken brokenOn brokenChain stepFits blockFits stepInRange
+    recordAt hoursSet chainFrom chains isOn stepOrder blockOrder linkOrder links wrongSize linksTooEarly wrongHead misplaced broken brokenOn brokenChain
+    stepFits blockFits stepInRange
     blockInRange recordInRange outOfRange wrongFieldOn wrongField stray strayRecord ownedBy tooManyOf tooManyBlocks weight isCounted sumTo daySum countedHours
-    uncounted uncountedOn wrongHours firstCause ownCauses refusal reading
+    uncounted uncountedOn wrongHours wrongLink firstCause ownCauses refusal reading
 decided = record {
   head = refl;
   orders = refl;
@@ -140,7 +143,8 @@ decided = record {
 -- THE EDITIONS, at their limits
 pub record Editions : Type 0 where
   pub second : reading (headOf 2) ≡ reading-of.Accepted 0 0
-  pub third : reading (headOf 3) ≡ reading-of.Refused 2
+  pub third : reading (headOf 3) ≡ reading-of.Accepted 0 0
+  pub fourth : reading (headOf 4) ≡ reading-of.Refused 2
   pub most : reading (blockOf 1 50) ≡ reading-of.Accepted 0 1
   pub tooMuch : reading (blockOf 1 51) ≡ reading-of.Refused 4
   pub mostOfNotice : reading (blockOf 2 250) ≡ reading-of.Accepted 0 1
@@ -150,16 +154,19 @@ pub record Editions : Type 0 where
   pub sixOfNotice : reading (portfolioOf 2 6) ≡ reading-of.Accepted 0 6
   pub tenOfNotice : reading (portfolioOf 2 10) ≡ reading-of.Accepted 0 10
   pub elevenOfNotice : reading (portfolioOf 2 11) ≡ reading-of.Refused 6
+  pub elevenWithLinks : reading (portfolioOf 3 11) ≡ reading-of.Refused 6
 
 pub at-the-limits : Editions
 unfolding
     headOf blockOf blocksFrom portfolioOf u16At u24At u32At nonzero within someBelow someIn countIn limits stepAt blockAt recordAt hoursSet
-    chainFrom chains isOn stepOrder blockOrder wrongSize wrongHead misplaced broken brokenOn brokenChain stepFits blockFits stepInRange blockInRange
-    recordInRange outOfRange wrongFieldOn wrongField stray strayRecord ownedBy tooManyOf tooManyBlocks wrongHours firstCause ownCauses refusal reading
+    chainFrom chains isOn stepOrder blockOrder linkOrder links wrongSize linksTooEarly wrongHead misplaced broken brokenOn brokenChain stepFits blockFits
+    stepInRange blockInRange
+    recordInRange outOfRange wrongFieldOn wrongField stray strayRecord ownedBy tooManyOf tooManyBlocks wrongHours wrongLink firstCause ownCauses refusal reading
 at-the-limits =
     record {
       second = refl;
       third = refl;
+      fourth = refl;
       most = refl;
       tooMuch = refl;
       mostOfNotice = refl;
@@ -169,4 +176,69 @@ at-the-limits =
       sixOfNotice = refl;
       tenOfNotice = refl;
       elevenOfNotice = refl;
+      elevenWithLinks = refl;
+    }
+
+-- LINKS
+-- Of an edition, on a day of so many hours: blocks 2 and 4 over hours given as bits, the index of the first link, and a third record
+pub familyOf : (hours edition bits first : ℕ) → List ℕ → List ℕ
+familyOf hours edition bits first third =
+    0 ∷ 4 ∷ 0 ∷ 0 ∷ 0 ∷ 1 ∷ hours ∷ edition ∷ 0 ∷ first ∷ 0 ∷ 0 ∷ 0 ∷ 0 ∷ 0 ∷ 0
+    ∷ 2 ∷ 1 ∷ 0 ∷ 2 ∷ 0 ∷ 2 ∷ 0 ∷ 1 ∷ 0 ∷ 0 ∷ bits ∷ 0 ∷ 11 ∷ 84 ∷ 0 ∷ 50
+    ∷ 2 ∷ 1 ∷ 0 ∷ 0 ∷ 0 ∷ 4 ∷ 0 ∷ 1 ∷ 0 ∷ 0 ∷ bits ∷ 0 ∷ 11 ∷ 84 ∷ 0 ∷ 50
+    ∷ third
+
+-- A link's bytes: byte 1, the record that follows, child, parent, byte 15
+pub linkBytes : (second next child parent last : ℕ) → List ℕ
+linkBytes second next child parent last =
+    3 ∷ second ∷ 0 ∷ next ∷ 0 ∷ child ∷ 0 ∷ parent ∷ 0 ∷ 0 ∷ 0 ∷ 0 ∷ 0 ∷ 0 ∷ 0 ∷ last ∷ []
+
+-- In edition 3 on 24 hours, over hours 1 and 2: a link from a child to a parent
+pub linked : (child parent : ℕ) → List ℕ
+linked child parent = familyOf 24 3 3 3 (linkBytes 0 0 child parent 0)
+
+pub record Links : Type 0 where
+  pub good : reading (linked 4 2) ≡ reading-of.Accepted 0 2
+  -- 10: the parent is 0, the parent or the child is not in the book, the parent is the child, or has the higher number
+  pub noParent : reading (linked 4 0) ≡ reading-of.Refused 10
+  pub parentMissing : reading (linked 4 3) ≡ reading-of.Refused 10
+  pub childMissing : reading (linked 3 2) ≡ reading-of.Refused 10
+  pub ownParent : reading (linked 4 4) ≡ reading-of.Refused 10
+  pub parentAbove : reading (linked 2 4) ≡ reading-of.Refused 10
+  -- 9 and 10 together: blocks over hours 2 and 3 on 23 hours
+  pub nineFirst : reading (familyOf 23 3 6 3 (linkBytes 0 0 4 0 0)) ≡ reading-of.Refused 9
+  -- 2: editions without links
+  pub second : reading (familyOf 24 2 3 3 (linkBytes 0 0 4 2 0)) ≡ reading-of.Refused 2
+  -- 3: a child of 0, a link that is its own next, a link chain that begins at a block
+  pub childZero : reading (linked 0 2) ≡ reading-of.Refused 3
+  pub loop : reading (familyOf 24 3 3 3 (linkBytes 0 3 4 2 0)) ≡ reading-of.Refused 3
+  pub onBlocks : reading (familyOf 24 3 3 2 (linkBytes 0 0 4 2 0)) ≡ reading-of.Refused 3
+  -- 4: byte 1 or byte 15 not 0
+  pub sideSet : reading (familyOf 24 3 3 3 (linkBytes 1 0 4 2 0)) ≡ reading-of.Refused 4
+  pub lastSet : reading (familyOf 24 3 3 3 (linkBytes 0 0 4 2 1)) ≡ reading-of.Refused 4
+  -- 5: a link on no chain
+  pub offChain : reading (familyOf 24 3 3 0 (linkBytes 0 0 4 2 0)) ≡ reading-of.Refused 5
+
+pub links-decided : Links
+unfolding
+    familyOf linkBytes linked u16At u24At u32At nonzero within someBelow someIn countIn limits stepAt blockAt linkAt linkRest recordAt hoursSet
+    chainFrom chains isOn stepOrder blockOrder linkOrder links wrongSize linksTooEarly wrongHead misplaced broken brokenOn brokenChain stepFits blockFits
+    stepInRange blockInRange linkInRange recordInRange outOfRange wrongFieldOn wrongField stray strayRecord ownedBy tooManyOf tooManyBlocks weight isCounted
+    sumTo daySum countedHours uncounted uncountedOn wrongHours isNumber hasBlock misnamed wrongLink firstCause ownCauses refusal reading
+links-decided =
+    record {
+      good = refl;
+      noParent = refl;
+      parentMissing = refl;
+      childMissing = refl;
+      ownParent = refl;
+      parentAbove = refl;
+      nineFirst = refl;
+      second = refl;
+      childZero = refl;
+      loop = refl;
+      onBlocks = refl;
+      sideSet = refl;
+      lastSet = refl;
+      offChain = refl;
     }

@@ -91,6 +91,7 @@ rising-distinct b n (i ∷ l) h = (
 pub distinct : (b : List ℕ) (c : Chain) → brokenOn b c ≡ false → Distinct (chainOf b c)
 distinct b chain-of.Steps e = rising-distinct b 0 (chainOf b chain-of.Steps) (rising b chain-of.Steps refl e)
 distinct b chain-of.Blocks e = rising-distinct b 0 (chainOf b chain-of.Blocks) (rising b chain-of.Blocks refl e)
+distinct b chain-of.Links e = rising-distinct b 0 (chainOf b chain-of.Links) (rising b chain-of.Links refl e)
 
 -- The members of a chain are not 0
 pub chain-positive : (n : ℕ) (b : List ℕ) (i : ℕ) → Each (λ j. 0 < j) (chainFrom n b i)
@@ -129,19 +130,25 @@ chain-whole (suc n) m b i h = rw suc-add (at (eqb i 0) h (λ g. chain-whole n m 
 
 -- ALL CHAINS
 -- What is asked of some chain is asked of each in turn ..
-pub on-some : (test : Chain → Bool) → (test chain-of.Steps || test chain-of.Blocks) ≡ someIn chains test
+pub on-some : (test : Chain → Bool) → (test chain-of.Steps || test chain-of.Blocks || test chain-of.Links) ≡ someIn chains test
 unfolding someIn chains
-on-some test = at (test chain-of.Steps) (test chain-of.Blocks)
+on-some test = at (test chain-of.Steps) (test chain-of.Blocks) (test chain-of.Links)
   where
-    at : (s t : Bool) → (s || t) ≡ (s || (t || false))
-    at true t = refl
-    at false true = refl
-    at false false = refl
+    at : (s t u : Bool) → (s || t || u) ≡ (s || (t || (u || false)))
+    at true t u = refl
+    at false true u = refl
+    at false false true = refl
+    at false false false = refl
 
 -- .. and what holds on none does not hold on any
 pub on-none : (test : Chain → Bool) → someIn chains test ≡ false → (c : Chain) → test c ≡ false
-on-none test e chain-of.Steps = or-left (test chain-of.Steps) (test chain-of.Blocks) (on-some test ∙ e)
-on-none test e chain-of.Blocks = or-right (test chain-of.Steps) (test chain-of.Blocks) (on-some test ∙ e)
+on-none test e chain-of.Steps =
+    or-left (test chain-of.Steps) (test chain-of.Blocks)
+    (or-left (test chain-of.Steps || test chain-of.Blocks) (test chain-of.Links) (on-some test ∙ e))
+on-none test e chain-of.Blocks =
+    or-right (test chain-of.Steps) (test chain-of.Blocks)
+    (or-left (test chain-of.Steps || test chain-of.Blocks) (test chain-of.Links) (on-some test ∙ e))
+on-none test e chain-of.Links = or-right (test chain-of.Steps || test chain-of.Blocks) (test chain-of.Links) (on-some test ∙ e)
 
 -- Without cause 3 no chain is broken
 pub unbroken : (b : List ℕ) → brokenChain b ≡ false → (c : Chain) → brokenOn b c ≡ false
@@ -158,12 +165,13 @@ recordsOn b [] = []
 recordsOn b (c ∷ l) = chainOf b c ++ recordsOn b l
 
 -- how many they are
-pub records-count : (b : List ℕ) → length (recordsOn b chains) ≡ countOn b chain-of.Steps + countOn b chain-of.Blocks
+pub records-count : (b : List ℕ) → length (recordsOn b chains) ≡ countOn b chain-of.Steps + countOn b chain-of.Blocks + countOn b chain-of.Links
 unfolding recordsOn chains
 records-count b =
     let s = chainOf b chain-of.Steps in
     let t = chainOf b chain-of.Blocks in
-    omega (arith, length-append s (t ++ []), length-append {A = ℕ} t [])
+    let u = chainOf b chain-of.Links in
+    omega (arith, length-append s (t ++ (u ++ [])), length-append t (u ++ []), length-append {A = ℕ} u [])
 
 -- a record is among them where it is on one of the chains
 records-member : (b : List ℕ) (i : ℕ) (l : List Chain) → someIn l (isOn b i) ≡ member i (recordsOn b l)
@@ -203,16 +211,14 @@ records-distinct b (c ∷ l) d h =
 
 kinds-distinct : Distinct (map kindOn chains)
 unfolding someIn chains
-kinds-distinct = (refl, (refl, tt))
+kinds-distinct = (refl, (refl, (refl, tt)))
 
--- No record is on both chains
-pub apart : (b : List ℕ) → brokenChain b ≡ false → Each (λ i. member i (chainOf b chain-of.Blocks) ≡ false) (chainOf b chain-of.Steps)
-apart b e =
-    each-map (Placed b chain-of.Steps) (λ i. member i (chainOf b chain-of.Blocks) ≡ false) (chainOf b chain-of.Steps)
-    (λ i h.
-    not-member (Placed b chain-of.Blocks) (chainOf b chain-of.Blocks) i (placed b chain-of.Blocks (unbroken b e chain-of.Blocks))
-    (λ g. let x = h .ofKind in let y = g .ofKind in omega arith))
-    (placed b chain-of.Steps (unbroken b e chain-of.Steps))
+-- No record is on two chains
+pub apart : (b : List ℕ) (c d : Chain) → (kindOn c ≡ kindOn d → ⊥) → brokenChain b ≡ false → Each (λ i. member i (chainOf b d) ≡ false) (chainOf b c)
+apart b c d other e =
+    each-map (Placed b c) (λ i. member i (chainOf b d) ≡ false) (chainOf b c)
+    (λ i h. not-member (Placed b d) (chainOf b d) i (placed b d (unbroken b e d)) (λ g. other (sym (h .ofKind) ∙ g .ofKind)))
+    (placed b c (unbroken b e c))
 
 -- they are not 0, and below R
 records-positive : (b : List ℕ) (l : List Chain) → Each (λ i. 0 < i) (recordsOn b l)
@@ -248,14 +254,14 @@ stray-missing b i = rw (records-member b i chains) (at (eqb i 0) refl)
 
 -- Without cause 3 the head and the chains are together at most R ..
 pub chains-fit : (b : List ℕ) → 0 < recordCount b → brokenChain b ≡ false
-    → countOn b chain-of.Steps + countOn b chain-of.Blocks + 1 ≤ recordCount b
+    → countOn b chain-of.Steps + countOn b chain-of.Blocks + countOn b chain-of.Links + 1 ≤ recordCount b
 chains-fit b p e =
     let fit = distinct-length (recordCount b) (0 ∷ recordsOn b chains) (all-distinct b e) (all-below b p e) in
     omega (arith, records-count b)
 
 -- .. and a record is on no chain just where they are fewer
 pub stray-short : (b : List ℕ) → 0 < recordCount b → brokenChain b ≡ false
-    → strayRecord b ≡ ltb (countOn b chain-of.Steps + countOn b chain-of.Blocks + 1) (recordCount b)
+    → strayRecord b ≡ ltb (countOn b chain-of.Steps + countOn b chain-of.Blocks + countOn b chain-of.Links + 1) (recordCount b)
 unfolding strayRecord
 stray-short b p e =
     distinct-missing (recordCount b) (0 ∷ recordsOn b chains) (stray b) (all-distinct b e) (all-below b p e) (stray-missing b)

@@ -14,7 +14,7 @@ use Rattle.records.specs.Records.{recordCount}
 use Rattle.book.specs.Bounds.{mostRecords, portfolioNumbers, mostBlocks}
 use Rattle.book.specs.Chains.{stepOrder, blockOrder}
 use Rattle.book.specs.Refusals.{wrongSize, wrongHead, brokenOn, brokenChain, wrongFieldOn, wrongField, strayRecord, tooManyOf, tooManyBlocks}
-use Rattle.book.specs.Refusals.{wrongHours, firstCause, ownCauses, refusal}
+use Rattle.book.specs.Refusals.{wrongHours, wrongLink, firstCause, ownCauses, refusal}
 use Rattle.book.specs.Passes.{surveyed, nextFound}
 use Rattle.book.specs.Answers.{reading, numberOf}
 use Rattle.book.specs.declared.Chain.the-variants as chain-of
@@ -82,24 +82,28 @@ refusal-size b e = rw e
 
 -- .. and without it the others are looked for
 pub without-size : (b : List ℕ) → wrongSize b ≡ false
-    → Left b 0 ((wrongHead b, 2) ∷ (brokenChain b, 3) ∷ (wrongField b, 4) ∷ (strayRecord b, 5) ∷ (tooManyBlocks b, 6) ∷ (wrongHours b, 9) ∷ [])
+    → Left b 0
+    ((wrongHead b, 2) ∷ (brokenChain b, 3) ∷ (wrongField b, 4) ∷ (strayRecord b, 5) ∷ (tooManyBlocks b, 6) ∷ (wrongHours b, 9) ∷ (wrongLink b, 10) ∷ [])
 unfolding refusal ownCauses firstCause Left
 without-size b e = rw e
 
 -- 3 and 4 from what the walks along the chains found
-pub broken-found : (b : List ℕ) (s t : Surveyed) → s ≡ surveyed b chain-of.Steps → t ≡ surveyed b chain-of.Blocks → (s .broken || t .broken) ≡ brokenChain b
+pub broken-found : (b : List ℕ) (s t u : Surveyed) → s ≡ surveyed b chain-of.Steps → t ≡ surveyed b chain-of.Blocks → u ≡ surveyed b chain-of.Links
+    → (s .broken || t .broken || u .broken) ≡ brokenChain b
 unfolding brokenChain surveyed
-broken-found b s t p q = rw (p, q) (on-some (brokenOn b))
+broken-found b s t u p q l = rw (p, q, l) (on-some (brokenOn b))
 
-pub field-found : (b : List ℕ) (s t : Surveyed) → s ≡ surveyed b chain-of.Steps → t ≡ surveyed b chain-of.Blocks → (s .outside || t .outside) ≡ wrongField b
+pub field-found : (b : List ℕ) (s t u : Surveyed) → s ≡ surveyed b chain-of.Steps → t ≡ surveyed b chain-of.Blocks → u ≡ surveyed b chain-of.Links
+    → (s .outside || t .outside || u .outside) ≡ wrongField b
 unfolding wrongField surveyed
-field-found b s t p q = rw (p, q) (on-some (wrongFieldOn b))
+field-found b s t u p q l = rw (p, q, l) (on-some (wrongFieldOn b))
 
 -- 5 from the chains' lengths, where 1 and 3 do not hold
-pub stray-found : (b : List ℕ) (s t : Surveyed) (short : Bool) (n : ℕ) → s ≡ surveyed b chain-of.Steps → t ≡ surveyed b chain-of.Blocks
-    → n ≡ recordCount b → short ≡ ltb (s .length + t .length + 1) n → wrongSize b ≡ false → brokenChain b ≡ false → short ≡ strayRecord b
+pub stray-found : (b : List ℕ) (s t u : Surveyed) (short : Bool) (n : ℕ)
+    → s ≡ surveyed b chain-of.Steps → t ≡ surveyed b chain-of.Blocks → u ≡ surveyed b chain-of.Links
+    → n ≡ recordCount b → short ≡ ltb (s .length + t .length + u .length + 1) n → wrongSize b ≡ false → brokenChain b ≡ false → short ≡ strayRecord b
 unfolding surveyed
-stray-found b s t short n p q r e sized unbroken = e ∙ rw (p, q, r) (sym (stray-short b (count-bounds b sized .0) unbroken))
+stray-found b s t u short n p q l r e sized unbroken = e ∙ rw (p, q, l, r) (sym (stray-short b (count-bounds b sized .0) unbroken))
 
 -- 6 from the length of the chain of blocks and the portfolios
 pub many-found : (b : List ℕ) (t : Surveyed) (crowded : Bool) → t ≡ surveyed b chain-of.Blocks → crowded ≡ someBelow portfolioNumbers (tooManyOf b)
@@ -108,7 +112,7 @@ unfolding tooManyBlocks surveyed
 many-found b t crowded q e = rw (q, e)
 
 -- THE ANSWER
--- The lengths of the two chains are how many steps and blocks there are
+-- The lengths of their chains are how many steps and blocks there are
 pub steps-counted : (b : List ℕ) (s : Surveyed) → s ≡ surveyed b chain-of.Steps → s .length ≡ length (stepOrder b)
 unfolding surveyed stepOrder
 steps-counted b s p = rw p
@@ -208,7 +212,7 @@ first-append m (cause ∷ l) n o = at (cause .0) (first-append (cause .1) l n (o
 
 own-ordered : (b : List ℕ) → Ordered 0 (ownCauses b)
 unfolding ownCauses
-own-ordered b = (omega arith, (omega arith, (omega arith, (omega arith, (omega arith, (omega arith, (omega arith, tt)))))))
+own-ordered b = (omega arith, (omega arith, (omega arith, (omega arith, (omega arith, (omega arith, (omega arith, (omega arith, tt))))))))
 
 -- None is given without its cause ..
 pub with-cause : (b : List ℕ) → (refusal b ≡ 0 → ⊥) → holds (ownCauses b) (refusal b) ≡ true

@@ -6,12 +6,16 @@ use Prim.Native.Nat.{ℕ}
 abbrev pub mostRecords : ℕ
 mostRecords = 2048
 
--- The editions that there are, in the head: 1 and 2
+-- The editions that there are, in the head: 1 to 3
 abbrev pub firstEdition : ℕ
 firstEdition = 1
 
 abbrev pub lastEdition : ℕ
-lastEdition = 2
+lastEdition = 3
+
+-- The first edition with links
+abbrev pub firstLinkEdition : ℕ
+firstLinkEdition = 3
 
 -- The last portfolio: 1 to 255
 abbrev pub lastPortfolio : ℕ

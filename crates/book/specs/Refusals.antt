@@ -1,4 +1,4 @@
--- The causes for which a book is refused, 1 to 6 in the words of document 01, "Refused books and calls", and 9 in those of document 02.
+-- The causes for which a book is refused, 1 to 6 in the words of document 01, "Refused books and calls", 9 and 10 in those of document 02.
 -- The causes of a call (7 a result buffer, 8 an hour or a set) belong to the calls; they are looked for after these. Assumes nothing.
 use Prim.Native.Nat.{ℕ, _*_}
 use mathlib.Core.Path.{_≡_}
@@ -11,12 +11,14 @@ use Rattle.records.specs.Layout.{recordSize, headRestOffset, headRestSize, last
 use Rattle.book.specs.Tests.{within, someBelow, someIn, countIn}
 use Rattle.rules.specs.Orders.{maxPrice, Limits, limits}
 use Rattle.rules.specs.Day.{springHours, autumnHours, isCounted}
-use Rattle.records.specs.Records.{recordCount, dayHours, edition, kind, sideByte, number, hourByte, portfolio, recordAt, hoursSet}
-use Rattle.book.specs.Bounds.{mostRecords, firstEdition, lastEdition, lastPortfolio, portfolioNumbers, mostStepQuantity, fewestHours, mostBlocks}
+use Rattle.records.specs.Records.{recordCount, firstLink, dayHours, edition, kind, sideByte, number, hourByte, portfolio, recordAt, linkRest, hoursSet}
+use Rattle.book.specs.Bounds.{mostRecords, firstEdition, lastEdition, firstLinkEdition, lastPortfolio, portfolioNumbers}
+use Rattle.book.specs.Bounds.{mostStepQuantity, fewestHours, mostBlocks}
 use Rattle.book.specs.Hours.{countedHours}
-use Rattle.book.specs.Chains.{chains, kindOn, numbered, chainOf, isOn, countOn}
+use Rattle.book.specs.Chains.{chains, kindOn, numbered, chainOf, isOn, countOn, blockOrder, links}
 use Rattle.records.specs.declared.Step.{Step}
 use Rattle.records.specs.declared.Block.{Block}
+use Rattle.records.specs.declared.Link.{Link}
 use Rattle.records.specs.declared.Record.{Record}
 use Rattle.records.specs.declared.Record.the-variants as record-of
 use Rattle.book.specs.declared.Chain.{Chain}
@@ -26,9 +28,15 @@ use Rattle.book.specs.declared.Chain.the-variants as chain-of
 unfoldable pub wrongSize : List ℕ → Bool
 wrongSize b = not (eqb (length b) (recordSize * recordCount b)) || ltb (length b) recordSize || not (within 1 (recordCount b) mostRecords)
 
--- 2, the head: hours not 23, 24 or 25, an edition that there is not, or bytes 8-15 not all 0
+-- Bytes 8-9 of the head are not 0 in an edition without links
+unfoldable pub linksTooEarly : List ℕ → Bool
+linksTooEarly b = ltb (edition b) firstLinkEdition && not (eqb (firstLink b) 0)
+
+-- 2, the head: hours not 23, 24 or 25, an edition that there is not, bytes 8-9 not 0 in an edition without links, or bytes 10-15 not all 0
 unfoldable pub wrongHead : List ℕ → Bool
-wrongHead b = not (within springHours (dayHours b) autumnHours) || not (within firstEdition (edition b) lastEdition) || nonzero b headRestOffset headRestSize
+wrongHead b =
+    not (within springHours (dayHours b) autumnHours) || not (within firstEdition (edition b) lastEdition) || linksTooEarly b
+    || nonzero b headRestOffset headRestSize
 
 -- 3, at record i of a chain, after the number `last`: an index of R or more, a kind not the chain's, or, if numbers must rise, one that does not
 unfoldable pub misplaced : List ℕ → Chain → ℕ → ℕ → Bool
@@ -66,10 +74,15 @@ stepInRange b i s = within 0 (sideByte b i) lastSide && stepFits s
 unfoldable pub blockInRange : List ℕ → ℕ → Block → Bool
 blockInRange b i s = within 0 (sideByte b i) lastSide && eqb (hourByte b i) 0 && blockFits (limits (edition b)) s
 
--- Record i, read as what it is, has its fields in their ranges; one that is neither has none (on a chain it is cause 1 or 3)
+-- Record i as a link: its byte 1 and its bytes 8-15 are 0
+unfoldable pub linkInRange : List ℕ → ℕ → Bool
+linkInRange b i = eqb (sideByte b i) 0 && not (linkRest b i)
+
+-- Record i, read as what it is, has its fields in their ranges; one that is none of these has none (on a chain it is cause 1 or 3)
 unfoldable pub recordInRange : List ℕ → ℕ → Record → Bool
 recordInRange b i (record-of.Step s) = stepInRange b i s
 recordInRange b i (record-of.Block s) = blockInRange b i s
+recordInRange b i (record-of.Link l) = linkInRange b i
 recordInRange b i record-of.Other = true
 
 -- 4, at record i: a field outside its range
@@ -108,6 +121,7 @@ tooManyBlocks b = ltb mostBlocks (countOn b chain-of.Blocks) || someBelow portfo
 unfoldable pub uncounted : List ℕ → Record → Bool
 uncounted b (record-of.Step s) = not (isCounted (dayHours b) (s .hour))
 uncounted b (record-of.Block s) = ltb (countedHours (dayHours b) (s .hours)) fewestHours
+uncounted b (record-of.Link l) = false
 uncounted b record-of.Other = false
 
 -- 9, along a chain: some record is such a one
@@ -117,6 +131,22 @@ uncountedOn b c = someIn (chainOf b c) (λ i. uncounted b (recordAt b i))
 -- 9: a step for hour 3 or a block with fewer than two counted hours on a 23-hour day
 unfoldable pub wrongHours : List ℕ → Bool
 wrongHours b = eqb (dayHours b) springHours && someIn chains (uncountedOn b)
+
+-- Record i has the number n
+unfoldable pub isNumber : List ℕ → ℕ → ℕ → Bool
+isNumber b n i = eqb (number b i) n
+
+-- A block of the book has the number n
+unfoldable pub hasBlock : List ℕ → ℕ → Bool
+hasBlock b n = someIn (blockOrder b) (isNumber b n)
+
+-- 10, of a link: it names a block not in the book (a parent of 0 included: no block has that number), or its parent's number is not below its child's
+unfoldable pub misnamed : List ℕ → Link → Bool
+misnamed b l = not (hasBlock b (l .child)) || not (hasBlock b (l .parent)) || leb (l .child) (l .parent)
+
+-- 10: some link is such a one
+unfoldable pub wrongLink : List ℕ → Bool
+wrongLink b = someIn (links b) (misnamed b)
 
 -- The number of the first cause of a list that holds; 0 where none does
 unfoldable pub firstCause : List (Bool × ℕ) → ℕ
@@ -133,6 +163,7 @@ ownCauses b =
     ∷ (strayRecord b, 5)
     ∷ (tooManyBlocks b, 6)
     ∷ (wrongHours b, 9)
+    ∷ (wrongLink b, 10)
     ∷ []
 
 -- The number for which a book by itself is refused; 0, which is ours, where it is accepted
@@ -148,3 +179,4 @@ pub record Accepted (b : List ℕ) : Type 0 where
   pub noStray : strayRecord b ≡ false
   pub notTooMany : tooManyBlocks b ≡ false
   pub rightHours : wrongHours b ≡ false
+  pub rightLinks : wrongLink b ≡ false

@@ -14,10 +14,13 @@ pub const CHANGE_HOUR: u32 = 3;
 
 pub const CHANGE_BIT: u32 = 4;
 
-// The editions that there are, in the head: 1 and 2.
+// The editions that there are, in the head: 1 to 3.
 pub const FIRST_EDITION: u8 = 1;
 
-pub const LAST_EDITION: u8 = 2;
+pub const LAST_EDITION: u8 = 3;
+
+// The first edition with links.
+pub const FIRST_LINK_EDITION: u8 = 3;
 
 // The last portfolio: 1 to 255.
 pub const LAST_PORTFOLIO: u32 = 255;

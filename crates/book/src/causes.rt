@@ -1,18 +1,19 @@
-// The causes for which a book by itself is refused, 1 to 6 (document 01, "Refused books and calls") and 9 (document 02), and the first of them that holds.
-// Assumes nothing.
+// The causes for which a book by itself is refused, 1 to 6 (document 01, "Refused books and calls"), 9 and 10 (document 02), and the first
+// of them that holds. Assumes nothing.
 ghost use mathlib.Core.Path.{_≡_};
 ghost use mathlib.Core.Bool.{false};
 ghost use Prim.Native.Nat.{_+_};
 ghost use lib.Dec.{ltb};
 ghost use Rattle.book.specs.Bounds.{portfolioNumbers};
 ghost use Rattle.book.specs.Tests.{someBelow};
-ghost use Rattle.book.specs.Refusals.{wrongSize, wrongHead, tooManyOf, wrongHours, refusal};
+ghost use Rattle.book.specs.Refusals.{wrongSize, linksTooEarly, wrongHead, tooManyOf, wrongHours, wrongLink, refusal};
 ghost use Rattle.book.specs.Passes.{surveyed, nextFound};
-ghost use Rattle.book.specs.declared.Chain.the-variants.{Steps, Blocks};
+ghost use Rattle.book.specs.declared.Chain.the-variants.{Steps, Blocks, Links};
 use crate::Chain;
 use crate::Surveyed;
 use crate::bounds::AUTUMN_HOURS;
 use crate::bounds::FIRST_EDITION;
+use crate::bounds::FIRST_LINK_EDITION;
 use crate::bounds::LAST_EDITION;
 use crate::bounds::MOST_BLOCKS;
 use crate::bounds::MOST_RECORDS;
@@ -20,6 +21,7 @@ use crate::bounds::PORTFOLIO_NUMBERS;
 use crate::bounds::SPRING_HOURS;
 use crate::chains::counts_by_portfolio;
 use crate::chains::is_uncounted_on;
+use crate::links::has_wrong_link;
 use crate::ranges::is_within;
 use crate::ranges::most_blocks_of_portfolio;
 use records::HEAD_REST_OFFSET;
@@ -27,6 +29,7 @@ use records::HEAD_REST_SIZE;
 use records::RECORD_SIZE;
 use records::day_hours;
 use records::edition_of;
+use records::first_link;
 use records::is_nonzero;
 use records::record_count;
 
@@ -39,6 +42,13 @@ pub fn has_wrong_size(book: &[u8]) -> bool
     (book.len() != size)
         | (book.len() < RECORD_SIZE as usize)
         | !is_within(1, count as u32, MOST_RECORDS as u32)
+}
+
+// A first link in an edition without links.
+fn has_early_links(book: &[u8]) -> bool
+    ensures { λ r. ⌜ r ≡ linksTooEarly (now (book .entry)) ⌝ }
+{
+    (edition_of(book) < FIRST_LINK_EDITION) & (first_link(book) != 0)
 }
 
 // 2: the head.
@@ -55,14 +65,15 @@ fn has_wrong_head(book: &[u8]) -> bool
             edition_of(book) as u32,
             LAST_EDITION as u32,
         )
+        | has_early_links(book)
         | is_nonzero(book, HEAD_REST_OFFSET, HEAD_REST_SIZE)
 }
 
 // 5, where 3 does not hold: the records of the chains are then distinct, so one is missing just where head and chains are fewer than R.
-fn are_short(steps: u16, blocks: u16, count: u16) -> bool
-    ensures { λ r. ⌜ r ≡ ltb (steps + blocks + 1) count ⌝ }
+fn are_short(steps: u16, blocks: u16, links: u16, count: u16) -> bool
+    ensures { λ r. ⌜ r ≡ ltb (steps + blocks + links + 1) count ⌝ }
 {
-    (steps as u32) + (blocks as u32) + 1 < (count as u32)
+    (steps as u32) + (blocks as u32) + (links as u32) + 1 < (count as u32)
 }
 
 // 6, of one portfolio: more blocks than the edition's limit.
@@ -88,7 +99,19 @@ fn has_wrong_hours(book: &[u8]) -> bool
     if day_hours(book) != SPRING_HOURS {
         return false;
     }
-    is_uncounted_on(book, Chain::Steps) | is_uncounted_on(book, Chain::Blocks)
+    is_uncounted_on(book, Chain::Steps)
+        | is_uncounted_on(book, Chain::Blocks)
+        | is_uncounted_on(book, Chain::Links)
+}
+
+// 10, looked for only where no other cause holds: there are then at most 32 blocks.
+fn finds_wrong_link(book: &[u8], before: u8) -> bool
+    ensures { λ r. ⌜ (before ≡ 0 → r ≡ wrongLink (now (book .entry))) ⌝ }
+{
+    if before != 0 {
+        return false;
+    }
+    has_wrong_link(book)
 }
 
 // One cause more: the number that those before it gave, else, where it holds, its own.
@@ -102,16 +125,25 @@ fn next_found(before: u8, holds: bool, number: u8) -> u8
 }
 
 // The number of the first cause that holds, where 1 does not; 0 where none does. What the walks along the chains found is handed in.
-pub fn refusal_of(book: &[u8], steps: Surveyed, blocks: Surveyed) -> u8
-    requires { ⌜ (wrongSize (now book) ≡ false) × (steps ≡ surveyed (now book) Steps) × (blocks ≡ surveyed (now book) Blocks) ⌝ }
+pub fn refusal_of(book: &[u8], steps: Surveyed, blocks: Surveyed, links: Surveyed) -> u8
+    requires { ⌜ (wrongSize (now book) ≡ false) × (steps ≡ surveyed (now book) Steps) × (blocks ≡ surveyed (now book) Blocks)
+        × (links ≡ surveyed (now book) Links) ⌝ }
     ensures { λ r. ⌜ r ≡ refusal (now (book .entry)) ⌝ }
 {
     let head = next_found(0, has_wrong_head(book), 2);
-    let broken = next_found(head, steps.broken | blocks.broken, 3);
-    let outside = next_found(broken, steps.outside | blocks.outside, 4);
-    let short = are_short(steps.length, blocks.length, record_count(book));
+    let is_broken = steps.broken | blocks.broken | links.broken;
+    let broken = next_found(head, is_broken, 3);
+    let is_outside = steps.outside | blocks.outside | links.outside;
+    let outside = next_found(broken, is_outside, 4);
+    let short = are_short(
+        steps.length,
+        blocks.length,
+        links.length,
+        record_count(book),
+    );
     let stray = next_found(outside, short, 5);
     let many = (MOST_BLOCKS < blocks.length) | has_crowded_portfolio(book);
     let crowded = next_found(stray, many, 6);
-    next_found(crowded, has_wrong_hours(book), 9)
+    let uncounted = next_found(crowded, has_wrong_hours(book), 9);
+    next_found(uncounted, finds_wrong_link(book, uncounted), 10)
 }

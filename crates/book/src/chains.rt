@@ -14,8 +14,10 @@ use crate::bounds::PORTFOLIO_NUMBERS;
 use crate::ranges::is_out_of_range;
 use crate::ranges::is_uncounted;
 use records::BLOCK_KIND;
+use records::LINK_KIND;
 use records::STEP_KIND;
 use records::first_block;
+use records::first_link;
 use records::first_step;
 use records::kind_of;
 use records::next_of;
@@ -30,6 +32,7 @@ fn first_on(book: &[u8], chain: Chain) -> u16
     match chain {
         Chain::Steps => first_step(book),
         Chain::Blocks => first_block(book),
+        Chain::Links => first_link(book),
     }
 }
 
@@ -40,6 +43,7 @@ fn kind_on(chain: Chain) -> u8
     match chain {
         Chain::Steps => STEP_KIND,
         Chain::Blocks => BLOCK_KIND,
+        Chain::Links => LINK_KIND,
     }
 }
 
@@ -50,6 +54,7 @@ fn is_numbered(chain: Chain) -> bool
     match chain {
         Chain::Steps => true,
         Chain::Blocks => true,
+        Chain::Links => true,
     }
 }
 

@@ -5,9 +5,10 @@ ghost use Rattle.book.specs.Answers.{reading};
 use crate::chains::survey_of;
 
 mod bounds; // how large a book and its fields may be
-mod causes; // the causes 1 to 6 and 9, and the first of them that holds
+mod causes; // the causes 1 to 6, 9 and 10, and the first of them that holds
 mod chains; // records that hang together by `next`
 pub mod hours; // which hours count on their day, and how often
+mod links; // cause 10, along the links
 mod ranges; // the ranges of a record's fields
 
 pub use bounds::MAX_PRICE;
@@ -18,6 +19,7 @@ pub use bounds::MOST_RECORDS;
 pub enum Chain {
     Steps,
     Blocks,
+    Links,
 }
 
 // What one walk along a chain finds out: causes 3 and 4 on it, and how many records it has.
@@ -27,13 +29,13 @@ pub struct Surveyed {
     pub length: u16,
 }
 
-// The answer of `read`: accepted, with how many steps and blocks are on the two chains, or refused with document 01's number.
+// The answer of `read`: accepted, with how many steps and blocks are on their chains, or refused with the papers' number.
 pub enum Reading {
     Accepted { steps: u16, blocks: u16 },
     Refused(u8),
 }
 
-// Whether a book is accepted, and if not the lowest of the numbers 1 to 6 and 9 whose cause holds.
+// Whether a book is accepted, and if not the lowest of the numbers 1 to 6, 9 and 10 whose cause holds.
 pub fn read(book: &[u8]) -> Reading
     ensures { λ r. ⌜ r ≡ reading (now (book .entry)) ⌝ }
 {
@@ -42,7 +44,8 @@ pub fn read(book: &[u8]) -> Reading
     }
     let steps = survey_of(book, Chain::Steps);
     let blocks = survey_of(book, Chain::Blocks);
-    let number = causes::refusal_of(book, steps, blocks);
+    let links = survey_of(book, Chain::Links);
+    let number = causes::refusal_of(book, steps, blocks, links);
     if number != 0 {
         return Reading::Refused(number);
     }

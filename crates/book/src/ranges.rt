@@ -3,7 +3,7 @@
 ghost use mathlib.Core.Path.{_≡_};
 ghost use Rattle.book.specs.Tests.{within};
 ghost use Rattle.rules.specs.Orders.{limits};
-ghost use Rattle.book.specs.Refusals.{stepFits, blockFits, stepInRange, blockInRange, outOfRange, uncounted};
+ghost use Rattle.book.specs.Refusals.{stepFits, blockFits, stepInRange, blockInRange, linkInRange, outOfRange, uncounted};
 ghost use Rattle.records.specs.Records.{recordAt};
 use crate::bounds::FEWEST_HOURS;
 use crate::bounds::FIRST_BLOCK_QUANTITY;
@@ -23,6 +23,7 @@ use records::Record;
 use records::Step;
 use records::day_hours;
 use records::edition_of;
+use records::has_link_rest;
 use records::hour_byte;
 use records::hour_count;
 use records::record_at;
@@ -93,6 +94,13 @@ fn is_block_in_range(book: &[u8], i: u16, block: Block) -> bool
         & block_fits(edition_of(book), block)
 }
 
+// Whether record i, a link, has its bytes 1 and 8-15 at 0.
+fn is_link_in_range(book: &[u8], i: u16) -> bool
+    ensures { λ r. ⌜ r ≡ linkInRange (now (book .entry)) i ⌝ }
+{
+    (side_byte(book, i) == 0) & !has_link_rest(book, i)
+}
+
 // Whether record i has a field outside its range.
 pub fn is_out_of_range(book: &[u8], i: u16) -> bool
     ensures { λ r. ⌜ r ≡ outOfRange (now (book .entry)) i ⌝ }
@@ -101,6 +109,7 @@ pub fn is_out_of_range(book: &[u8], i: u16) -> bool
     match found {
         Record::Step(step) => !is_step_in_range(book, i, step),
         Record::Block(block) => !is_block_in_range(book, i, block),
+        Record::Link(_) => !is_link_in_range(book, i),
         Record::Other => false,
     }
 }
@@ -114,6 +123,6 @@ pub fn is_uncounted(book: &[u8], i: u16) -> bool
     match found {
         Record::Step(step) => !is_counted(day, step.hour as u32),
         Record::Block(block) => counted_hours(day, block.hours) < FEWEST_HOURS,
-        Record::Other => false,
+        Record::Link(_) | Record::Other => false,
     }
 }

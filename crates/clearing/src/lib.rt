@@ -17,6 +17,7 @@ use orders::Blocks;
 use orders::Steps;
 use orders::blocks_of;
 use orders::layout::HOURS;
+use orders::parents_of;
 use orders::steps_of;
 use records::day_hours;
 use records::record_count;
@@ -57,6 +58,7 @@ fn clear_within(
     let prices = steps.prices;
     let quantities = steps.quantities;
     let ends = steps.ends;
+    let parents = parents_of(book);
     let prepared = prepare(
         day,
         &sides,
@@ -64,6 +66,7 @@ fn clear_within(
         &quantities,
         ends,
         blocks,
+        parents,
         unit_prices,
         gap,
     );

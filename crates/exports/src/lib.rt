@@ -1,14 +1,18 @@
 // The public calls for programs in other languages: numbers and byte slices only. Assumes nothing.
 ghost use mathlib.Core.Path.{_≡_};
+ghost use Prim.Native.Nat.{_<_, _^_};
 ghost use lib.ListN.{length};
 ghost use Rattle.book.specs.Refusals.{refusal};
 ghost use Rattle.result.specs.Promise.{clearRefusal, resultAfter, Demands};
 ghost use Rattle.pricing.specs.Answers.{hourAnswer};
 ghost use Rattle.sheet.specs.Sheet.{sheetOf};
+ghost use Rattle.family_sheet.specs.FamilySheet.{familySheetOf};
 ghost use Rattle.exports.specs.Parts.{answerPart, bufferAfter};
 use book::Reading;
 use book::read;
 use clearing::clear;
+use family_sheet::MOST_FAMILY_SHEET;
+use family_sheet::families;
 use pricing::HourAnswer;
 use pricing::price;
 use result::Clearing;
@@ -80,6 +84,20 @@ pub extern "C" fn auction_clear(book: &[u8], result: &mut [u8]) -> u32
     }
 }
 
+// Bytes put at the start of `out` where they have room, else it stays as it was; how many they are.
+fn put_where_room(out: &mut [u8], bytes: &[u8]) -> u32
+    requires { ⌜ length (now bytes) < 2 ^ 32 ⌝ }
+    ensures answer { λ r. ⌜ r ≡ length (now (bytes .entry)) ⌝ }
+    ensures bytes { λ _. ⌜ now (out .exit) ≡ bufferAfter (now (bytes .entry)) (now (out .entry)) ⌝ }
+{
+    let count = bytes.len();
+    if out.len() < count {
+        return count as u32;
+    }
+    put_text(out, 0, bytes);
+    count as u32
+}
+
 // The length of what is written of a book, at most 781. The bytes are put at the start of `out` where they have room; else it stays as it was.
 #[no_mangle]
 pub extern "C" fn auction_sheet(book: &[u8], out: &mut [u8]) -> u32
@@ -88,9 +106,16 @@ pub extern "C" fn auction_sheet(book: &[u8], out: &mut [u8]) -> u32
 {
     let mut bytes = [0u8; MOST_SHEET];
     let count = sheet(book, &mut bytes);
-    if out.len() < count {
-        return count as u32;
-    }
-    put_text(out, 0, &bytes[..count]);
-    count as u32
+    put_where_room(out, &bytes[..count])
+}
+
+// The length of what is written of a book's families, at most 587. The bytes are put at the start of `out` where they have room; else it stays as it was.
+#[no_mangle]
+pub extern "C" fn auction_families(book: &[u8], out: &mut [u8]) -> u32
+    ensures answer { λ r. ⌜ r ≡ length (familySheetOf (now (book .entry))) ⌝ }
+    ensures bytes { λ _. ⌜ now (out .exit) ≡ bufferAfter (familySheetOf (now (book .entry))) (now (out .entry)) ⌝ }
+{
+    let mut bytes = [0u8; MOST_FAMILY_SHEET];
+    let written = families(book, &mut bytes);
+    put_where_room(out, &bytes[..written])
 }

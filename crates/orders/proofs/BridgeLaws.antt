@@ -119,7 +119,7 @@ day-quiet b a =
     }
 
 -- BLOCKS OUT OF THEIR COLUMNS
-block-same : (b : List ℕ) (k : ℕ) → BlockRecord b k
+pub block-same : (b : List ℕ) (k : ℕ) → BlockRecord b k
     → blockOn b k ≡ blockOf (number b k) (blockSideAt b k) (blockHoursAt b k) (blockPriceAt b k) (blockQuantityAt b k)
 unfolding blockFrom blockAt
 block-same b k r =

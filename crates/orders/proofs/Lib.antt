@@ -5,5 +5,6 @@ pub mod FrontLaws
 pub mod RecordLaws
 pub mod HourLaws
 pub mod BridgeLaws
+pub mod LinkLaws
 pub mod PlaceLaws
 pub mod WorkedBookLaws

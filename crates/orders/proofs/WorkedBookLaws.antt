@@ -1,15 +1,17 @@
--- S1 TO S10, AND THE DAYS OF 23 AND 25 HOURS, FROM BOOK BYTES: each book is accepted, its orders are those of the rules' table, and so what is published of it is what the table says.
--- Reading computes; the rules are not computed again. Assumes nothing.
+-- S1 TO S10, THE DAYS OF 23 AND 25 HOURS AND LINKS, FROM BOOK BYTES: each book is accepted, its orders are those of the rules' table, and so what is published
+-- of it is what the table says. Reading computes; the rules are not computed again. Assumes nothing.
 use Prim.Native.Nat.{ℕ}
 use mathlib.Core.Path.{_≡_, refl, ap, _∙_}
 use mathlib.Core.List.{List, [], _∷_}
+use lib.ListN.{replicate}
 use Rattle.records.specs.Bytes.{u16At, u24At, u32At, nonzero}
 use Rattle.book.specs.Tests.{within, someBelow, someIn, countIn}
 use Rattle.rules.specs.Orders.{limits}
-use Rattle.records.specs.Records.{stepAt, blockAt, recordAt, hoursSet}
-use Rattle.book.specs.Chains.{chainFrom, chains, isOn, stepOrder, blockOrder}
+use Rattle.records.specs.Records.{stepAt, blockAt, linkAt, linkRest, recordAt, hoursSet}
+use Rattle.book.specs.Chains.{chainFrom, chains, isOn, stepOrder, blockOrder, linkOrder, links}
 use Rattle.book.specs.Refusals.{
   wrongSize,
+  linksTooEarly,
   wrongHead,
   misplaced,
   broken,
@@ -31,6 +33,11 @@ use Rattle.book.specs.Refusals.{
   wrongHours,
   uncounted,
   uncountedOn,
+  linkInRange,
+  isNumber,
+  hasBlock,
+  misnamed,
+  wrongLink,
   firstCause,
   ownCauses,
   refusal,
@@ -38,10 +45,11 @@ use Rattle.book.specs.Refusals.{
 use Rattle.book.specs.Hours.{countedHours}
 use Rattle.rules.specs.Day.{weight, isCounted, sumTo, daySum}
 use Rattle.rules.specs.Outcome.{published}
-use Rattle.rules.specs.WorkedDays.{WorkedDay, workedDays, changeDays, Hold}
-use Rattle.rules.proofs.WorkedDayLaws.{worked-days-hold, change-days-hold}
-use Rattle.orders.specs.Bridge.{stepFrom, orderFrom, blockFrom, ordersOf}
-use Rattle.orders.specs.WorkedBooks.{chained, bookOn, workedBooks, changeBooks, EachWorked}
+use Rattle.rules.specs.WorkedDays.{WorkedDay, workedDays, changeDays, linkedDays, Hold}
+use Rattle.rules.proofs.WorkedDayLaws.{worked-days-hold, change-days-hold, linked-days-hold}
+use Rattle.orders.specs.Bridge.{stepFrom, orderFrom, blockFrom, linkFrom, ordersOf}
+use Rattle.orders.specs.Columns.{blockRecords, padded, parentAmong, placeAmong, parentPlaceIn, parentPlaceAt, parentColumn}
+use Rattle.orders.specs.WorkedBooks.{chained, bookWith, workedBooks, changeBooks, linkedBooks, familyBook, EachWorked}
 
 -- Every book of a list is accepted
 AllAccepted : List (List ℕ) → Type 0
@@ -67,13 +75,13 @@ worked (b ∷ books) (d ∷ days) a r h = (
 )
 
 books-accepted : AllAccepted workedBooks
-unfolding AllAccepted workedBooks bookOn chained refusal ownCauses firstCause wrongSize wrongHead brokenChain brokenOn broken misplaced wrongField wrongFieldOn
+unfolding AllAccepted workedBooks bookWith chained refusal ownCauses firstCause wrongSize linksTooEarly wrongHead brokenChain brokenOn broken misplaced wrongField wrongFieldOn
     outOfRange recordInRange stepInRange blockInRange stepFits blockFits strayRecord stray tooManyBlocks tooManyOf ownedBy within someBelow someIn countIn
-    nonzero limits hoursSet recordAt stepAt blockAt chainFrom chains isOn u16At u24At u32At wrongHours
+    nonzero limits hoursSet recordAt stepAt blockAt chainFrom chains isOn linkOrder links u16At u24At u32At wrongHours wrongLink
 books-accepted = (refl, (refl, (refl, (refl, (refl, (refl, (refl, (refl, (refl, (refl, tt))))))))))
 
 books-read : AllRead workedBooks workedDays
-unfolding AllRead workedBooks workedDays bookOn chained ordersOf orderFrom stepFrom blockFrom stepAt blockAt stepOrder blockOrder chainFrom u16At u24At u32At
+unfolding AllRead workedBooks workedDays bookWith chained ordersOf orderFrom stepFrom blockFrom stepAt blockAt stepOrder blockOrder linkOrder chainFrom u16At u24At u32At
 books-read = (refl, (refl, (refl, (refl, (refl, (refl, (refl, (refl, (refl, (refl, tt))))))))))
 
 -- S1 TO S10
@@ -82,15 +90,46 @@ worked-books-hold = worked workedBooks workedDays books-accepted books-read work
 
 -- THE DAYS OF 23 AND 25 HOURS
 change-books-accepted : AllAccepted changeBooks
-unfolding AllAccepted changeBooks bookOn chained refusal ownCauses firstCause wrongSize wrongHead brokenChain brokenOn broken misplaced wrongField wrongFieldOn
+unfolding AllAccepted changeBooks bookWith chained refusal ownCauses firstCause wrongSize linksTooEarly wrongHead brokenChain brokenOn broken misplaced wrongField wrongFieldOn
     outOfRange recordInRange stepInRange blockInRange stepFits blockFits strayRecord stray tooManyBlocks tooManyOf ownedBy within someBelow someIn countIn
-    nonzero limits hoursSet recordAt stepAt blockAt chainFrom chains isOn u16At u24At u32At
-    wrongHours uncountedOn uncounted countedHours isCounted weight daySum sumTo
+    nonzero limits hoursSet recordAt stepAt blockAt chainFrom chains isOn linkOrder links u16At u24At u32At
+    wrongLink wrongHours uncountedOn uncounted countedHours isCounted weight daySum sumTo
 change-books-accepted = (refl, (refl, (refl, (refl, tt))))
 
 change-books-read : AllRead changeBooks changeDays
-unfolding AllRead changeBooks changeDays bookOn chained ordersOf orderFrom stepFrom blockFrom stepAt blockAt stepOrder blockOrder chainFrom u16At u24At u32At
+unfolding AllRead changeBooks changeDays bookWith chained ordersOf orderFrom stepFrom blockFrom stepAt blockAt stepOrder blockOrder linkOrder chainFrom u16At u24At u32At
 change-books-read = (refl, (refl, (refl, (refl, tt))))
 
 pub change-books-hold : EachWorked changeBooks changeDays
 change-books-hold = worked changeBooks changeDays change-books-accepted change-books-read change-days-hold
+
+-- THE DAYS WITH LINKED BLOCKS
+linked-books-accepted : AllAccepted linkedBooks
+unfolding AllAccepted linkedBooks bookWith chained refusal ownCauses firstCause wrongSize linksTooEarly wrongHead brokenChain brokenOn broken misplaced wrongField
+    wrongFieldOn outOfRange recordInRange stepInRange blockInRange linkInRange stepFits blockFits strayRecord stray tooManyBlocks tooManyOf ownedBy within someBelow someIn
+    countIn nonzero limits hoursSet recordAt stepAt blockAt linkAt linkRest chainFrom chains isOn blockOrder linkOrder links u16At u24At u32At wrongHours
+    isNumber hasBlock misnamed wrongLink
+linked-books-accepted = (refl, (refl, (refl, (refl, (refl, tt)))))
+
+linked-books-read : AllRead linkedBooks linkedDays
+unfolding AllRead linkedBooks linkedDays bookWith chained ordersOf orderFrom stepFrom blockFrom linkFrom stepAt blockAt linkAt stepOrder blockOrder linkOrder
+    chainFrom u16At u24At u32At
+linked-books-read = (refl, (refl, (refl, (refl, (refl, tt)))))
+
+pub linked-books-hold : EachWorked linkedBooks linkedDays
+linked-books-hold = worked linkedBooks linkedDays linked-books-accepted linked-books-read linked-days-hold
+
+-- LINKS
+-- The book of a family is accepted, its links are those written, and the parents' column has for block 4 one more than the place of block 2, for block 5
+-- one more than that of block 4
+pub record FamilyRead : Type 0 where
+  pub accepted : refusal familyBook ≡ 0
+  pub linksRead : ordersOf familyBook .links ≡ record { child = 4; parent = 2 } ∷ record { child = 5; parent = 4 } ∷ []
+  pub parentsRead : parentColumn familyBook ≡ 0 ∷ 0 ∷ 2 ∷ 3 ∷ replicate 28 0
+
+pub family-read : FamilyRead
+unfolding familyBook bookWith chained refusal ownCauses firstCause wrongSize linksTooEarly wrongHead brokenChain brokenOn broken misplaced wrongField
+    wrongFieldOn outOfRange recordInRange stepInRange blockInRange linkInRange stepFits blockFits strayRecord stray tooManyBlocks tooManyOf ownedBy within someBelow someIn
+    countIn nonzero limits hoursSet recordAt stepAt blockAt linkAt linkRest chainFrom chains isOn blockOrder linkOrder links u16At u24At u32At wrongHours
+    isNumber hasBlock misnamed wrongLink ordersOf linkFrom blockRecords padded parentAmong placeAmong parentPlaceIn parentPlaceAt parentColumn
+family-read = record { accepted = refl; linksRead = refl; parentsRead = refl }

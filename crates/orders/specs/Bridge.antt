@@ -1,12 +1,12 @@
--- THE BRIDGE from a book's bytes to the rules: its orders as the auction's rules see them (document 01, "The book in bytes"). Definitions only.
--- Assumes nothing.
+-- THE BRIDGE from a book's bytes to the rules: its orders and links as the auction's rules see them (document 01, "The book in bytes"; document 02, P6).
+-- Definitions only. Assumes nothing.
 use Prim.Native.Nat.{ℕ}
 use mathlib.Core.List.{List, map}
-use Rattle.records.specs.Records.{dayHours, stepAt, blockAt, holdsHour}
-use Rattle.book.specs.Chains.{stepOrder, blockOrder}
+use Rattle.records.specs.Records.{dayHours, stepAt, blockAt, linkAt, holdsHour}
+use Rattle.book.specs.Chains.{stepOrder, blockOrder, linkOrder}
 use Rattle.records.specs.declared.Side as read
 use Rattle.records.specs.declared.Side.the-variants as read-side
-use Rattle.rules.specs.Orders.{Side, buy, sell, Step, Order, Block, Orders}
+use Rattle.rules.specs.Orders.{Side, buy, sell, Step, Order, Block, Link, Orders}
 use Rattle.rules.specs.Day.{Day, onDay, dayOf}
 
 -- Buy or sell.
@@ -43,10 +43,19 @@ blockFrom b k =
 abbrev pub blockOn : List ℕ → ℕ → Block
 blockOn b k = onDay (dayHours b) (blockFrom b k)
 
--- The orders of a book: the steps and the blocks, each in their order.
+-- Record k as a link of the rules.
+unfoldable pub linkFrom : List ℕ → ℕ → Link
+linkFrom b k = record { child = linkAt b k .child; parent = linkAt b k .parent }
+
+-- The orders of a book: the steps, the blocks and the links, each in their order.
 unfoldable pub ordersOf : List ℕ → Orders
 ordersOf b =
-    record { hours = dayHours b; steps = map (orderFrom b) (stepOrder b); blocks = map (blockFrom b) (blockOrder b) }
+    record {
+      hours = dayHours b;
+      steps = map (orderFrom b) (stepOrder b);
+      blocks = map (blockFrom b) (blockOrder b);
+      links = map (linkFrom b) (linkOrder b);
+    }
 
 -- The day that a book makes.
 unfoldable pub dayFrom : List ℕ → Day

@@ -5,8 +5,8 @@ use Prim.Native.Nat.{ℕ, suc, _+_, _/_, _%_}
 use mathlib.Core.Path.{_≡_}
 use mathlib.Core.List.{List, [], _∷_, _++_}
 use lib.ListN.{length, replicate}
-use Rattle.records.specs.Layout.{stepKind, blockKind, headRestSize}
-use Rattle.book.specs.Bounds.{firstEdition}
+use Rattle.records.specs.Layout.{stepKind, blockKind, linkKind, headRestSize, linkRestSize}
+use Rattle.book.specs.Bounds.{firstEdition, firstLinkEdition}
 use Rattle.rules.specs.Day.{normalHours, springHours, autumnHours}
 use Rattle.book.specs.Refusals.{refusal}
 use Rattle.rules.specs.Outcome.{published}
@@ -24,7 +24,7 @@ three n = n / 65536 % 256 ∷ two n
 abbrev pub four : ℕ → List ℕ
 four n = n / 16777216 % 256 ∷ three n
 
--- A step's record, then a block's, each up to the index of the record that follows it on its chain.
+-- A step's record, a block's and a link's, each up to the index of the record that follows it on its chain.
 abbrev pub stepRecord : (number side hour portfolio quantity price : ℕ) → ℕ → List ℕ
 stepRecord number side hour portfolio quantity price next =
     stepKind ∷ side ∷ two next ++ two number ++ hour ∷ portfolio ∷ four price ++ four quantity
@@ -32,6 +32,9 @@ stepRecord number side hour portfolio quantity price next =
 abbrev pub blockRecord : (number side portfolio hours quantity price : ℕ) → ℕ → List ℕ
 blockRecord number side portfolio hours quantity price next =
     blockKind ∷ side ∷ two next ++ two number ++ 0 ∷ portfolio ∷ three hours ++ three price ++ two quantity
+
+abbrev pub linkRecord : (child parent : ℕ) → ℕ → List ℕ
+linkRecord child parent next = linkKind ∷ 0 ∷ two next ++ two child ++ two parent ++ replicate linkRestSize 0
 
 -- The records of a chain, the first at index k and each followed by the next; the last is followed by none.
 unfoldable pub chained : ℕ → List (ℕ → List ℕ) → List ℕ
@@ -44,12 +47,16 @@ abbrev pub firstAt : ℕ → List (ℕ → List ℕ) → ℕ
 firstAt k [] = 0
 firstAt k (r ∷ l) = k
 
--- A book of a day of so many hours: the head, the steps from record 1 on, the blocks after them.
-unfoldable pub bookOn : ℕ → List (ℕ → List ℕ) → List (ℕ → List ℕ) → List ℕ
-bookOn hours steps blocks =
-    two (1 + length steps + length blocks) ++ two (firstAt 1 steps) ++ two (firstAt (1 + length steps) blocks) ++ hours ∷ firstEdition
-    ∷ replicate headRestSize 0
-    ++ chained 1 steps ++ chained (1 + length steps) blocks
+-- A book of an edition, of a day of so many hours: the head, the steps from record 1 on, the blocks after them, then the links.
+unfoldable pub bookWith : (edition hours : ℕ) (steps blocks links : List (ℕ → List ℕ)) → List ℕ
+bookWith edition hours steps blocks links =
+    two (1 + length steps + length blocks + length links) ++ two (firstAt 1 steps) ++ two (firstAt (1 + length steps) blocks) ++ hours ∷ edition
+    ∷ two (firstAt (1 + length steps + length blocks) links) ++ replicate headRestSize 0
+    ++ chained 1 steps ++ chained (1 + length steps) blocks ++ chained (1 + length steps + length blocks) links
+
+-- A book of a day of so many hours, without links.
+abbrev pub bookOn : ℕ → List (ℕ → List ℕ) → List (ℕ → List ℕ) → List ℕ
+bookOn hours steps blocks = bookWith firstEdition hours steps blocks []
 
 -- A book of a day of 24.
 abbrev pub bookOf : List (ℕ → List ℕ) → List (ℕ → List ℕ) → List ℕ
@@ -67,9 +74,21 @@ sellStep number hour = stepRecord number 1 hour 2
 abbrev pub sellBlock : ℕ → ℕ → ℕ → List ℕ
 sellBlock number = blockRecord number 1 3 3 50
 
--- The base book with blocks.
+-- The steps of the base book, and that book with blocks.
+abbrev pub baseSteps : List (ℕ → List ℕ)
+baseSteps = buyStep 1 1 100 5000 ∷ sellStep 2 1 100 3000 ∷ buyStep 3 2 100 5000 ∷ sellStep 4 2 100 3000 ∷ []
+
 abbrev pub baseBook : List (ℕ → List ℕ) → List ℕ
-baseBook = bookOf (buyStep 1 1 100 5000 ∷ sellStep 2 1 100 3000 ∷ buyStep 3 2 100 5000 ∷ sellStep 4 2 100 3000 ∷ [])
+baseBook = bookOf baseSteps
+
+-- The base book in edition 3 with blocks and links.
+abbrev pub linkedBook : (blocks links : List (ℕ → List ℕ)) → List ℕ
+linkedBook = bookWith firstLinkEdition normalHours baseSteps
+
+-- Blocks 1, 2, 4 and 5: block 4 the child of block 2, and block 5 of block 4.
+unfoldable pub familyBook : List ℕ
+familyBook =
+    linkedBook (sellBlock 1 2900 ∷ sellBlock 2 2900 ∷ sellBlock 4 2900 ∷ sellBlock 5 2900 ∷ []) (linkRecord 4 2 ∷ linkRecord 5 4 ∷ [])
 
 -- The books of S1 to S10, in the order of the rules' table.
 unfoldable pub workedBooks : List (List ℕ)
@@ -103,6 +122,26 @@ changeBooks =
     ∷ bookOn springHours (buyStep 1 2 100 5000 ∷ sellStep 2 2 100 3000 ∷ buyStep 3 4 100 5000 ∷ sellStep 4 4 100 3000 ∷ []) (sellBlockOver 14 2900 ∷ [])
     ∷ autumnBook 50 3333
     ∷ autumnBook 50 3334
+    ∷ []
+
+-- A buy block like the sell block above, and a sell block of half its quantity.
+abbrev pub buyBlock : ℕ → ℕ → ℕ → List ℕ
+buyBlock number = blockRecord number 0 3 3 50
+
+abbrev pub halfBlock : ℕ → ℕ → ℕ → List ℕ
+halfBlock number = blockRecord number 1 3 3 25
+
+-- The books of the days with linked blocks, in the order of the rules' table: two blocks over hours 1 and 2 (bits 3), block 2 the child of block 1.
+abbrev pub pairBook : (parent child : ℕ → List ℕ) → List ℕ
+pairBook parent child = linkedBook (parent ∷ child ∷ []) (linkRecord 2 1 ∷ [])
+
+unfoldable pub linkedBooks : List (List ℕ)
+linkedBooks =
+    pairBook (sellBlock 1 3500) (buyBlock 2 4500)
+    ∷ pairBook (sellBlock 1 3500) (buyBlock 2 3900)
+    ∷ pairBook (sellBlock 1 4500) (sellBlock 2 2900)
+    ∷ pairBook (halfBlock 1 3000) (halfBlock 2 3000)
+    ∷ pairBook (halfBlock 1 3001) (halfBlock 2 3000)
     ∷ []
 
 -- A book is accepted, all that is published of it is what a worked day says, and so are the prices told of it.

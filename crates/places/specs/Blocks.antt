@@ -9,10 +9,10 @@ use Rattle.rules.specs.Execution.{testSide}
 use Rattle.orders.specs.Columns.{sideFor}
 use Rattle.rules.specs.Hour.{when}
 use Rattle.book.specs.Bounds.{mostBlocks}
-use Rattle.places.specs.Layout.{hourPlaces, mostAdded, mostPlace, sideColumn, hoursColumn, quantityColumn, limitColumn, againstColumn, gainColumn, aheadColumn, behindColumn, rowsColumn, blockListSize}
+use Rattle.places.specs.Layout.{hourPlaces, mostAdded, mostPlace, sideColumn, hoursColumn, quantityColumn, limitColumn, againstColumn, gainColumn, parentColumn, aheadColumn, behindColumn, rowsColumn, blockListSize}
 use Rattle.places.specs.Hours.{Small, sumOfHours, ofHour}
 
--- THE BLOCKS: eight columns: side, hours, quantity, limit (price times hour count), loss if taken, loss if left out, and for twins the
+-- THE BLOCKS: nine columns: side, hours, quantity, limit (price times hour count), loss if taken, loss if left out, parent, and for twins the
 -- earlier block that is taken before this one, and the one that is taken after it (0 for none, else its number and 1); then a row of hours for each.
 abbrev pub sideAt : List ℕ → ℕ → ℕ
 sideAt blocks i = getD blocks (sideColumn + i) 0
@@ -32,6 +32,9 @@ againstAt blocks i = getD blocks (againstColumn + i) 0
 abbrev pub gainAt : List ℕ → ℕ → ℕ
 gainAt blocks i = getD blocks (gainColumn + i) 0
 
+abbrev pub parentAt : List ℕ → ℕ → ℕ
+parentAt blocks i = getD blocks (parentColumn + i) 0
+
 abbrev pub aheadAt : List ℕ → ℕ → ℕ
 aheadAt blocks i = getD blocks (aheadColumn + i) 0
 
@@ -46,6 +49,7 @@ rowQuantity blocks i h = getD blocks (rowsColumn + hourPlaces * i + (h - 1)) 0
 pub record BlocksSized (blocks : List ℕ) : Type 0 where
   pub columns : length blocks ≡ blockListSize
   pub rowsFit : (i h : ℕ) → rowQuantity blocks i h ≤ mostAdded
+  pub parentsFit : (i : ℕ) → i < mostBlocks → parentAt blocks i ≤ i
   pub twinsFit : (i : ℕ) → i < mostBlocks → (aheadAt blocks i ≤ mostBlocks) × (behindAt blocks i ≤ mostBlocks)
 
 -- A block keeps its limit, a buy at the low prices, a sell at the high ones.

@@ -66,7 +66,7 @@ changePlace = turnColumn + hourPlaces
 abbrev pub hourListSize : ℕ
 hourListSize = changePlace + 1
 
--- THE BLOCKS: eight columns in one list, from sides to twins, then a row of 24 hours for each block.
+-- THE BLOCKS: nine columns in one list, from sides to twins, then a row of 24 hours for each block.
 abbrev pub sideColumn : ℕ
 sideColumn = 0
 
@@ -85,8 +85,11 @@ againstColumn = limitColumn + mostBlocks
 abbrev pub gainColumn : ℕ
 gainColumn = againstColumn + mostBlocks
 
+abbrev pub parentColumn : ℕ
+parentColumn = gainColumn + mostBlocks
+
 abbrev pub aheadColumn : ℕ
-aheadColumn = gainColumn + mostBlocks
+aheadColumn = parentColumn + mostBlocks
 
 abbrev pub behindColumn : ℕ
 behindColumn = aheadColumn + mostBlocks

@@ -32,7 +32,7 @@ pub const CHANGE: usize = TURN + HOURS;
 // The three columns and that number.
 pub const HOUR_LIST: usize = CHANGE + 1;
 
-// THE BLOCKS: eight columns and the rows in one list.
+// THE BLOCKS: nine columns and the rows in one list.
 // The side: 0 buys.
 pub const SIDE: usize = 0;
 
@@ -51,8 +51,11 @@ pub const AGAINST: usize = LIMIT + MOST_BLOCKS;
 // What it loses if left out.
 pub const GAIN: usize = AGAINST + MOST_BLOCKS;
 
-// The twin that is taken before a block: its number and 1, or 0 for none.
-pub const AHEAD: usize = GAIN + MOST_BLOCKS;
+// The parent, without which it is not taken: its number and 1, or 0 for none.
+pub const PARENT: usize = GAIN + MOST_BLOCKS;
+
+// The twin that is taken before a block, likewise.
+pub const AHEAD: usize = PARENT + MOST_BLOCKS;
 
 // The twin that is taken after it.
 pub const BEHIND: usize = AHEAD + MOST_BLOCKS;

@@ -27,12 +27,16 @@ dayHoursOffset = 6
 abbrev pub editionOffset : ℕ
 editionOffset = 7
 
--- Bytes 8-15: 0
+-- Bytes 8-9: the first link; 0 in an edition without links
+abbrev pub firstLinkOffset : ℕ
+firstLinkOffset = 8
+
+-- Bytes 10-15: 0
 abbrev pub headRestOffset : ℕ
-headRestOffset = 8
+headRestOffset = 10
 
 abbrev pub headRestSize : ℕ
-headRestSize = 8
+headRestSize = 6
 
 -- A RECORD, counted from the byte where it starts, its kind
 -- The kind of a step
@@ -43,7 +47,11 @@ stepKind = 1
 abbrev pub blockKind : ℕ
 blockKind = 2
 
--- Byte 1: the side, 0 buy, 1 sell
+-- The kind of a link
+abbrev pub linkKind : ℕ
+linkKind = 3
+
+-- Byte 1: the side, 0 buy, 1 sell; 0 in a link
 abbrev pub sideOffset : ℕ
 sideOffset = 1
 
@@ -55,7 +63,7 @@ lastSide = 1
 abbrev pub nextOffset : ℕ
 nextOffset = 2
 
--- Bytes 4-5: the order number
+-- Bytes 4-5: the order number; in a link the child's block number
 abbrev pub numberOffset : ℕ
 numberOffset = 4
 
@@ -86,6 +94,17 @@ blockPriceOffset = 11
 -- A block, bytes 14-15: the quantity
 abbrev pub blockQuantityOffset : ℕ
 blockQuantityOffset = 14
+
+-- A link, bytes 6-7: the parent's block number
+abbrev pub parentOffset : ℕ
+parentOffset = 6
+
+-- A link, bytes 8-15: 0
+abbrev pub linkRestOffset : ℕ
+linkRestOffset = 8
+
+abbrev pub linkRestSize : ℕ
+linkRestSize = 8
 
 -- The last hour of a day: a step's hour is 1 to 24, and the hours of a block are 24 bits
 abbrev pub lastHour : ℕ

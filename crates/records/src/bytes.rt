@@ -86,7 +86,7 @@ pub fn u32_at(book: &[u8], at: u32) -> u32
 }
 
 // Whether the count bytes from at on are not all 0.
-pub fn is_nonzero(book: &[u8], at: u16, count: u16) -> bool
+pub fn is_nonzero(book: &[u8], at: u32, count: u16) -> bool
     ensures { λ r. ⌜ r ≡ nonzero (now (book .entry)) at count ⌝ }
 {
     let mut i = at as usize;

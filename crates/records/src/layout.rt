@@ -20,10 +20,13 @@ pub const DAY_HOURS_OFFSET: u32 = 6;
 // Byte 7: the edition.
 pub const EDITION_OFFSET: u32 = 7;
 
-// Bytes 8-15: 0.
-pub const HEAD_REST_OFFSET: u16 = 8;
+// Bytes 8-9: the first link; 0 in an edition without links.
+pub const FIRST_LINK_OFFSET: u32 = 8;
 
-pub const HEAD_REST_SIZE: u16 = 8;
+// Bytes 10-15: 0.
+pub const HEAD_REST_OFFSET: u32 = 10;
+
+pub const HEAD_REST_SIZE: u16 = 6;
 
 // A RECORD, counted from the byte where it starts, its kind.
 // The kind of a step.
@@ -32,7 +35,10 @@ pub const STEP_KIND: u8 = 1;
 // The kind of a block.
 pub const BLOCK_KIND: u8 = 2;
 
-// Byte 1: the side, 0 buy, 1 sell.
+// The kind of a link.
+pub const LINK_KIND: u8 = 3;
+
+// Byte 1: the side, 0 buy, 1 sell; 0 in a link.
 pub const SIDE_OFFSET: u32 = 1;
 
 // The largest number of a side.
@@ -41,7 +47,7 @@ pub const LAST_SIDE: u32 = 1;
 // Bytes 2-3: the index of the following record.
 pub const NEXT_OFFSET: u32 = 2;
 
-// Bytes 4-5: the order number.
+// Bytes 4-5: the order number; in a link the child's block number.
 pub const NUMBER_OFFSET: u32 = 4;
 
 // Byte 6: a step's hour, 1 to 24; 0 in a block.
@@ -64,6 +70,14 @@ pub const BLOCK_PRICE_OFFSET: u32 = 11;
 
 // A block, bytes 14-15: the quantity.
 pub const BLOCK_QUANTITY_OFFSET: u32 = 14;
+
+// A link, bytes 6-7: the parent's block number.
+pub const PARENT_OFFSET: u32 = 6;
+
+// A link, bytes 8-15: 0.
+pub const LINK_REST_OFFSET: u32 = 8;
+
+pub const LINK_REST_SIZE: u16 = 8;
 
 // The last hour of a day: a step's hour is 1 to 24, and the hours of a block are 24 bits.
 pub const LAST_HOUR: u32 = 24;

@@ -1,16 +1,18 @@
-// The fields of the head and of record k, and a record as a step or a block (document 01, "The book in bytes").
+// The fields of the head and of record k, and a record as a step, a block or a link (document 01, "The book in bytes").
 // Record k starts at byte 16 * k. Assumes nothing.
 ghost use mathlib.Core.Path.{_≡_};
 ghost use Prim.Native.Nat.{_+_, _*_};
 ghost use Rattle.records.specs.Layout.{lastHour};
-ghost use Rattle.records.specs.Records.{recordCount, firstStep, firstBlock, dayHours, edition};
+ghost use Rattle.records.specs.Records.{recordCount, firstStep, firstBlock, firstLink, dayHours, edition};
 ghost use Rattle.records.specs.Records.{kind, sideByte, next, number, hourByte, portfolio};
-ghost use Rattle.records.specs.Records.{sideOf, stepAt, blockAt, recordAt, hoursSet};
+ghost use Rattle.records.specs.Records.{sideOf, stepAt, blockAt, linkAt, linkRest, recordAt, hoursSet};
 use crate::Block;
+use crate::Link;
 use crate::Record;
 use crate::Side;
 use crate::Step;
 use crate::bytes::byte_at;
+use crate::bytes::is_nonzero;
 use crate::bytes::u16_at;
 use crate::bytes::u24_at;
 use crate::bytes::u32_at;
@@ -22,11 +24,16 @@ use crate::layout::COUNT_OFFSET;
 use crate::layout::DAY_HOURS_OFFSET;
 use crate::layout::EDITION_OFFSET;
 use crate::layout::FIRST_BLOCK_OFFSET;
+use crate::layout::FIRST_LINK_OFFSET;
 use crate::layout::FIRST_STEP_OFFSET;
 use crate::layout::HOUR_OFFSET;
 use crate::layout::LAST_HOUR;
+use crate::layout::LINK_KIND;
+use crate::layout::LINK_REST_OFFSET;
+use crate::layout::LINK_REST_SIZE;
 use crate::layout::NEXT_OFFSET;
 use crate::layout::NUMBER_OFFSET;
+use crate::layout::PARENT_OFFSET;
 use crate::layout::PORTFOLIO_OFFSET;
 use crate::layout::RECORD_SIZE;
 use crate::layout::SIDE_OFFSET;
@@ -53,6 +60,12 @@ pub fn first_block(book: &[u8]) -> u16
     u16_at(book, FIRST_BLOCK_OFFSET)
 }
 
+pub fn first_link(book: &[u8]) -> u16
+    ensures { λ r. ⌜ r ≡ firstLink (now (book .entry)) ⌝ }
+{
+    u16_at(book, FIRST_LINK_OFFSET)
+}
+
 pub fn day_hours(book: &[u8]) -> u8
     ensures { λ r. ⌜ r ≡ dayHours (now (book .entry)) ⌝ }
 {
@@ -65,7 +78,7 @@ pub fn edition_of(book: &[u8]) -> u8
     byte_at(book, EDITION_OFFSET)
 }
 
-// The fields that steps and blocks share.
+// The fields that steps and blocks share; a link has the first two bytes, the following record and, as its number, its child's.
 pub fn kind_of(book: &[u8], k: u16) -> u8
     ensures { λ r. ⌜ r ≡ kind (now (book .entry)) k ⌝ }
 {
@@ -146,6 +159,27 @@ fn block_at(book: &[u8], k: u16) -> Block
     }
 }
 
+// Record k read as a link, whatever its kind.
+pub fn link_at(book: &[u8], k: u16) -> Link
+    ensures { λ r. ⌜ r ≡ linkAt (now (book .entry)) k ⌝ }
+{
+    Link {
+        child: number_of(book, k),
+        parent: u16_at(book, RECORD_SIZE * (k as u32) + PARENT_OFFSET),
+    }
+}
+
+// Whether the bytes of a link behind its parent's number are not all 0.
+pub fn has_link_rest(book: &[u8], k: u16) -> bool
+    ensures { λ r. ⌜ r ≡ linkRest (now (book .entry)) k ⌝ }
+{
+    is_nonzero(
+        book,
+        RECORD_SIZE * (k as u32) + LINK_REST_OFFSET,
+        LINK_REST_SIZE,
+    )
+}
+
 // Record k as its kind says, where it is whole.
 pub fn record_at(book: &[u8], k: u16) -> Record
     ensures { λ r. ⌜ r ≡ recordAt (now (book .entry)) k ⌝ }
@@ -160,6 +194,9 @@ pub fn record_at(book: &[u8], k: u16) -> Record
     }
     if kind == BLOCK_KIND {
         return Record::Block(block_at(book, k));
+    }
+    if kind == LINK_KIND {
+        return Record::Link(link_at(book, k));
     }
     Record::Other
 }

@@ -12,11 +12,12 @@ use borrow.Author.Tests.{eq-eqb, ne-eqb, eqb-true}
 use Rattle.records.specs.Bytes.{u32At}
 use Rattle.book.specs.Tests.{someIn, member}
 use Rattle.records.specs.Records.{recordCount, dayHours, blockAt}
-use Rattle.book.specs.Chains.{stepOrder, blockOrder}
+use Rattle.book.specs.Chains.{stepOrder, blockOrder, linkOrder}
 use Rattle.book.specs.Refusals.{firstCause, refusal, Accepted}
 use Rattle.book.proofs.Members.{Each, each-member, Distinct}
 use Rattle.book.proofs.Refused.{refusal-then}
-use Rattle.book.proofs.Accepted.{accepted-zero, StepRecord, BlockRecord, step-records, block-records, steps-distinct, blocks-distinct, one-chain, record-count}
+use Rattle.book.proofs.Accepted.{accepted-zero, StepRecord, BlockRecord, LinkRecord, step-records, block-records, link-records}
+use Rattle.book.proofs.Accepted.{steps-distinct, blocks-distinct, one-chain, link-only, record-count}
 use Rattle.rules.specs.Hour.{when}
 use Rattle.rules.specs.Contender.{Counts}
 use Rattle.rules.proofs.CurveLaws.{when-le}
@@ -121,6 +122,16 @@ module _ (b result : List ℕ) (a : Accepted b) (s : Says b result) where
       s .rowRead k (r .positive) (r .inside)
       ∙ beside-absent k (stepOrder b) _ _ (one-chain b a k (r .positive) (r .inside) ∙ rw m)
       ∙ rw (chosen-is b)
+
+  -- a link's row is 0: its record is on neither of those chains
+  pub link-row : (k : ℕ) → member k (linkOrder b) ≡ true → rowIn result k ≡ 0
+  unfolding rowOf
+  link-row k m =
+      let r = each-member (LinkRecord b) (linkOrder b) k (link-records b a) m in
+      let only = link-only b a k m in
+      s .rowRead k (r .positive) (r .inside)
+      ∙ beside-absent k (stepOrder b) _ _ (only .0)
+      ∙ beside-absent k (blockOrder b) _ _ (only .1)
 
   -- the rows of the blocks, by the outcome
   block-rows-read : map (rowIn result) (blockOrder b) ≡ blockRows b (blockOrder b) (outcome (dayFrom b))

@@ -34,7 +34,7 @@ blockRows b [] chosen = []
 blockRows b (k ∷ l) [] = []
 blockRows b (k ∷ l) (t ∷ chosen) = cond t (blockAt b k .quantity) 0 ∷ blockRows b l chosen
 
--- The executed quantity per hour of record k: on the step chain its order's, on the block chain its block's.
+-- The executed quantity per hour of record k: on the step chain its order's, on the block chain its block's; a link's is 0.
 unfoldable pub rowOf : List ℕ → ℕ → ℕ
 rowOf b k =
     beside k (stepOrder b) (published (ordersOf b) .executed)

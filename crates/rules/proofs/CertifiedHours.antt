@@ -42,6 +42,7 @@ use Rattle.rules.specs.Day.{
   priceSum,
   keepsLimit,
   keepsLimits,
+  keepsLink,
   allowed,
   stepsValue,
   stepsCost,
@@ -162,7 +163,7 @@ prices-tested day set = fun-ext (price-tested day set)
 -- THE DAY COMPUTES: `unfolding computed` opens all that a day's tested prices, limits, executed quantities and welfare compute through
 unfoldable pub computed : Unit {0}
 unfolding tested testedClears testedPrices low high leastOf greatestOf inRange clears buysAbove buysFrom sellsTo sellsBelow
-    dayOf eachOnDay canonical stepsOf weight isCounted sumTo daySum allTo everyHour hourCount priceSum keepsLimit keepsLimits allowed
+    dayOf eachOnDay canonical stepsOf weight isCounted sumTo daySum allTo everyHour hourCount priceSum keepsLimit keepsLimits keepsLink allowed
     execution buyAmount sellAmount shares inStepOrder bought sold stepsValue stepsCost blocksValue blocksCost dayValue dayCost
 computed = tt
 

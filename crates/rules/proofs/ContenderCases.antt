@@ -1,4 +1,4 @@
--- CONTENDERS BY EXAMPLE, from the definition alone: condition by condition, what a contender may not do; and what it may: quantities against the price
+-- CONTENDERS BY EXAMPLE, from the definition alone: condition by condition, what a contender may not do, a child without its parent among it; and what it may: quantities against the price
 -- and the sharing rule, welfare below zero, a taken buy block, a block left out that the prices would have paid. Assumes nothing.
 -- (Laws of the same definitions import it, so that a wrong one is met here first.)
 use Prim.Native.Nat.{ℕ, _<_}
@@ -8,7 +8,7 @@ use mathlib.Core.List.{List, [], _∷_}
 use native.Mathlib.Omega.{arith}
 use Rattle.rules.specs.Day.{taken, hourOf, setPrices, keepsLimit, keepsLimits, everyBlock, lawful, executed, dayValue, dayCost}
 use Rattle.rules.specs.Contender.{quantitiesIn, Balanced, Contender, HasWelfare}
-use Rattle.rules.specs.Cases.{s4, s5, lateBuy, sharedLate, apart, s5Autumn, autumn, across}
+use Rattle.rules.specs.Cases.{s4, s5, lateBuy, sharedLate, apart, s5Autumn, autumn, across, family}
 use Rattle.rules.proofs.HourSums.{each-hour, each-counted}
 use Rattle.rules.proofs.CertifiedHours.{computed, clears-tested, price-tested, prices-tested, hour-counts}
 
@@ -56,7 +56,38 @@ pub fewer-quantities-no-contender : ¬ Contender sharedLate [] (0 ∷ 0 ∷ 0 �
 unfolding computed
 fewer-quantities-no-contender c = c .within .1 .1 .1
 
+-- a child without its parent, though every hour balances and it keeps its limit
+pub orphan-no-contender : ¬ Contender (family 4500 2900) (false ∷ true ∷ []) (100 ∷ 75 ∷ 100 ∷ 75 ∷ [])
+unfolding computed
+orphan-no-contender c = false≢true (c .permitted)
+
+-- a child outside its own limit, though its parent keeps its own at the same prices of 3000
+pub child-limit-missed-no-contender : ¬ Contender (family 2900 3001) (true ∷ true ∷ []) (100 ∷ 50 ∷ 100 ∷ 50 ∷ [])
+unfolding computed
+child-limit-missed-no-contender c = false≢true (rw prices-tested at (c .limits))
+
 -- WHAT IT MAY DO
+-- a parent without its child, and both
+pub parent-contends : Contender (family 2900 2900) (true ∷ false ∷ []) (100 ∷ 75 ∷ 100 ∷ 75 ∷ [])
+unfolding computed
+parent-contends = record {
+  ofBlocks = refl;
+  permitted = refl;
+  within = omega arith;
+  balanced = each-hour _ (omega arith);
+  limits = rw prices-tested refl;
+}
+
+pub family-contends : Contender (family 2900 2900) (true ∷ true ∷ []) (100 ∷ 50 ∷ 100 ∷ 50 ∷ [])
+unfolding computed
+family-contends = record {
+  ofBlocks = refl;
+  permitted = refl;
+  within = omega arith;
+  balanced = each-hour _ (omega arith);
+  limits = rw prices-tested refl;
+}
+
 -- the buy above the price not in full, the sell above it served, the second sell at the price before the first is filled
 pub against-price-contends : Contender sharedLate [] (20 ∷ 50 ∷ 10 ∷ 80 ∷ []) × (executed sharedLate [] ≡ 60 ∷ 40 ∷ 0 ∷ 100 ∷ [])
 unfolding computed executed

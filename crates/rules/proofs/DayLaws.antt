@@ -9,7 +9,7 @@ use native.Mathlib.Nat.{mul-le-mul-left}
 use lib.Dec.{leb}
 use lib.ListN.{length, replicate}
 use borrow.Author.Tests.{leb-true}
-use Rattle.rules.specs.Orders.{Side, buy, sell, Step, Block}
+use Rattle.rules.specs.Orders.{Side, buy, sell, Step, Block, Link}
 use Rattle.rules.specs.Hour.{bySide, when, allBuys, allSells, Hour, Pricing, cleared, doesNotClear, pricing, isCleared, answeredPrice}
 use Rattle.rules.specs.Execution.{testSide, execution, bought, sold}
 use Rattle.rules.specs.Day.{
@@ -29,6 +29,8 @@ use Rattle.rules.specs.Day.{
   keepsLimit,
   everyBlock,
   keepsLimits,
+  everyLink,
+  keepsLink,
   allowed,
   lawful,
   stepsValue,
@@ -178,8 +180,12 @@ none-taken (b ∷ l) = none-taken l
 
 -- THE LAW OF `allowed`: the empty set is
 allowed-empty : (day : Day) → allowed day (replicate (length (day .blocks)) false) ≡ true
-unfolding allowed
-allowed-empty day = refl
+unfolding allowed keepsLink
+allowed-empty day = rw (none-taken (day .blocks)) (go (day .links))
+  where
+    go : (l : List Link) → everyLink (keepsLink []) l ≡ true
+    go [] = refl
+    go (link ∷ l) = go l
 
 -- THE DAY, its steps' prices and hours in range
 module _ (day : Day) (prices : PricesInRange (day .steps)) (hours : HoursInRange (day .steps)) where

@@ -65,6 +65,10 @@ pub limits-of-edition-2 : (limits 2 .blockQuantity ≡ 250) × (limits 2 .blocks
 unfolding limits
 limits-of-edition-2 = (refl, refl)
 
+pub limits-of-edition-3 : limits 3 ≡ limits 2
+unfolding limits
+limits-of-edition-3 = refl
+
 -- how often hour 3 counts on days of 23, 24 and 25 hours; each day counts as many hours as it has
 hour-3-counts : (weight 23 3 ≡ 0) × (weight 24 3 ≡ 1) × (weight 25 3 ≡ 2)
 unfolding weight

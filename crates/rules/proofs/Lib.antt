@@ -24,7 +24,11 @@ pub mod SetBits
 pub mod PlaceLaws
 pub mod QuietHours
 pub mod LawCutLaws
+pub mod FamilyCases
+pub mod LinkLaws
 pub mod TwinLaws
 pub mod OutcomeRulesLaws
 pub mod BoundsLaws
 pub mod TradeBounds
+pub mod FamilyLaws
+pub mod FamilyBounds

@@ -1,6 +1,6 @@
 -- TWINS: two blocks of one side, the same hours and the same quantity. A set may exchange one for the other: every hour keeps its N and so its price.
--- Where the one keeps its limit whenever the other does, and the exchange loses no more, the published set takes the other only together with it. So
--- the search may leave a block out where one ahead of it is left out, and only take it where one behind it is taken. Assumes nothing.
+-- Where the one keeps its limit whenever the other does, the exchange loses no more, and it breaks no link, the published set takes the other only together
+-- with it. So the search may leave a block out where one ahead of it is left out, and only take it where one behind it is taken. Assumes nothing.
 use Prim.Native.Nat.{ℕ, zero, suc, _+_, _-_, _*_, _≤_, _<_}
 use mathlib.Core.Bool.{Bool, true, false}
 use mathlib.Core.Path.{_≡_, refl, sym, ap, subst, _∙_, fun-ext}
@@ -26,12 +26,21 @@ use Rattle.rules.proofs.BoundLaws.{gain}
 use Rattle.rules.proofs.LossLaws.{against, losses, lossOf, welfare-and-loss}
 use Rattle.rules.proofs.PlaceLaws.{place, pricesAt, gaps-by-place, lawful-by-places, lawful-clears, lawful-limits}
 use Rattle.rules.proofs.LawCutLaws.{taken-passes}
+use Rattle.rules.proofs.LinkLaws.{Closed, Parents}
 
 -- a block's limit: its price times its hour count
 abbrev pub limitOf : ℕ → Block → ℕ
 limitOf hours b = b .price * hourCount hours b
 
--- block a is ahead of its twin, block b, at hourly prices p: it keeps its limit wherever b does, and loses no more in b's place
+-- block a may stand in for block b: where the day's parents are at such positions, a has no parent or b's, and b is nobody's parent
+pub record Exchangeable (day : Day) (a b : ℕ) : Type 0 where
+  pub parent : ℕ → ℕ
+  pub parents : Parents day parent
+  pub noneOrSame : (k : ℕ) → parent a ≡ suc k → parent b ≡ suc k
+  pub nobodys : (j : ℕ) → j < length (day .blocks) → parent j ≡ suc b → ⊥
+
+-- block a is ahead of its twin, block b, at hourly prices p: it keeps its limit wherever b does, and loses no more in b's place; to exchange them breaks
+-- no link, for a has no parent or b's, and b is nobody's parent
 pub record Ahead (day : Day) (p : ℕ → ℕ) (a b : ℕ) : Type 0 where
   pub first : Block
   pub second : Block
@@ -46,6 +55,7 @@ pub record Ahead (day : Day) (p : ℕ → ℕ) (a b : ℕ) : Type 0 where
   pub losesNoMore : against (day .hours) p first + gain (day .hours) p second ≤ gain (day .hours) p first + against (day .hours) p second
   -- less, where it has the higher number
   pub losesLess : b < a → against (day .hours) p first + gain (day .hours) p second < gain (day .hours) p first + against (day .hours) p second
+  pub unlinked : Exchangeable day a b
 
 -- a set in turn takes no block without every block ahead of it
 abbrev pub InTurn : Day → (ℕ → ℕ) → List Bool → Type 0
@@ -60,6 +70,12 @@ block-at (x ∷ l) (suc j) b after other e = block-at l j b after other e
 
 pub block-within : (l : List Block) (j : ℕ) (b : Block) (after : List Block) → drop j l ≡ b ∷ after → j < length l
 block-within l j b after e = omega (arith, length-drop j l, ap length e)
+
+-- a set holds decisions as far as it takes blocks
+pub taken-within : (set : List Bool) (j : ℕ) → getD set j false ≡ true → j < length set
+taken-within [] j e = clash e refl
+taken-within (x ∷ set) zero e = omega arith
+taken-within (x ∷ set) (suc j) e = omega (arith, taken-within set j e)
 
 -- ONE BLOCK CHANGED: the place and the losses of a set that takes it, against those of the set that leaves it out
 module _ (other : Block) where
@@ -172,14 +188,14 @@ module _ (day : Day) (p : ℕ → ℕ) (a b : ℕ) (first second : Block)
   unfolding gain
   second-gain = let sum = twin-sum first second side runs H p in cc
 
-  pub ahead-by-limits : bySide (first .side) (limitOf (day .hours) second) (limitOf (day .hours) first)
+  pub ahead-by-limits : Exchangeable day a b → bySide (first .side) (limitOf (day .hours) second) (limitOf (day .hours) first)
       ≤ bySide (first .side) (limitOf (day .hours) first) (limitOf (day .hours) second) →
       (b < a → (1 ≤ first .quantity)
       × (bySide (first .side) (limitOf (day .hours) second) (limitOf (day .hours) first)
       < bySide (first .side) (limitOf (day .hours) first) (limitOf (day .hours) second))) →
       Ahead day p a b
   unfolding against gain
-  ahead-by-limits le less = record {
+  ahead-by-limits unlinked le less = record {
     first = first;
     second = second;
     firstAt = firstAt;
@@ -191,12 +207,8 @@ module _ (day : Day) (p : ℕ → ℕ) (a b : ℕ) (first second : Block)
     losesNoMore = rw (second-against, second-gain) (below-by-limits (first .side) (first .quantity) (priceSum H p first) mine yours le);
     losesLess = λ k. rw (second-against, second-gain)
         (less-by-limits (first .side) (first .quantity) (priceSum H p first) mine yours (less k .0) (less k .1));
+    unlinked = unlinked;
   }
-
--- THE LAW OF `allowed`: a set stays allowed where twins are exchanged
-allowed-exchanged : (day : Day) (set : List Bool) (a b : ℕ) → allowed day set ≡ true → allowed day (put (put set a true) b false) ≡ true
-unfolding allowed
-allowed-exchanged day set a b e = refl
 
 -- THE EXCHANGE: a set takes the second and not the first; the exchanged set takes the first and not the second
 module _ (day : Day) (p : ℕ → ℕ) (a b : ℕ) (ahead : Ahead day p a b) (set : List Bool) (size : length set ≡ length (day .blocks))
@@ -231,6 +243,39 @@ module _ (day : Day) (p : ℕ → ℕ) (a b : ℕ) (ahead : Ahead day p a b) (se
 
   in-b : put (put set a true) b true ≡ put set a true
   in-b = rw still-b at (set-getD (put set a true) b false)
+
+  -- what the exchanged set takes: a, not b, and of the others what the set takes
+  in-a : getD exchanged a false ≡ true
+  in-a = getD-set-other (put set a true) b a false false apart ∙ getD-set-same set a true false (omega (arith, within .0))
+
+  out-b : getD exchanged b false ≡ false
+  out-b = getD-set-same (put set a true) b false false (omega (arith, size-a, within .1))
+
+  as-before : (j : ℕ) → (j ≡ a → ⊥) → (j ≡ b → ⊥) → getD exchanged j false ≡ getD set j false
+  as-before j y z = getD-set-other (put set a true) b j false false z ∙ getD-set-other set a j true false y
+
+  -- THE LAW OF `allowed`: the exchanged set is closed where the set is
+  exchanged-closed : Closed (ahead .unlinked .parent) set → Closed (ahead .unlinked .parent) exchanged
+  exchanged-closed closed j k link e = elim (ℕ-discrete k a) [
+    | yes y ↦ rw (y, in-a)
+    | no y ↦ as-before k y (λ z. links .nobodys j (omega (arith, exchanged-size, taken-within exchanged j e)) (link ∙ ap suc z)) ∙ parent-in
+  ]
+    where
+      links : Exchangeable day a b
+      links = ahead .unlinked
+
+      parent-in : getD set k false ≡ true
+      parent-in = elim (ℕ-discrete j a) [
+        | yes y ↦ closed b k (links .noneOrSame k (rw y at link)) is
+        | no y ↦ elim (ℕ-discrete j b) [
+          | yes z ↦ clash (rw z at e) out-b
+          | no z ↦ closed j k link (sym (as-before j y z) ∙ e)
+        ]
+      ]
+
+  exchanged-allowed : allowed day set ≡ true → allowed day exchanged ≡ true
+  exchanged-allowed e =
+      ahead .unlinked .parents .allows exchanged exchanged-size (exchanged-closed (ahead .unlinked .parents .closed set size e))
 
   -- each hour keeps its place
   same-place : (h : ℕ) → place (day .blocks) exchanged h ≡ place (day .blocks) set h
@@ -275,20 +320,19 @@ module _ (day : Day) (p : ℕ → ℕ) (a b : ℕ) (ahead : Ahead day p a b) (se
 
         each : (j : ℕ) → j < length (day .blocks) → getD exchanged j false ≡ true → keeps (getD (day .blocks) j (ahead .first)) ≡ true
         each j k e = elim (ℕ-discrete j b) [
-          | yes z ↦ clash (rw z at e) (getD-set-same (put set a true) b false false (omega (arith, size-a, within .1)))
+          | yes z ↦ clash (rw z at e) out-b
           | no z ↦ elim (ℕ-discrete j a) [
             | yes y ↦ rw (y, block-a (ahead .first))
                 (twin-keeps (ahead .first) (ahead .second) (ahead .sameSide) (ahead .sameHours) (day .hours) _ (ahead .limits)
                 (rw (block-b (ahead .second)) at (before b (ahead .second) (within .1) is)))
-            | no y ↦ before j (ahead .first) k
-                (sym (getD-set-other set a j true false y) ∙ sym (getD-set-other (put set a true) b j false false z) ∙ e)
+            | no y ↦ before j (ahead .first) k (sym (as-before j y z) ∙ e)
           ]
         ]
 
     pub exchanged-lawful : lawful day (put (put set a true) b false) ≡ true
     exchanged-lawful =
         lawful-by-places day exchanged exchanged-size prices hours
-        (allowed-exchanged day set a b (lawful-contends day prices hours set law size .permitted))
+        (exchanged-allowed (lawful-contends day prices hours set law size .permitted))
         (λ h k. rw (same-place h) (lawful-clears day set size prices hours law h k))
         (rw same-places exchanged-keeps)
 
@@ -304,7 +348,7 @@ module _ (day : Day) (p : ℕ → ℕ) (a b : ℕ) (ahead : Ahead day p a b) (se
     -- so the set is not the first of the best
     pub not-first : FirstBest day set → ⊥
     not-first best = elim (decLe a b) [
-      | yes k ↦ not-lowest set exchanged a (omega (arith, within .0)) (omega (arith, within .0, exchanged-size)) (below k) out here
+      | yes k ↦ not-lowest set exchanged a (omega (arith, within .0)) (omega (arith, within .0, exchanged-size)) (below k) out in-a
           (w .1 (omega (arith, w .0, exchanged-gains .0)))
       | no k ↦ omega (arith, w .0, exchanged-gains .1 (lt-of-not-le k))
     ]
@@ -312,12 +356,8 @@ module _ (day : Day) (p : ℕ → ℕ) (a b : ℕ) (ahead : Ahead day p a b) (se
         w : (welfare day exchanged ≤ welfare day set) × (welfare day exchanged ≡ welfare day set → HoldsLowest set exchanged)
         w = best .wins exchanged exchanged-size exchanged-lawful
 
-        here : getD exchanged a false ≡ true
-        here = getD-set-other (put set a true) b a false false apart ∙ getD-set-same set a true false (omega (arith, within .0))
-
         below : a ≤ b → (j : ℕ) → j < a → getD set j false ≡ getD exchanged j false
-        below k j i =
-            sym (getD-set-other (put set a true) b j false false (λ e. omega arith) ∙ getD-set-other set a j true false (λ e. omega arith))
+        below k j i = sym (as-before j (λ e. omega arith) (λ e. omega arith))
 
 -- THE PUBLISHED SET takes the block ahead wherever it takes its twin
 module _ (day : Day) (prices : PricesInRange (day .steps)) (hours : HoursInRange (day .steps)) (p : ℕ → ℕ) where

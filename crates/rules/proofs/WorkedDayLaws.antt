@@ -6,7 +6,7 @@ use mathlib.Core.List.{List, [], _∷_}
 use Rattle.rules.specs.Orders.{Block, Orders, executedOf}
 use Rattle.rules.specs.Day.{Day, dayOf, taken, hourOf, keepsLimits, lawful, executed, welfare, traded}
 use Rattle.rules.specs.Outcome.{allSets, bestOf, outcome, forHours, PublishedOutcome, published}
-use Rattle.rules.specs.WorkedDays.{PriceFact, WorkedDay, workedDays, furtherDays, changeDays, Answered, Hold}
+use Rattle.rules.specs.WorkedDays.{PriceFact, WorkedDay, workedDays, furtherDays, changeDays, linkedDays, Answered, Hold}
 use Rattle.rules.proofs.CertifiedHours.{tested, tested-is, clears-tested, price-tested, prices-tested, computed}
 
 -- A VALUE THAT COMPUTES, with the proof that it is the one asked for
@@ -133,3 +133,14 @@ pub change-days-hold : Hold changeDays
 unfolding rowsCompute changeDays
 change-days-hold =
     hold changeDays (refl, refl, tt, (refl, refl, tt, (refl, refl, tt, (refl, refl, tt, tt))))
+
+-- THE DAYS WITH LINKED BLOCKS
+pub linked-days-hold : Hold linkedDays
+unfolding rowsCompute linkedDays
+linked-days-hold =
+    hold linkedDays (
+      refl,
+      refl,
+      (refl, (refl, tt)),
+      (refl, refl, (refl, tt), (refl, refl, (refl, tt), (refl, refl, tt, (refl, refl, tt, tt)))),
+    )

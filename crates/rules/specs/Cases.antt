@@ -33,7 +33,7 @@ uneven = baseDayOf (block12 1 2900 ∷ block12 2 2800 ∷ [])
 
 -- The day of a book of steps and blocks.
 abbrev pub dayWith : List Order → List Block → Day
-dayWith steps blocks = dayOf (record { hours = 24; steps = steps; blocks = blocks })
+dayWith steps blocks = dayOf (record { hours = 24; steps = steps; blocks = blocks; links = [] })
 
 -- A block that brings one tenth of a cent: it costs 3000 in hours 1 and 2, the steps that it displaces cost 3000 and 3001.
 abbrev pub narrow : Day
@@ -60,6 +60,7 @@ s5Autumn =
       hours = 25;
       steps = step 1 buy 2 100 5000 ∷ step 2 sell 2 100 3000 ∷ step 3 buy 3 100 5000 ∷ step 4 sell 3 100 3000 ∷ [];
       blocks = block23 2900 ∷ [];
+      links = [];
     })
 
 -- A block over hours 2 and 3 of a day of 25 hours, where the prices with it are 4000 and 3000. Its own price is given.
@@ -74,7 +75,18 @@ across hours =
       hours = hours;
       steps = stepsOf (step 1 buy 2 100 5000 ∷ step 2 sell 2 100 3000 ∷ step 3 buy 4 100 5000 ∷ step 4 sell 4 100 3000 ∷ []);
       blocks = block234 2900 ∷ [];
+      links = [];
     }
+
+-- The base book with two sell blocks over hours 1 and 2, the second the child of the first. Their prices are given.
+abbrev pub family : (parent child : ℕ) → Day
+family parent child =
+    dayOf (record {
+      hours = 24;
+      steps = baseWith [] .steps;
+      blocks = block 1 sell 3 25 parent ∷ block 2 sell 3 25 child ∷ [];
+      links = record { child = 2; parent = 1 } ∷ [];
+    })
 
 -- OUTCOMES FOR DEMAND 2
 -- A set of a day's blocks with prices, traded quantities and a quantity for each step.

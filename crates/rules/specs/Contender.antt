@@ -1,14 +1,14 @@
 -- CONTENDERS (document 01, "The day"; demand 3), and what it is to beat them all. Definitions only. Assumes nothing.
-use Prim.Native.Nat.{ℕ, _+_, _≤_}
+use Prim.Native.Nat.{ℕ, _+_, _≤_, _<_}
 use mathlib.Core.Bool.{Bool, true, false}
 use mathlib.Core.List.{List, [], _∷_}
 use mathlib.Core.Path.{_≡_}
 use lib.Dec.{eqb}
 use lib.ListN.{length}
-use Rattle.rules.specs.Orders.{Step, maxPrice}
+use Rattle.rules.specs.Orders.{Step, Block, Link, maxPrice}
 use Rattle.rules.specs.Hour.{Hour}
 use Rattle.rules.specs.Execution.{bought, sold}
-use Rattle.rules.specs.Day.{Day, weight, keep, taken, hourOf, keepsLimits, allowed, dayValue, dayCost}
+use Rattle.rules.specs.Day.{Day, weight, keep, taken, hourOf, keepsLimits, isAmong, allowed, dayValue, dayCost}
 
 -- A relation between each step and its quantity; there are as many quantities as steps.
 abbrev pub Each : (Step → ℕ → Type 0) → List Step → List ℕ → Type 0
@@ -37,8 +37,8 @@ pub record Counts (hours h : ℕ) : Type 0 where
   pub last : h ≤ 24
   pub counted : 1 ≤ weight hours h
 
--- A contender (document 01's term): a set of the day's blocks with a quantity for each step, every hour in balance, each block of the set within
--- its limit at the prices under that set.
+-- A contender (document 01's term): a set of the day's blocks that holds every taken child's parent, with a quantity for each step, every hour in balance,
+-- each block of the set within its limit at the prices under that set.
 pub record Contender (day : Day) (set : List Bool) (quantities : List ℕ) : Type 0 where
   pub ofBlocks : length set ≡ length (day .blocks)
   pub permitted : allowed day set ≡ true
@@ -79,3 +79,24 @@ PricesInRange (s ∷ l) = (1 ≤ s .price) × (s .price ≤ maxPrice) × PricesI
 abbrev pub HoursInRange : List Step → Type 0
 HoursInRange [] = Unit {0}
 HoursInRange (s ∷ l) = (1 ≤ s .hour) × (s .hour ≤ 24) × HoursInRange l
+
+-- and of its links: block numbers rise, the first above 0, and so do the children's; each child and each parent is a block of the day, the parent's number
+-- below the child's.
+abbrev pub NumbersRise : ℕ → List Block → Type 0
+NumbersRise last [] = Unit {0}
+NumbersRise last (b ∷ l) = (last < b .number) × NumbersRise (b .number) l
+
+abbrev pub ChildrenRise : ℕ → List Link → Type 0
+ChildrenRise last [] = Unit {0}
+ChildrenRise last (link ∷ l) = (last < link .child) × ChildrenRise (link .child) l
+
+abbrev pub EachLink : (Link → Type 0) → List Link → Type 0
+EachLink P [] = Unit {0}
+EachLink P (link ∷ l) = P link × EachLink P l
+
+pub record LinksStand (day : Day) : Type 0 where
+  pub numbers : NumbersRise 0 (day .blocks)
+  pub children : ChildrenRise 0 (day .links)
+  pub childIn : EachLink (λ link. isAmong (day .blocks) (link .child) ≡ true) (day .links)
+  pub parentIn : EachLink (λ link. isAmong (day .blocks) (link .parent) ≡ true) (day .links)
+  pub parentBelow : EachLink (λ link. link .parent < link .child) (day .links)

@@ -5,15 +5,16 @@ use mathlib.Core.Bool.{Bool, true, false, cond, not, _&&_, _||_}
 use mathlib.Core.List.{List, [], _∷_}
 use lib.Dec.{leb, eqb}
 use lib.ListN.{drop, getD}
-use Rattle.rules.specs.Orders.{Step, Block, Orders, stepsOf, canonical}
+use Rattle.rules.specs.Orders.{Step, Block, Link, Orders, stepsOf, canonical}
 use Rattle.rules.specs.Hour.{Hour, bySide, when, pricing, isCleared, answeredPrice}
 use Rattle.rules.specs.Execution.{testSide, execution, total₂, bought}
 
--- A day: how many hours it has, its steps and its blocks, each in rising order number.
+-- A day: how many hours it has, its steps and its blocks, each in rising order number, and the links between its blocks.
 pub record Day : Type 0 where
   pub hours : ℕ
   pub steps : List Step
   pub blocks : List Block
+  pub links : List Link
 
 -- HOURS
 -- The hour in which the clocks change; the hours of a day, of the one in spring that lacks it, and of the one in autumn that has it twice.
@@ -54,6 +55,7 @@ dayOf orders =
       hours = canonical orders .hours;
       steps = stepsOf (canonical orders .steps);
       blocks = eachOnDay (canonical orders .hours) (canonical orders .blocks);
+      links = canonical orders .links;
     }
 
 -- The sum of a number of each of the hours 1 to n.
@@ -129,6 +131,22 @@ hourCount hours b = daySum hours (λ h. when (b .runs h) 1)
 unfoldable pub priceSum : ℕ → (ℕ → ℕ) → Block → ℕ
 priceSum hours price b = daySum hours (λ h. when (b .runs h) (price h))
 
+-- LINKS
+-- Some block of a list has this number.
+abbrev pub isAmong : List Block → ℕ → Bool
+isAmong [] number = false
+isAmong (b ∷ l) number = eqb (b .number) number || isAmong l number
+
+-- The blocks of a set keep a link: its child is not among them, or its parent is.
+unfoldable pub keepsLink : List Block → Link → Bool
+keepsLink set link = not (isAmong set (link .child)) || isAmong set (link .parent)
+
+-- A test passes for every link of a list.
+abbrev pub everyLink : (Link → Bool) → List Link → Bool
+everyLink t [] = true
+everyLink t (link ∷ l) = t link && everyLink t l
+
+-- LIMITS
 -- A block keeps its limit: the sum of prices over its hours is at least its price times its hour count for a sell, at most that for a buy.
 unfoldable pub keepsLimit : ℕ → (ℕ → ℕ) → Block → Bool
 keepsLimit hours price b =
@@ -146,11 +164,11 @@ unfoldable pub keepsLimits : Day → List Block → Bool
 keepsLimits day set = everyBlock (keepsLimit (day .hours) (setPrices day set)) set
 
 -- LAWFUL SETS ("lawful" is document 01's term)
--- Which sets may be taken at all. Today every set.
+-- Which sets may be taken at all: those that hold every taken child's parent.
 unfoldable pub allowed : Day → List Bool → Bool
-allowed day set = true
+allowed day set = everyLink (keepsLink (taken (day .blocks) set)) (day .links)
 
--- A set is lawful when every hour clears and each of its blocks keeps its limit.
+-- A set is lawful when it may be taken, every hour clears and each of its blocks keeps its limit.
 unfoldable pub lawful : Day → List Bool → Bool
 lawful day set =
     allowed day set

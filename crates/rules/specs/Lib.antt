@@ -1,4 +1,4 @@
--- The auction's rules, as document 01 states them. Definitions only, in reading order.
+-- The auction's rules, as documents 01 and 02 state them. Definitions only, in reading order.
 pub mod Orders
 pub mod Hour
 pub mod Execution
@@ -6,5 +6,7 @@ pub mod Day
 pub mod Outcome
 pub mod Contender
 pub mod OutcomeRules
+pub mod Families
 pub mod WorkedDays
+pub mod WorkedFamilies
 pub mod Cases

@@ -28,11 +28,17 @@ pub record Block : Type 0 where
   pub quantity : ℕ
   pub runs : ℕ → Bool
 
--- What a book says: how many hours the day has, the orders of the step chain, the blocks.
+-- A link between blocks: the one numbered child may be taken only with the one numbered parent.
+pub record Link : Type 0 where
+  pub child : ℕ
+  pub parent : ℕ
+
+-- What a book says: how many hours the day has, the orders of the step chain, the blocks, the links.
 pub record Orders : Type 0 where
   pub hours : ℕ
   pub steps : List Order
   pub blocks : List Block
+  pub links : List Link
 
 -- The highest price; the lowest is 1.
 abbrev pub maxPrice : ℕ
@@ -43,7 +49,8 @@ pub record Limits : Type 0 where
   pub blockQuantity : ℕ
   pub blocksOfPortfolio : ℕ
 
--- The limits of an edition: a block's largest quantity, and how many blocks a portfolio may have. Edition 2 follows the notice of 2012.
+-- The limits of an edition: a block's largest quantity, and how many blocks a portfolio may have. Edition 2 follows the notice of 2012, and later ones
+-- have all of it.
 unfoldable pub limits : ℕ → Limits
 limits edition =
     cond (leb edition 1) (record { blockQuantity = 50; blocksOfPortfolio = 5 }) (record { blockQuantity = 250; blocksOfPortfolio = 10 })

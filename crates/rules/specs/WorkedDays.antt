@@ -35,11 +35,12 @@ baseWith blocks =
       hours = 24;
       steps = step 1 buy 1 100 5000 ∷ step 2 sell 1 100 3000 ∷ step 3 buy 2 100 5000 ∷ step 4 sell 2 100 3000 ∷ [];
       blocks = blocks;
+      links = [];
     }
 
 -- A book of steps alone.
 abbrev pub stepsAlone : List Order → Orders
-stepsAlone steps = record { hours = 24; steps = steps; blocks = [] }
+stepsAlone steps = record { hours = 24; steps = steps; blocks = []; links = [] }
 
 -- A number for each of the first hours, the other for the rest of the 24.
 abbrev pub rest23 : ℕ → ℕ → List ℕ
@@ -133,6 +134,7 @@ buyBlockDay limit price traded chosen rows welfare =
         hours = 24;
         steps = step 1 buy 1 50 5000 ∷ step 2 sell 1 100 3000 ∷ step 3 buy 2 50 5000 ∷ step 4 sell 2 100 3000 ∷ [];
         blocks = block 1 buy 3 50 limit ∷ [];
+        links = [];
       };
       publishes = record {
         welfare = welfare;
@@ -152,7 +154,7 @@ furtherDays =
     ∷ buyBlockDay 3999 3000 50 (false ∷ []) (50 ∷ 50 ∷ 50 ∷ 50 ∷ []) 200000
     -- a buy block over hours 23 and 24 at 2500 is taken at prices 2000 and 3000: the sum decides; and by the equal rule, for it brings nothing
     ∷ record {
-      orders = record { hours = 24; steps = step 1 sell 23 60 2000 ∷ step 2 sell 24 60 3000 ∷ []; blocks = block 1 buy 12582912 50 2500 ∷ [] };
+      orders = record { hours = 24; steps = step 1 sell 23 60 2000 ∷ step 2 sell 24 60 3000 ∷ []; blocks = block 1 buy 12582912 50 2500 ∷ []; links = [] };
       publishes = record {
         welfare = 0;
         prices = last2 150000 2000 3000;
@@ -168,6 +170,7 @@ furtherDays =
         hours = 24;
         steps = step 1 sell 1 40 2000 ∷ step 2 sell 24 100 3000 ∷ step 3 buy 24 60 4000 ∷ [];
         blocks = block 1 sell 8388609 20 2500 ∷ block 2 buy 8388609 50 2500 ∷ [];
+        links = [];
       };
       publishes = record {
         welfare = 60000;
@@ -182,7 +185,7 @@ furtherDays =
     ∷ hourDay [] 150000 0 [] 0
     -- a sell block at 3000 and a buy block at 5000 alone: together they meet the price 150000, which the buy's limit forbids; neither clears alone
     ∷ record {
-      orders = record { hours = 24; steps = []; blocks = block 1 sell 3 50 3000 ∷ block 2 buy 3 50 5000 ∷ [] };
+      orders = record { hours = 24; steps = []; blocks = block 1 sell 3 50 3000 ∷ block 2 buy 3 50 5000 ∷ []; links = [] };
       publishes = record {
         welfare = 0;
         prices = replicate 24 150000;
@@ -214,6 +217,7 @@ autumnOrders limit =
       hours = 25;
       steps = step 1 buy 2 100 5000 ∷ step 2 sell 2 50 3000 ∷ step 3 buy 3 100 5000 ∷ step 4 sell 3 100 3000 ∷ [];
       blocks = block23 limit ∷ [];
+      links = [];
     }
 
 abbrev pub autumnDay : (limit : ℕ) (prices traded : List ℕ) → List Bool → List ℕ → ℕ → WorkedDay
@@ -232,6 +236,7 @@ changeDays =
         hours = 25;
         steps = step 1 buy 2 100 5000 ∷ step 2 sell 2 100 3000 ∷ step 3 buy 3 100 5000 ∷ step 4 sell 3 100 3000 ∷ [];
         blocks = block23 2900 ∷ [];
+        links = [];
       };
       publishes = record {
         welfare = 615000;
@@ -248,6 +253,7 @@ changeDays =
         hours = 23;
         steps = step 1 buy 2 100 5000 ∷ step 2 sell 2 100 3000 ∷ step 3 buy 4 100 5000 ∷ step 4 sell 4 100 3000 ∷ [];
         blocks = block234 2900 ∷ [];
+        links = [];
       };
       publishes = record {
         welfare = 410000;
@@ -262,6 +268,43 @@ changeDays =
     ∷ autumnDay 3333 (hours234 150000 4000 3000 150000) (hours234 0 100 100 0) (true ∷ []) (100 ∷ 50 ∷ 100 ∷ 50 ∷ []) 550050
     -- one cent more, and it is left out, though the plain sum of 7000 would do for two hours
     ∷ autumnDay 3334 (hours234 150000 5000 4000 150000) (hours234 0 50 100 0) (false ∷ []) (50 ∷ 50 ∷ 100 ∷ 100 ∷ []) 500000
+    ∷ []
+
+-- DAYS WITH LINKED BLOCKS (document 02, P6): the base book with two blocks over hours 1 and 2 (bits 3), the second the child of the first.
+abbrev pub linkedDay : Block → Block → (price traded : ℕ) → List Bool → List ℕ → ℕ → List PriceFact → WorkedDay
+linkedDay parent child price traded chosen rows welfare facts =
+    record {
+      orders = record {
+        hours = 24;
+        steps = baseWith [] .steps;
+        blocks = parent ∷ child ∷ [];
+        links = record { child = 2; parent = 1 } ∷ [];
+      };
+      publishes = record {
+        welfare = welfare;
+        prices = rest22 price price 150000;
+        traded = rest22 traded traded 0;
+        chosen = chosen;
+        executed = rows;
+      };
+      prices = facts;
+    }
+
+unfoldable pub linkedDays : List WorkedDay
+linkedDays =
+    -- a start-up block at 3500 loses alone, at prices of 3000; with its child, which buys as much at 4500, both gain, and both are taken
+    linkedDay (block 1 sell 3 50 3500) (block 2 buy 3 50 4500) 4000 150 (true ∷ true ∷ []) (100 ∷ 100 ∷ 100 ∷ 100 ∷ []) 500000
+    (fact (true ∷ false ∷ []) 1 3000 3000 3000 ∷ fact (false ∷ true ∷ []) 1 5000 5000 5000 ∷ [])
+    -- the same with a child at 3900, which misses its limit at the 4000 of both: neither is taken
+    ∷ linkedDay (block 1 sell 3 50 3500) (block 2 buy 3 50 3900) 4000 100 (false ∷ false ∷ []) (100 ∷ 100 ∷ 100 ∷ 100 ∷ []) 400000
+    (fact (true ∷ true ∷ []) 1 3000 5000 4000 ∷ [])
+    -- a child at 2900 would be taken alone, as in S5; its parent, at 4500, is not, and so it is left out
+    ∷ linkedDay (block 1 sell 3 50 4500) (block 2 sell 3 50 2900) 4000 100 (false ∷ false ∷ []) (100 ∷ 100 ∷ 100 ∷ 100 ∷ []) 400000
+    (fact (false ∷ true ∷ []) 1 3000 3000 3000 ∷ [])
+    -- equal welfare with the family, with the parent alone and without both: the family is taken, by the equal rule
+    ∷ linkedDay (block 1 sell 3 25 3000) (block 2 sell 3 25 3000) 3000 100 (true ∷ true ∷ []) (100 ∷ 50 ∷ 100 ∷ 50 ∷ []) 400000 []
+    -- the same with a parent one cent dearer: it is left out, and its child with it
+    ∷ linkedDay (block 1 sell 3 25 3001) (block 2 sell 3 25 3000) 4000 100 (false ∷ false ∷ []) (100 ∷ 100 ∷ 100 ∷ 100 ∷ []) 400000 []
     ∷ []
 
 -- The hour is answered so.

@@ -8,9 +8,10 @@ use mathlib.Core.Logic.{_⊎_, inl, inr}
 use native.Mathlib.Nat.{eq-or-lt-of-le}
 use native.Mathlib.Numerals.{add-one}
 use lib.Dec.{eqb}
-use lib.ListN.{length, getD, length-append}
+use lib.ListN.{length, getD, length-append, List·getD-append}
+use lib.Seq.{getD-append-seam}
 use lib.Pow.{pow-mono, shr-shr}
-use borrow.Author.Tests.{eqb-true, eqb-false, ne-eqb, not-true}
+use borrow.Author.Tests.{eqb-true, eqb-false, eq-eqb, ne-eqb, not-true}
 use Rattle.rules.specs.Orders.{Step}
 use Rattle.rules.specs.Hour.{when}
 use Rattle.rules.specs.Day.{Day, decisions, lawful}
@@ -18,16 +19,17 @@ use Rattle.rules.proofs.Tests.{by-test, both, clash}
 use Rattle.rules.proofs.CurveLaws.{when-le}
 use Rattle.rules.proofs.LossLaws.{losses-taken, losses-left}
 use Rattle.rules.proofs.SearchLaws.{decided-next}
+use Rattle.rules.proofs.LinkLaws.{Closed}
 use Rattle.rules.proofs.TwinLaws.{InTurn, turn-left, turn-taken}
-use Rattle.rules.proofs.SetBits.{bits-at, bits-taken, bits-left, bits-room}
+use Rattle.rules.proofs.SetBits.{bits-taken, bits-left, bits-room}
 use Rattle.rules.proofs.PlaceLaws.{place-taken, place-left}
 use Rattle.rules.proofs.LossSearchLaws as by-loss
 use Rattle.book.specs.Bounds.{mostBlocks}
 use Rattle.places.specs.Layout.{hourPlaces, mostAdded}
 use Rattle.places.specs.Hours.{Small, ofHour}
-use Rattle.places.specs.Blocks.{sideAt, againstAt, gainAt, aheadAt, behindAt, rowQuantity, BlocksSized}
+use Rattle.places.specs.Blocks.{sideAt, againstAt, gainAt, parentAt, aheadAt, behindAt, rowQuantity, BlocksSized}
 use Rattle.places.specs.Reach.{isOut}
-use Rattle.search.specs.Decisions.{isBarred, isDue}
+use Rattle.search.specs.Decisions.{namesLeft, isBarred, isDue}
 use Rattle.search.specs.Meaning.{
   Fits,
   Shown,
@@ -47,8 +49,10 @@ use Rattle.search.specs.Meaning.{
 }
 use Rattle.search.specs.Tables.{Tables}
 use Rattle.places.proofs.AddedLaws.{places-grow}
+use Rattle.search.proofs.ClosedLaws.{next-closed, lawful-closed}
+use Rattle.search.proofs.DecisionLaws.{left-some, neither}
 use Rattle.search.proofs.TradedLaws.{sells-at, buys-at}
-use Rattle.search.proofs.DecidedLaws.{as-it-was}
+use Rattle.search.proofs.DecidedLaws.{decided-bit, as-it-was}
 use Rattle.search.specs.declared.Best.{Best}
 use Rattle.search.specs.declared.Node.{Node}
 
@@ -134,26 +138,63 @@ out-not day p rest d left limit out pos f is t l law = elim (native.Mathlib.Deci
   | no k ↦ clash refl (f (true ∷ t) 0 (omega arith) law (native.Mathlib.Nat.lt-of-not-le k) pos is)
 ]
 
--- TWINS
-decided-bit : {day : Day} {p : ℕ → ℕ} {d : List Bool} {node : Node} → Branch day p d node → (a : ℕ) → a < length d →
-    getD d a false ≡ eqb (node .set / 2 ^ a % 2) 1
-decided-bit {d = d} {node} branch a k = rw (← (branch .setIs)) (bits-at (length d) (node .set) a k)
+-- A BLOCK THAT IS NAMED by a column, among the decided ones
+-- it is left out: then there is one, and its decision says so
+named-left : {day : Day} {p : ℕ → ℕ} {d : List Bool} {node : Node} → Branch day p d node → (name : ℕ) → name ≤ length d → namesLeft name (node .set) ≡ true →
+    (name ≡ suc (name - 1)) × (getD d (name - 1) false ≡ false)
+unfolding namesLeft
+named-left {node = node} branch name le left =
+    let tests = both (not (eqb name 0)) (eqb (node .set / 2 ^ (name - 1) % 2) 0) left in
+    let some = eqb-false name 0 (not-true _ (tests .0)) in
+    let zero-bit = eqb-true (node .set / 2 ^ (name - 1) % 2) 0 (tests .1) in
+    (omega arith, decided-bit branch (name - 1) (omega arith) ∙ ne-eqb (node .set / 2 ^ (name - 1) % 2) 1 (λ e. omega arith))
 
--- a block is in no completion that counts: a twin that is taken before it is left out, or it is out
-barred-not : {day : Day} {p rest : ℕ → ℕ} {tables : Tables} → Known day p rest tables →
-    {d : List Bool} {node : Node} → Branch day p d node → length d < tables .count → isBarred (tables .blocks) (length d) (node .set) ≡ true →
-    (t : List Bool) → InTurn day p (d ++ (true ∷ t)) → ⊥
-unfolding isBarred
-barred-not {day} {p} {tables = tables} known {d} {node} branch k barred t kept =
-    let tests = both (not (eqb (aheadAt (tables .blocks) (length d)) 0)) (eqb (node .set / 2 ^ (aheadAt (tables .blocks) (length d) - 1) % 2) 0) barred in
-    let some = eqb-false (aheadAt (tables .blocks) (length d)) 0 (not-true _ (tests .0)) in
-    let is : aheadAt (tables .blocks) (length d) ≡ suc (aheadAt (tables .blocks) (length d) - 1) = omega arith in
-    let twin = known .ahead (length d) (aheadAt (tables .blocks) (length d) - 1) k is in
-    let zero-bit = eqb-true (node .set / 2 ^ (aheadAt (tables .blocks) (length d) - 1) % 2) 0 (tests .1) in
-    let without : getD d (aheadAt (tables .blocks) (length d) - 1) false ≡ false =
-    decided-bit branch (aheadAt (tables .blocks) (length d) - 1) (twin .0) ∙ ne-eqb (node .set / 2 ^ (aheadAt (tables .blocks) (length d) - 1) % 2) 1
-    (λ e. omega arith) in
-    turn-left day p d (aheadAt (tables .blocks) (length d) - 1) (twin .0) (twin .1) without t kept
+-- it is not left out: then, if there is one, it is taken
+named-taken : {day : Day} {p : ℕ → ℕ} {d : List Bool} {node : Node} → Branch day p d node → (name k : ℕ) → name ≡ suc k → k < length d →
+    namesLeft name (node .set) ≡ false → getD d k false ≡ true
+named-taken {node = node} branch name k is inside kept =
+    let e : name - 1 ≡ k = omega arith in
+    let odd = eqb-false (node .set / 2 ^ k % 2) 0 (rw e at (left-some name (node .set) (λ z. omega arith) ∙ kept)) in
+    decided-bit branch k inside ∙ eq-eqb (node .set / 2 ^ k % 2) 1 (omega arith)
+
+-- A block is in no completion that counts: its parent is left out, or a twin that is taken before it
+module _ {day : Day} {p rest : ℕ → ℕ} {tables : Tables} (known : Known day p rest tables) {d : List Bool} {node : Node} (branch : Branch day p d node)
+    (k : length d < tables .count) where
+  parent-here : parentAt (tables .blocks) (length d) ≡ known .parent (length d)
+  parent-here = known .parentIs (length d) k
+
+  parent-below : parentAt (tables .blocks) (length d) ≤ length d
+  parent-below = omega (arith, parent-here, known .parents .before (length d))
+
+  orphan-not : namesLeft (parentAt (tables .blocks) (length d)) (node .set) ≡ true → (t : List Bool) → length (d ++ (true ∷ t)) ≡ tables .count →
+      lawful day (d ++ (true ∷ t)) ≡ true → ⊥
+  orphan-not left t size law =
+      let named = named-left branch _ parent-below left in
+      clash (lawful-closed known (d ++ (true ∷ t)) size law (length d) _ (sym parent-here ∙ named .0) (getD-append-seam d true t false))
+      (List·getD-append d (true ∷ t) false _ (omega (arith, named .0, parent-below)) ∙ named .1)
+
+  turned-not : namesLeft (aheadAt (tables .blocks) (length d)) (node .set) ≡ true → (t : List Bool) → InTurn day p (d ++ (true ∷ t)) → ⊥
+  turned-not left t kept =
+      let ahead = aheadAt (tables .blocks) (length d) in
+      let some = eqb-false ahead 0 (not-true _ (both (not (eqb ahead 0)) (eqb (node .set / 2 ^ (ahead - 1) % 2) 0) (unfold namesLeft in left) .0)) in
+      let is : ahead ≡ suc (ahead - 1) = omega arith in
+      let twin = known .ahead (length d) (ahead - 1) k is in
+      turn-left day p d (ahead - 1) (twin .0) (twin .1) (named-left branch ahead (omega (arith, twin .0)) left .1) t kept
+
+  barred-not : isBarred (tables .blocks) (length d) (node .set) ≡ true → (t : List Bool) → length (d ++ (true ∷ t)) ≡ tables .count →
+      lawful day (d ++ (true ∷ t)) ≡ true → InTurn day p (d ++ (true ∷ t)) → ⊥
+  unfolding isBarred
+  barred-not barred t size law kept =
+      by-test (λ u. (u || namesLeft (aheadAt (tables .blocks) (length d)) (node .set)) ≡ true →
+      namesLeft (parentAt (tables .blocks) (length d)) (node .set) ≡ u → ⊥) (namesLeft (parentAt (tables .blocks) (length d)) (node .set))
+      (λ is _ _. orphan-not is t size law) (λ _ is _. turned-not is t kept) barred refl
+
+  -- a block that is not barred has its parent taken, if it has one
+  parent-taken : isBarred (tables .blocks) (length d) (node .set) ≡ false → (i : ℕ) → known .parent (length d) ≡ suc i → getD d i false ≡ true
+  unfolding isBarred
+  parent-taken free i link =
+      let named : parentAt (tables .blocks) (length d) ≡ suc i = parent-here ∙ link in
+      named-taken branch _ i named (omega (arith, parent-below)) (neither _ _ free .0)
 
 -- A BRANCH, one law for each way out
 module _ {tables : Tables} where
@@ -171,6 +212,7 @@ module _ {tables : Tables} where
         known = at .known;
         turning = at .turning;
         branch = at .branch;
+        closed = at .closed;
         size = at .size;
         outOf = judged .outOf e day p rest d at;
       }
@@ -180,7 +222,7 @@ module _ {tables : Tables} where
       Decided tables steps node best r →
       ExploredFrom tables steps left out node best r
   explored-decided e room f day p rest d same at =
-      rw e (f day p rest d same (at .known) (at .branch) (omega (arith, at .size)) room)
+      rw e (f day p rest d same (at .known) (at .branch) (at .closed) (omega (arith, at .size)) room)
 
   module _ {left out : ℕ} {node : Node} {limit : ℕ} (pos : 0 < left) (le : left ≤ tables .count) (room : node .set < 2 ^ (tables .count - left))
       {day : Day} {p rest : ℕ → ℕ} {d : List Bool} (here : At tables left node limit out day p rest d) where
@@ -193,12 +235,18 @@ module _ {tables : Tables} where
     room-here : node .set < 2 ^ length d
     room-here = rw (← at-is) room
 
-    pub at-taken : {r : Node} (less : ℕ) → TakenTo (tables .blocks) (tables .count - left) node r → less ≤ limit →
+    closed-next : (x : Bool) → (x ≡ true → (k : ℕ) → here .known .parent (length d) ≡ suc k → getD d k false ≡ true) →
+        Closed (here .known .parent) (d ++ (x ∷ []))
+    closed-next = next-closed (here .known .parent) (here .known .parents .before) d (here .closed)
+
+    pub at-taken : {r : Node} (less : ℕ) → isBarred (tables .blocks) (tables .count - left) (node .set) ≡ false →
+        TakenTo (tables .blocks) (tables .count - left) node r → less ≤ limit →
         At tables (left - 1) r less (out / 2) day p rest (d ++ (true ∷ []))
-    at-taken {r} less t small = record {
+    at-taken {r} less free t small = record {
       known = here .known;
       turning = here .turning;
       branch = branch-taken (here .known) node r (here .branch) room-here one-more (rw at-is at t);
+      closed = closed-next true (λ _. parent-taken (here .known) (here .branch) one-more (rw at-is at free));
       size = omega (arith, length-append d (true ∷ []), here .size);
       outOf = out-next day p rest d true left limit less out pos small (here .outOf);
     }
@@ -209,19 +257,20 @@ module _ {tables : Tables} where
       known = here .known;
       turning = here .turning;
       branch = branch-left (here .known) node r (here .branch) room-here one-more (rw at-is at t);
+      closed = closed-next false (λ e. clash e refl);
       size = omega (arith, length-append d (false ∷ []), here .size);
       outOf = out-next day p rest d false left limit less out pos small (here .outOf);
     }
 
   -- a block is taken and then left out
   pub explored-both : {steps : ℕ → List Step} {left out : ℕ} {node taken-node left-node : Node} {best m r : Best} → 0 < left → left ≤ tables .count →
-      node .set < 2 ^ (tables .count - left) → TakenTo (tables .blocks) (tables .count - left) node taken-node →
-      LeftTo (tables .blocks) (tables .count - left) node left-node →
+      node .set < 2 ^ (tables .count - left) → isBarred (tables .blocks) (tables .count - left) (node .set) ≡ false →
+      TakenTo (tables .blocks) (tables .count - left) node taken-node → LeftTo (tables .blocks) (tables .count - left) node left-node →
       ExploredFrom tables steps (left - 1) (out / 2) taken-node best m →
       ExploredFrom tables steps (left - 1) (out / 2) left-node m r →
       ExploredFrom tables steps left out node best r
-  explored-both {left = left} {best = best} {m} {r} pos le room t l f g day p rest d same at =
-      let a = f day p rest (d ++ (true ∷ [])) same (at-taken pos le room at (best .limit) t (omega arith)) in
+  explored-both {left = left} {best = best} {m} {r} pos le room free t l f g day p rest d same at =
+      let a = f day p rest (d ++ (true ∷ [])) same (at-taken pos le room at (best .limit) free t (omega arith)) in
       let lower₁ : m .limit ≤ best .limit = a .explored .noMore in
       let b = g day p rest (d ++ (false ∷ [])) same (at-left pos le room at (m .limit) l lower₁) in
       let one : suc (left - 1) ≡ left = omega arith in
@@ -252,7 +301,8 @@ module _ {tables : Tables} where
             (λ t lt law kept. by-test (λ u. (u || isBarred (tables .blocks) (length d) (node .set)) ≡ true → isOut out 0 ≡ u →
             best .limit ≤ lossAbove day p rest (d ++ (true ∷ t))) (isOut out 0)
             (λ is _ _. out-not day p rest d left (best .limit) out pos (at .outOf) is t lt law)
-            (λ _ is _. absurd (barred-not (at .known) (at .branch) (omega (arith, at .size)) is t kept))
+            (λ _ is _. absurd (barred-not (at .known) (at .branch) (omega (arith, at .size)) is t
+            (omega (arith, length-append d (true ∷ t), at .size)) law kept))
             (rw here at barred) refl)
             (b .explored));
         same = b .same;
@@ -260,17 +310,17 @@ module _ {tables : Tables} where
       }
 
   pub explored-taken : {steps : ℕ → List Step} {left out : ℕ} {node taken-node : Node} {best r : Best} → 0 < left → left ≤ tables .count →
-      node .set < 2 ^ (tables .count - left) →
+      node .set < 2 ^ (tables .count - left) → isBarred (tables .blocks) (tables .count - left) (node .set) ≡ false →
       isDue (tables .blocks) (tables .count - left) (node .set) ≡ true → TakenTo (tables .blocks) (tables .count - left) node taken-node →
       ExploredFrom tables steps (left - 1) (out / 2) taken-node best r →
       ExploredFrom tables steps left out node best r
   unfolding isDue
-  explored-taken {left = left} {node = node} {best = best} pos le room due t f day p rest d same at =
+  explored-taken {left = left} {node = node} {best = best} pos le room free due t f day p rest d same at =
       let here : tables .count - left ≡ length d = omega (arith, at .size) in
       let k : length d < tables .count = omega (arith, at .size) in
       let known = at .known in
       let branch = at .branch in
-      let b = f day p rest (d ++ (true ∷ [])) same (at-taken pos le room at (best .limit) t (omega arith)) in
+      let b = f day p rest (d ++ (true ∷ [])) same (at-taken pos le room at (best .limit) free t (omega arith)) in
       let one : suc (left - 1) ≡ left = omega arith in
       let tests = both (not (eqb (behindAt (tables .blocks) (length d)) 0)) (eqb (node .set / 2 ^ (behindAt (tables .blocks) (length d) - 1) % 2) 1)
       (rw here at due) in

@@ -18,6 +18,7 @@ use Rattle.rules.proofs.PricingLaws.{Clearable}
 use Rattle.rules.proofs.TableLaws.{unit-net, tablePrice}
 use Rattle.rules.proofs.NeighbourLaws.{slack}
 use Rattle.rules.proofs.LossLaws.{daySum-counted, lossOf}
+use Rattle.rules.proofs.LinkLaws.{Closed}
 use Rattle.rules.proofs.TwinLaws.{InTurn, block-at, passes-taken}
 use Rattle.rules.proofs.SetBits.{bits-at}
 use Rattle.rules.proofs.PlaceLaws.{
@@ -43,7 +44,6 @@ use Rattle.search.specs.Meaning.{AnHour, Shown, Known, Branch, lossAbove
 use Rattle.search.specs.Tables.{Tables}
 use Rattle.places.proofs.LimitLaws.{keepsHere, all-keep-at, all-keep}
 use Rattle.places.proofs.CountedLaws.{day-sum, block-sum}
-use Rattle.search.proofs.AllowedSets.{set-allowed}
 use Rattle.search.proofs.TradedLaws.{traded-are}
 use Rattle.search.specs.declared.Best.{Best}
 use Rattle.search.specs.declared.Node.{Node}
@@ -70,6 +70,11 @@ noBlock = record { number = 0; side = buy; price = 0; quantity = 0; runs = λ h.
 same-test : (side side′ : Side) (sum sum′ limit limit′ : ℕ) → side ≡ side′ → sum ≡ sum′ → limit ≡ limit′ →
     testSide side (leb sum limit) (leb limit sum) ≡ testSide side′ (leb sum′ limit′) (leb limit′ sum′)
 same-test side side′ sum sum′ limit limit′ a b c = rw (a, b, c)
+
+-- a decision of a branch is its set's bit
+pub decided-bit : {day : Day} {p : ℕ → ℕ} {d : List Bool} {node : Node} → Branch day p d node → (a : ℕ) → a < length d →
+    getD d a false ≡ eqb (node .set / 2 ^ a % 2) 1
+decided-bit {d = d} {node} branch a k = rw (← (branch .setIs)) (bits-at (length d) (node .set) a k)
 
 -- THE DAY AT ITS TABLES
 -- the price at a place, by the price table
@@ -158,11 +163,11 @@ module _ {day : Day} {p rest : ℕ → ℕ} {tables : Tables} (known : Known day
           same-test _ _ _ _ _ _ (s .sideIs) sum (s .limitIs)
 
       bit-is : (j : ℕ) → j < tables .count → getD d j false ≡ eqb (node .set / 2 ^ j % 2) 1
-      bit-is j k = rw (← (branch .setIs)) (bits-at (length d) (node .set) j (omega arith))
+      bit-is j k = decided-bit branch j (omega arith)
 
-      pub limits-kept : allKeep (tables .blocks) (node .set) (countedColumn (tables .change) prices) (countedColumn (tables .change) prices) (tables .count) ≡ true → lawful day d ≡ true
-      limits-kept e =
-          lawful-by-places day d size (known .prices) (known .hours) (set-allowed day d) (λ h c. clear-at h (an-hour c))
+      pub limits-kept : Closed (known .parent) d → allKeep (tables .blocks) (node .set) (countedColumn (tables .change) prices) (countedColumn (tables .change) prices) (tables .count) ≡ true → lawful day d ≡ true
+      limits-kept closed e =
+          lawful-by-places day d size (known .prices) (known .hours) (known .parents .allows d size closed) (λ h c. clear-at h (an-hour c))
           (passes-taken noBlock _ (day .blocks) d (λ j k t.
           let kc : j < tables .count = omega (arith, known .counted) in
           let s = known .shown j kc in
@@ -214,7 +219,7 @@ module _ {tables : Tables} {node : Node} {clears : Bool} {sum : ℕ}
     (gapped : GapsOf (sumOver (tables .change)) mostCountedGaps (tables .gaps) (tables .first) (tables .last) (node .places) clears sum) where
   -- some hour does not clear
   pub decided-unclear : {steps : ℕ → List Step} {best : Best} → clears ≡ false → Decided tables steps node best best
-  decided-unclear e day p rest d same known branch whole room =
+  decided-unclear e day p rest d same known branch closed whole room =
       leaf-as-it-was (λ law. absurd (gapped .notInRange e (lawful-in-range known branch whole law)))
 
   module _ (e : clears ≡ true) where
@@ -225,12 +230,12 @@ module _ {tables : Tables} {node : Node} {clears : Bool} {sum : ℕ}
 
     -- it loses as much as the best or more
     pub decided-worse : {steps : ℕ → List Step} {best : Best} → best .limit ≤ node .loss + sum → Decided tables steps node best best
-    decided-worse k day p rest d same known branch whole room = leaf-as-it-was (λ law. omega (arith, loss-here known branch whole))
+    decided-worse k day p rest d same known branch closed whole room = leaf-as-it-was (λ law. omega (arith, loss-here known branch whole))
 
     module _ {prices : List ℕ} (priced : PricesOf (tables .unitPrices) (node .places) prices) {steps : ℕ → List Step} {best : Best} where
       -- a block misses its limit
       pub decided-broken : allKeep (tables .blocks) (node .set) (countedColumn (tables .change) prices) (countedColumn (tables .change) prices) (tables .count) ≡ false → Decided tables steps node best best
-      decided-broken k day p rest d same known branch whole room =
+      decided-broken k day p rest d same known branch closed whole room =
           leaf-as-it-was (λ law. absurd (limits-broken known branch whole (gapped .inRange e) priced k law))
 
       -- it is lawful and loses less
@@ -239,9 +244,9 @@ module _ {tables : Tables} {node : Node} {clears : Bool} {sum : ℕ}
           HoursTraded steps sales purchases prices quantities →
           Decided tables steps node best
           record { limit = node .loss + sum; set = node .set; day = record { prices = prices; quantities = quantities } }
-      decided-better k less {sales} {purchases} {quantities} sets trades day p rest d same known branch whole room =
+      decided-better k less {sales} {purchases} {quantities} sets trades day p rest d same known branch closed whole room =
           let in-range = gapped .inRange e in
-          let law = limits-kept known branch whole in-range priced k in
+          let law = limits-kept known branch whole in-range priced closed k in
           let is = prices-are known branch whole in-range priced in
           newly-found day p rest (tables .count) d (node .set) best _ (rw whole at (branch .setIs)) room refl (sym (loss-here known branch whole)) less law
           record { pricesAre = is; tradedAre = traded-are known same whole (branch .setIs) law prices quantities sets is trades }

@@ -1,39 +1,45 @@
 -- THE REACH OF A BRANCH: the places of a lawful completion lie in it, so a branch is dropped where some hour has no place to balance, or where the least
 -- gaps in it come to too much. Assumes nothing.
-use Prim.Native.Nat.{ℕ, zero, suc, _+_, _-_, _≤_, _<_}
-use mathlib.Core.Path.{_≡_, refl, sym, _∙_}
+use Prim.Native.Nat.{ℕ, zero, suc, _+_, _-_, _/_, _%_, _^_, _≤_, _<_}
+use mathlib.Core.Path.{_≡_, refl, sym, ap, _∙_}
 use mathlib.Core.List.{List, [], _∷_, _++_}
 use mathlib.Core.Bool.{Bool, true, false, not, _||_}
 use native.Mathlib.Omega.{arith}
+use mathlib.Core.Logic.{_⊎_, inl, inr}
 use native.Mathlib.Decide.{decLe}
 use native.Mathlib.Nat.{lt-of-not-le, suc-inj}
-use lib.Dec.{leb}
+use lib.Dec.{leb, eqb}
+use lib.Pow.{shr-shr}
 use lib.ListN.{length, drop, getD, length-append, List·getD-append}
-use borrow.Author.Tests.{eq-eqb}
+use borrow.Author.Tests.{leb-true, eq-eqb}
 use Rattle.rules.specs.Orders.{Side}
+use Rattle.rules.specs.Hour.{when}
 use Rattle.rules.specs.Execution.{testSide}
 use Rattle.rules.specs.Day.{Day, taken, hourOf, priceSum, lawful}
 use Rattle.rules.proofs.HourSums.{daySum-add}
 use Rattle.rules.proofs.Tests.{by-test, clash}
+use Rattle.rules.proofs.CurveLaws.{when-le}
 use Rattle.rules.proofs.NeighbourLaws.{slack}
 use Rattle.rules.proofs.BoundLaws.{gain}
 use Rattle.rules.proofs.LossLaws.{daySum-counted, against, losses, bound-with}
-use Rattle.rules.proofs.SetBits.{bits-at}
 use Rattle.rules.proofs.PlaceLaws.{place, place-none, place-split, pricesAt}
+use Rattle.rules.proofs.LinkLaws.{Closed}
 use Rattle.rules.proofs.TwinLaws.{block-at}
 use Rattle.rules.proofs.LawCutLaws.{couldKeep, taken-could}
 use Rattle.places.specs.Hours.{sumOfHours, sumOver, countedColumn, cell, ofHour, PricesOf, leastGap}
-use Rattle.places.specs.Blocks.{sideAt, hoursAt, limitAt, rowQuantity, keepsAt, allKeep, addedIn}
+use Rattle.places.specs.Blocks.{sideAt, hoursAt, limitAt, gainAt, parentAt, rowQuantity, keepsAt, allKeep, addedIn}
 use Rattle.places.specs.Reach.{isOut, mustFrom, mayFrom, RestOf, ReachOf}
-use Rattle.search.specs.Decisions.{isRuledOut}
+use Rattle.search.specs.Decisions.{namesGone, isRuledOut, outGains, RuledOut}
 use Rattle.search.specs.Meaning.{AnHour, Shown, Known, Branch, lossAbove, At, DroppedFrom, JudgedFrom, lastReached}
 use Rattle.search.specs.Tables.{Tables}
 use Rattle.places.proofs.NumberLaws.{larger-least, larger-above, smaller-most, smaller-below, nearest-least}
 use Rattle.places.proofs.LimitLaws.{all-keep}
 use Rattle.places.proofs.ReachLaws.{taken-adds, left-adds, to-fits}
 use Rattle.places.proofs.CountedLaws.{day-sum, block-sum}
+use Rattle.search.proofs.ClosedLaws.{lawful-closed}
+use Rattle.search.proofs.DecisionLaws.{gone-named, gone-which}
 use Rattle.search.proofs.TradedLaws.{sells-at, buys-at}
-use Rattle.search.proofs.DecidedLaws.{an-hour, noBlock, price-at-table, lawful-place, gap-of-lawful, rest-below}
+use Rattle.search.proofs.DecidedLaws.{an-hour, noBlock, decided-bit, price-at-table, lawful-place, gap-of-lawful, rest-below}
 use Rattle.search.specs.declared.Node.{Node}
 
 -- THE PLACE OF THE REST at a loss below the limit, where it takes no block that is out
@@ -82,6 +88,34 @@ module _ {day : Day} {p rest : ℕ → ℕ} {tables : Tables} (known : Known day
       let adds = buys-at s h c in
       rw (s .next) (omega arith, omega arith)
 
+-- WHAT IS OUT IS LOST: a rest that takes no block that is out loses what these would gain
+next-bit : (out k : ℕ) → isOut out (suc k) ≡ isOut (out / 2) k
+next-bit out k = let e : 1 + k ≡ suc k = omega arith in rw (← (rw e at (shr-shr out 1 k)))
+
+gains-front : (blocks : List ℕ) (i out k : ℕ) → outGains blocks i out (suc k) ≡ when (isOut out 0) (gainAt blocks i) + outGains blocks (suc i) (out / 2) k
+unfolding outGains
+gains-front blocks i out zero = let e : i + 0 ≡ i = omega arith in rw e (omega arith)
+gains-front blocks i out (suc k) =
+    let e : i + suc k ≡ suc i + k = omega arith in
+    rw (gains-front blocks i out k, next-bit out k, e) (omega arith)
+
+gains-lost : {day : Day} {p rest : ℕ → ℕ} {tables : Tables} → Known day p rest tables → (n i out : ℕ) (t : List Bool) → i + n ≡ tables .count → length t ≡ n →
+    ((k : ℕ) → k < n → isOut out k ≡ true → getD t k false ≡ false) →
+    outGains (tables .blocks) i out n ≤ losses (day .hours) p (drop i (day .blocks)) t
+unfolding outGains losses
+gains-lost known zero i out t e l avoids = omega arith
+gains-lost known (suc n) i out [] e l avoids = absurd (omega arith)
+gains-lost {tables = tables} known (suc n) i out (true ∷ t) e l avoids =
+    let s = known .shown i (omega arith) in
+    let more = gains-lost known n (suc i) (out / 2) t (omega arith) (suc-inj l) (λ k a is. avoids (suc k) (omega arith) (next-bit out k ∙ is)) in
+    let none : isOut out 0 ≡ false =
+    by-test (λ u. isOut out 0 ≡ u → u ≡ false) (isOut out 0) (λ is _. clash refl (avoids 0 (omega arith) is)) (λ _ _. refl) refl in
+    rw (s .next) (omega (arith, gains-front (tables .blocks) i out n, ap (λ u. when u (gainAt (tables .blocks) i)) none, more))
+gains-lost {tables = tables} known (suc n) i out (false ∷ t) e l avoids =
+    let s = known .shown i (omega arith) in
+    let more = gains-lost known n (suc i) (out / 2) t (omega arith) (suc-inj l) (λ k a is. avoids (suc k) (omega arith) (next-bit out k ∙ is)) in
+    rw (s .next) (omega (arith, gains-front (tables .blocks) i out n, when-le (isOut out 0) (gainAt (tables .blocks) i), s .gainIs, more))
+
 -- LIMITS AT THE BEST PRICES WITHIN REACH, by the columns
 same-could : (side side′ : Side) (floor floor′ cap cap′ limit limit′ : ℕ) → side ≡ side′ → floor ≡ floor′ → cap ≡ cap′ → limit ≡ limit′ →
     testSide side (leb floor limit) (leb limit cap) ≡ testSide side′ (leb floor′ limit′) (leb limit′ cap′)
@@ -117,9 +151,10 @@ getD-behind : (d t : List Bool) (j : ℕ) → getD (d ++ t) (length d + j) false
 getD-behind [] t j = let e : 0 + j ≡ j = omega arith in rw e
 getD-behind (x ∷ d) t j = let e : suc (length d) + j ≡ suc (length d + j) = omega arith in rw e (getD-behind d t j)
 
-either-out : (was keeps : Bool) → keeps ≡ true → (was || not keeps) ≡ true → was ≡ true
-either-out true keeps k e = refl
-either-out false keeps k e = clash e (rw k)
+either-out : (was gone keeps : Bool) → keeps ≡ true → (was || gone || not keeps) ≡ true → (was ≡ true) ⊎ (gone ≡ true)
+either-out true gone keeps k e = inl refl
+either-out false true keeps k e = inr refl
+either-out false false keeps k e = clash e (rw k)
 
 -- ONE LAW FOR EACH REASON to drop a branch
 module _ {tables : Tables} {left out : ℕ} {node : Node} {limit : ℕ} where
@@ -189,14 +224,15 @@ module _ {tables : Tables} {left out : ℕ} {node : Node} {limit : ℕ} where
           )
 
       -- its gaps are at least the least gaps there
-      gaps-least : lossAbove day p rest (d ++ t) < limit → node .loss + sumOver (tables .change) (leastGap (tables .gaps) (tables .turn) from to) ≤ lossAbove day p rest (d ++ t)
+      gaps-least : lossAbove day p rest (d ++ t) < limit → (more : ℕ) → more ≤ losses (day .hours) p (drop (length d) (day .blocks)) t →
+          node .loss + more + sumOver (tables .change) (leastGap (tables .gaps) (tables .turn) from to) ≤ lossAbove day p rest (d ++ t)
       unfolding lossAbove
-      gaps-least k =
+      gaps-least k more lost =
           let g = leastGap (tables .gaps) (tables .turn) from to in
           omega (
             arith,
             branch .lossIs,
-            bound-with day p d t 0 (λ h. g h + rest h) (omega arith) (λ h c. gap-least h (an-hour c)),
+            bound-with day p d t more (λ h. g h + rest h) lost (λ h c. gap-least h (an-hour c)),
             daySum-add (day .hours) g rest,
             rw (known .changeIs) at (day-sum (day .hours) g),
           )
@@ -250,7 +286,7 @@ module _ {tables : Tables} {left out : ℕ} {node : Node} {limit : ℕ} where
           all-keep (tables .blocks) (node .set) (countedColumn (tables .change) high) (countedColumn (tables .change) lowest) (tables .count - left) (λ j m bit.
           let here : j < length d = omega (arith, size) in
           block-could ph pl e k j (omega arith)
-          (List·getD-append d t false j here ∙ rw (← (branch .setIs)) (bits-at (length d) (node .set) j here ∙ eq-eqb _ 1 bit)))
+          (List·getD-append d t false j here ∙ decided-bit branch j here ∙ eq-eqb _ 1 bit))
 
       rest-could : {high lowest : List ℕ} → PricesOf (tables .unitPrices) from high → PricesOf (tables .unitPrices) to lowest → balances ≡ true →
           lossAbove day p rest (d ++ t) < limit → (j : ℕ) → j < left → getD t j false ≡ true →
@@ -267,7 +303,7 @@ module _ {tables : Tables} {left out : ℕ} {node : Node} {limit : ℕ} where
 
     -- the least gaps within reach come to as much
     pub dropped-by-gaps : limit ≤ node .loss + sumOver (tables .change) (leastGap (tables .gaps) (tables .turn) from to) → DroppedFrom tables left out node limit
-    dropped-by-gaps z day p rest d t at l law = unless _ _ (λ k. absurd (omega (arith, gaps-least t at l law k)))
+    dropped-by-gaps z day p rest d t at l law = unless _ _ (λ k. absurd (omega (arith, gaps-least t at l law k 0 (omega arith))))
 
     -- a taken block misses its limit at the best prices within reach
     module _ {high lowest : List ℕ} (ph : PricesOf (tables .unitPrices) from high) (pl : PricesOf (tables .unitPrices) to lowest) (e : balances ≡ true)
@@ -276,18 +312,83 @@ module _ {tables : Tables} {left out : ℕ} {node : Node} {limit : ℕ} where
       dropped-by-limit misses day p rest d t at l law =
           unless _ _ (λ k. clash (rw (hc, lc) (decided-could t at l law ph pl e k)) misses)
 
-      -- WHAT IS OUT: what was before, and an undecided block that misses its limit at the best prices within reach
-      pub judged-open : left ≤ tables .count → {r : ℕ} →
-          ((k : ℕ) → k < tables .count - (tables .count - left) → isOut r k ≡ isRuledOut (tables .blocks) (tables .count - left + k) (isOut out k) high-counted low-counted) →
-          JudgedFrom tables left out node limit false r
-      unfolding isRuledOut
-      judged-open le is = record {
-        dropped = λ z. clash z refl;
-        outOf = λ _ day p rest d at t k l law less inside ruled.
+      -- WHAT IS OUT: what was before, a child of a block that is gone, and an undecided block that misses its limit at the best prices within reach
+      module _ (le : left ≤ tables .count) (r : ℕ) (is : RuledOut (tables .blocks) (tables .count) (tables .count - left) (node .set) out high-counted low-counted r)
+          {day : Day} {p rest : ℕ → ℕ} {d : List Bool} (at : At tables left node limit out day p rest d) (t : List Bool) (l : length t ≡ left)
+          (law : lawful day (d ++ t) ≡ true) (less : lossAbove day p rest (d ++ t) < limit) where
+        here-is : tables .count - left ≡ length d
+        here-is = omega (arith, at .size)
+
+        set-closed : Closed (at .known .parent) (d ++ t)
+        set-closed = lawful-closed (at .known) (d ++ t) (length-append d t ∙ rw l (at .size)) law
+
+        -- so a block whose parent is gone is not taken, if none before it that is out is
+        gone-not : (k : ℕ) → k < left → namesGone (parentAt (tables .blocks) (length d + k)) (length d) (node .set) r ≡ true →
+            ((j : ℕ) → j < k → isOut r j ≡ true → getD t j false ≡ false) → getD t k false ≡ true → ⊥
+        gone-not k inside gone before bit = by-which (gone-which name (length d) (node .set) r gone)
+          where
+            name : ℕ
+            name = parentAt (tables .blocks) (length d + k)
+
+            named : name ≡ suc (name - 1)
+            named = let some = gone-named name (length d) (node .set) r gone in omega arith
+
+            link : at .known .parent (length d + k) ≡ suc (name - 1)
+            link = sym (at .known .parentIs (length d + k) (omega (arith, at .size))) ∙ named
+
+            parent-in : getD (d ++ t) (name - 1) false ≡ true
+            parent-in = set-closed (length d + k) (name - 1) link (getD-behind d t k ∙ bit)
+
+            by-which : ((name - 1 < length d) × (eqb (node .set / 2 ^ (name - 1) % 2) 1 ≡ false)) ⊎
+                ((length d ≤ name - 1) × (isOut r (name - 1 - length d) ≡ true)) → ⊥
+            by-which (inl (early, zero-bit)) =
+                clash (sym (List·getD-append d t false (name - 1) early) ∙ parent-in)
+                (decided-bit (at .branch) (name - 1) early ∙ zero-bit)
+            by-which (inr (late, outs)) =
+                let e : length d + (name - 1 - length d) ≡ name - 1 = omega arith in
+                clash (sym (getD-behind d t (name - 1 - length d)) ∙ rw e parent-in)
+                (before (name - 1 - length d) (omega (arith, link, at .known .parents .before (length d + k))) outs)
+
+        ruled-not : (n k : ℕ) → k < n → k < left → isOut r k ≡ true → getD t k false ≡ false
+        unfolding isRuledOut
+        ruled-not zero k a inside ruled = absurd (omega arith)
+        ruled-not (suc n) k a inside ruled =
             by-test (λ u. getD t k false ≡ u → u ≡ false) (getD t k false)
             (λ bit _.
             let keeps = rest-could t at l law ph pl e less k inside bit in
             let was = rw (hc, lc) at (sym (is k (omega arith)) ∙ ruled) in
-            clash (sym (at .outOf t k l law less inside (either-out (isOut out k) _ keeps was)) ∙ bit) refl)
-            (λ _ _. refl) refl;
+            by-which bit (λ j b outs. ruled-not n j (omega arith) (omega arith) outs) (either-out (isOut out k) _ _ keeps was))
+            (λ _ _. refl) refl
+          where
+            by-which : getD t k false ≡ true → ((j : ℕ) → j < k → isOut r j ≡ true → getD t j false ≡ false) → (isOut out k ≡ true) ⊎
+                (namesGone (parentAt (tables .blocks) (tables .count - left + k)) (tables .count - left) (node .set) r ≡ true) → true ≡ false
+            by-which bit before (inl was) = sym bit ∙ at .outOf t k l law less inside was
+            by-which bit before (inr gone) = absurd (gone-not k inside (rw here-is at gone) before bit)
+
+      -- or the branch is dropped: what they would gain and the least gaps come to as much
+      pub judged-open : left ≤ tables .count → {r gaps gains : ℕ} →
+          RuledOut (tables .blocks) (tables .count) (tables .count - left) (node .set) out high-counted low-counted r →
+          gaps ≡ sumOver (tables .change) (leastGap (tables .gaps) (tables .turn) from to) →
+          gains ≡ outGains (tables .blocks) (tables .count - left) r (tables .count - (tables .count - left)) →
+          JudgedFrom tables left out node limit (leb limit (node .loss + gaps + gains)) r
+      judged-open le {r} {gaps} {gains} is gapped gained = record {
+        dropped = λ much day p rest d t at l law. unless _ _ (λ less. absurd (omega (
+          arith,
+          leb-true limit (node .loss + gaps + gains) much,
+          gaps-least t at l law less gains (lost at t l law less),
+        )));
+        outOf = λ _ day p rest d at t k l law less inside ruled. ruled-not le _ is at t l law less (suc k) k (omega arith) inside ruled;
       }
+        where
+          lost : {day : Day} {p rest : ℕ → ℕ} {d : List Bool} (at : At tables left node limit out day p rest d) (t : List Bool) → length t ≡ left →
+              lawful day (d ++ t) ≡ true → lossAbove day p rest (d ++ t) < limit → gains ≤ losses (day .hours) p (drop (length d) (day .blocks)) t
+          lost {d = d} at t l law less =
+              let here : tables .count - left ≡ length d = omega (arith, at .size) in
+              let size : tables .count - length d ≡ left = omega (arith, at .size) in
+              let all = rw (here, size) at gained in
+              omega (
+                arith,
+                all,
+                gains-lost (at .known) left (length d) r t (at .size) l
+                    (λ k inside ruled. ruled-not le _ is at t l law less (suc k) k (omega arith) inside ruled),
+              )

@@ -1,5 +1,5 @@
--- Laws of the search: hours that count once, sets that are allowed, decisions made for certain, a decided set and what it trades, branches, why one is dropped, a pass over all blocks.
-pub mod AllowedSets
+-- Laws of the search: sets that take no block without its parent, decisions made for certain, a decided set and what it trades, branches, why one is dropped, a pass over all blocks.
+pub mod ClosedLaws
 pub mod DecisionLaws
 pub mod TradedLaws
 pub mod DecidedLaws

@@ -27,6 +27,7 @@ use Rattle.search.specs.Meaning.{Fits, Known, Turning, Branch, lossAbove
 use Rattle.search.specs.Tables.{Tables}
 use Rattle.orders.proofs.ColumnLaws.{zeros}
 use Rattle.places.proofs.CountedLaws.{change-apart, day-sum}
+use Rattle.search.proofs.ClosedLaws.{none-closed}
 use Rattle.search.proofs.DecidedLaws.{an-hour, gap-of-lawful, rest-below}
 use Rattle.search.specs.declared.Best.{Best}
 use Rattle.search.specs.declared.Node.{Node}
@@ -104,6 +105,7 @@ module _ {tables : Tables} (few : tables .count ≤ mostBlocks) (small : (i : �
       known = known;
       turning = turning;
       branch = root-branch day p;
+      closed = none-closed (known .parent);
       size = omega arith;
       outOf = λ t k l law less inside is. clash is (none-out k);
     }

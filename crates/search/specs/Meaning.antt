@@ -22,9 +22,10 @@ use Rattle.rules.proofs.LossLaws.{against, losses, lossOf}
 use Rattle.rules.proofs.LossSearchLaws as by-loss
 use Rattle.rules.proofs.PlaceLaws.{place, hourAt}
 use Rattle.rules.proofs.QuietHours.{Quiet}
+use Rattle.rules.proofs.LinkLaws.{Closed, Parents}
 use Rattle.rules.proofs.TwinLaws.{Ahead, InTurn}
 use Rattle.places.specs.Hours.{Small, cell, ofHour, HasRows, lastIn}
-use Rattle.places.specs.Blocks.{BlocksSized, sideAt, hoursAt, limitAt, againstAt, gainAt, aheadAt, behindAt, rowQuantity}
+use Rattle.places.specs.Blocks.{BlocksSized, sideAt, hoursAt, limitAt, againstAt, gainAt, parentAt, aheadAt, behindAt, rowQuantity}
 use Rattle.places.specs.Reach.{isOut}
 use Rattle.search.specs.Tables.{Tables}
 use Rattle.search.specs.declared.Day as code-day
@@ -92,6 +93,10 @@ pub record Known (day : Day) (p rest : ℕ → ℕ) (t : Tables) : Type 0 where
   pub gapIs : (h i : ℕ) → AnHour h → ofHour (t .first) h ≤ i → i ≤ ofHour (t .last) h →
       slack (p h) (hourAt day h i) ≡ cell (t .gaps) h i + rest h
   pub shown : (j : ℕ) → j < t .count → Shown day p (t .blocks) j
+  -- the parents
+  pub parent : ℕ → ℕ
+  pub parents : Parents day parent
+  pub parentIs : (j : ℕ) → j < t .count → parentAt (t .blocks) j ≡ parent j
   -- the twins
   pub ahead : (j a : ℕ) → j < t .count → aheadAt (t .blocks) j ≡ suc a → (a < j) × Ahead day p a j
   pub behind : (j b : ℕ) → j < t .count → behindAt (t .blocks) j ≡ suc b → (b < j) × Ahead day p j b
@@ -134,8 +139,8 @@ StepsAre day steps = (h : ℕ) → 1 ≤ h → h ≤ hourPlaces → steps h ≡ 
 
 abbrev pub Decided : (t : Tables) (steps : ℕ → List Step) (node : Node) (best r : Best) → Type 0
 Decided t steps node best r =
-    (day : _) (p rest : ℕ → ℕ) (d : List Bool) → StepsAre day steps → Known day p rest t → Branch day p d node →
-    length d ≡ t .count → node .set < 2 ^ t .count → Outcome day p rest (t .count) 0 d best r
+    (day : _) (p rest : ℕ → ℕ) (d : List Bool) → StepsAre day steps → (known : Known day p rest t) → Branch day p d node →
+    Closed (known .parent) d → length d ≡ t .count → node .set < 2 ^ t .count → Outcome day p rest (t .count) 0 d best r
 
 -- THE BLOCKS THAT ARE OUT of a branch: no lawful completion that loses less than the limit takes one of them.
 abbrev pub OutOf : (day : Day) (p rest : ℕ → ℕ) (d : List Bool) (left limit out : ℕ) → Type 0
@@ -143,11 +148,12 @@ OutOf day p rest d left limit out =
     (tail : List Bool) (k : ℕ) → length tail ≡ left → lawful day (d ++ tail) ≡ true → lossAbove day p rest (d ++ tail) < limit → k < left →
     isOut out k ≡ true → getD tail k false ≡ false
 
--- THE BRANCH AT ITS TABLES, with its blocks that are out
+-- THE BRANCH AT ITS TABLES: it takes no block without its parent; with its blocks that are out
 pub record At (t : Tables) (left : ℕ) (node : Node) (limit out : ℕ) (day : Day) (p rest : ℕ → ℕ) (d : List Bool) : Type 0 where
   pub known : Known day p rest t
   pub turning : Turning t
   pub branch : Branch day p d node
+  pub closed : Closed (known .parent) d
   pub size : length d + left ≡ t .count
   pub outOf : OutOf day p rest d left limit out
 

@@ -1,33 +1,27 @@
-// Every way to decide the blocks that are left: a block taken, left out, and of twins only one way where the other is decided.
+// Every way to decide the blocks that are left: a block taken, left out; a child only with its parent, and of twins only one way where the other is decided.
 ghost use mathlib.Core.Path.{_≡_};
-ghost use Prim.Native.Nat.{_+_, _-_, _^_, _≤_, _<_};
+ghost use Prim.Native.Nat.{_+_, _-_, _≤_, _<_};
 ghost use lib.ListN.{length};
 ghost use Rattle.book.specs.Bounds.{mostBlocks};
 ghost use Rattle.places.specs.Layout.{hourPlaces, hourListSize};
 ghost use Rattle.places.specs.Blocks.{BlocksSized};
 ghost use Rattle.places.specs.Steps.{stepsAt, StepsSized};
-ghost use Rattle.search.specs.Decisions.{isBarred, isDue};
+ghost use Rattle.search.specs.Decisions.{namesLeft, isBarred, isDue};
 ghost use Rattle.search.specs.Meaning.{Sized, Fits, ExploredFrom, TakenTo, LeftTo};
 ghost use Rattle.search.specs.Tables.{tablesOf};
 use crate::Best;
 use crate::Node;
 use crate::decide::decide;
+use crate::judge::bit;
 use crate::judge::judge;
 use places::added::moved_where;
 use places::layout::AGAINST;
 use places::layout::AHEAD;
 use places::layout::BEHIND;
 use places::layout::GAIN;
+use places::layout::PARENT;
 use places::layout::SIDE;
 use places::reach::is_out;
-
-// The set that holds block number at alone.
-fn bit(at: u32) -> u32
-    requires { ⌜ at < mostBlocks ⌝ }
-    ensures { λ r. ⌜ r ≡ 2 ^ at ⌝ }
-{
-    1u32 << at
-}
 
 // The node with block number at taken: a sell moves the places on in its hours.
 fn take(blocks: &[u32], at: u32, node: Node) -> Node
@@ -59,16 +53,23 @@ fn leave(blocks: &[u32], at: u32, node: Node) -> Node
     }
 }
 
-// Whether a twin that is taken before block i is left out.
+// Whether the block that is named, by its number and 1, is left out; where none is, by 0, it is not.
+fn is_left(name: u32, set: u32) -> bool
+    requires { ⌜ name ≤ mostBlocks ⌝ }
+    ensures { λ r. ⌜ r ≡ namesLeft name set ⌝ }
+{
+    if name == 0 {
+        return false;
+    }
+    (set >> (name - 1)) % 2 == 0
+}
+
+// Whether the parent of block i is left out, or a twin that is taken before it.
 fn is_barred(blocks: &[u32], i: usize, set: u32) -> bool
     requires { ⌜ BlocksSized (now blocks) × (i < mostBlocks) ⌝ }
     ensures { λ r. ⌜ r ≡ isBarred (now (blocks .entry)) i set ⌝ }
 {
-    let ahead = blocks[AHEAD + i];
-    if ahead == 0 {
-        return false;
-    }
-    (set >> (ahead - 1)) % 2 == 0
+    is_left(blocks[PARENT + i], set) | is_left(blocks[AHEAD + i], set)
 }
 
 // Whether a twin that is taken after block i is taken.
@@ -84,7 +85,7 @@ fn is_due(blocks: &[u32], i: usize, set: u32) -> bool
 }
 
 // Every way to decide the blocks that are left, each first taken and then left out; of twins, the one that is taken before the other first. A block that
-// is out is only left out. Each branch has its own node by value, so nothing is released.
+// is out, or whose parent is left out, is only left out. Each branch has its own node by value, so nothing is released.
 pub fn explore(
     unit_prices: &[u32],
     gap: &[u32],

@@ -1,13 +1,12 @@
 // A branch judged: whether it is dropped, and which of its undecided blocks are out.
 ghost use mathlib.Core.Path.{_≡_};
-ghost use Prim.Native.Nat.{ℕ, _+_, _-_, _≤_, _<_};
+ghost use Prim.Native.Nat.{_-_, _^_, _≤_, _<_};
 ghost use lib.ListN.{length};
 ghost use Rattle.book.specs.Bounds.{mostBlocks};
 ghost use Rattle.places.specs.Layout.{mostLoss, hourListSize, blockListSize};
 ghost use Rattle.places.specs.Hours.{DayPrices};
 ghost use Rattle.places.specs.Blocks.{BlocksSized};
-ghost use Rattle.places.specs.Reach.{isOut};
-ghost use Rattle.search.specs.Decisions.{isForced, isRuledOut};
+ghost use Rattle.search.specs.Decisions.{namesGone, isForced, isRuledOut, outGains, RuledOut};
 ghost use Rattle.search.specs.Meaning.{Sized, Fits, JudgedFrom};
 ghost use Rattle.search.specs.Tables.{tablesOf};
 use crate::Node;
@@ -18,21 +17,46 @@ use places::layout::AGAINST;
 use places::layout::CHANGE;
 use places::layout::GAIN;
 use places::layout::LIMIT;
+use places::layout::PARENT;
 use places::layout::RUNS;
 use places::layout::SIDE;
 use places::layout::TURN;
 use places::limits::keeps_limit;
 use places::limits::keeps_limits;
-use places::numbers::number_of;
+use places::numbers::choose;
 use places::reach::is_out;
 use places::reach::reach_at;
 
-// Whether undecided block i is out: it was before, or it misses its limit at the best prices within reach.
-fn is_ruled_out(blocks: &[u32], i: usize, was: bool, high: &[u32], low: &[u32]) -> bool
-    requires { ⌜ (length (now blocks) ≡ blockListSize) × (i < mostBlocks) × DayPrices (now high) × DayPrices (now low) ⌝ }
-    ensures { λ r. ⌜ r ≡ isRuledOut (now (blocks .entry)) i was (now (high .entry)) (now (low .entry)) ⌝ }
+// The set that holds block number at alone.
+pub fn bit(at: u32) -> u32
+    requires { ⌜ at < mostBlocks ⌝ }
+    ensures { λ r. ⌜ r ≡ 2 ^ at ⌝ }
 {
-    if was {
+    1u32 << at
+}
+
+// Whether the block that is named, by its number and 1, is gone from a branch whose first blocks, at of them, are decided: left out, or out; where none is
+// named, by 0, it is not.
+fn is_gone(name: u32, at: usize, set: u32, out: u32) -> bool
+    requires { ⌜ name ≤ mostBlocks ⌝ }
+    ensures { λ r. ⌜ r ≡ namesGone name at set out ⌝ }
+{
+    if name == 0 {
+        return false;
+    }
+    let i = (name - 1) as usize;
+    if i < at {
+        return (set >> (name - 1)) % 2 == 0;
+    }
+    is_out(out, i - at)
+}
+
+// Whether undecided block i is out: it was before, its parent is gone, or it misses its limit at the best prices within reach.
+fn is_ruled_out(blocks: &[u32], i: usize, was: bool, gone: bool, high: &[u32], low: &[u32]) -> bool
+    requires { ⌜ (length (now blocks) ≡ blockListSize) × (i < mostBlocks) × DayPrices (now high) × DayPrices (now low) ⌝ }
+    ensures { λ r. ⌜ r ≡ isRuledOut (now (blocks .entry)) i was gone (now (high .entry)) (now (low .entry)) ⌝ }
+{
+    if was | gone {
         return true;
     }
     !keeps_limit(
@@ -44,19 +68,38 @@ fn is_ruled_out(blocks: &[u32], i: usize, was: bool, high: &[u32], low: &[u32]) 
     )
 }
 
-// The undecided blocks that are out, from the last one on to the one at number at, whose bit is the lowest.
-fn ruled_out(blocks: &[u32], count: usize, at: usize, out: u32, high: &[u32], low: &[u32]) -> u32
-    requires { ⌜ (length (now blocks) ≡ blockListSize) × (count ≤ mostBlocks) × (at ≤ count) × DayPrices (now high) × DayPrices (now low) ⌝ }
-    ensures { λ r. ⌜ ((k : ℕ) → k < count - at → isOut r k ≡ isRuledOut (now (blocks .entry)) (at + k) (isOut out k) (now (high .entry)) (now (low .entry))) ⌝ }
+// The undecided blocks that are out, and what they would gain.
+pub struct Ruled {
+    pub out: u32,
+    pub gains: u64,
+}
+
+// The undecided blocks that are out, from the one at number at on, whose bit is the lowest; a parent before its children.
+fn ruled_out(
+    blocks: &[u32],
+    count: usize,
+    at: usize,
+    set: u32,
+    out: u32,
+    high: &[u32],
+    low: &[u32],
+) -> Ruled
+    requires { ⌜ BlocksSized (now blocks) × (count ≤ mostBlocks) × (at ≤ count) × DayPrices (now high) × DayPrices (now low) ⌝ }
+    ensures out { λ r. ⌜ RuledOut (now (blocks .entry)) count at set out (now (high .entry)) (now (low .entry)) (r .out) ⌝ }
+    ensures gains { λ r. ⌜ (r .gains ≡ outGains (now (blocks .entry)) at (r .out) (count - at)) × (r .gains ≤ mostLoss) ⌝ }
 {
     let mut r: u32 = 0;
-    let mut i = count;
-    while at < i {
-        i -= 1;
-        let test = is_ruled_out(blocks, i, is_out(out, i - at), high, low);
-        r = 2 * r + number_of(test);
+    let mut gains: u64 = 0;
+    let mut i = at;
+    while i < count {
+        let k = i - at;
+        let gone = is_gone(blocks[PARENT + i], at, set, r);
+        let test = is_ruled_out(blocks, i, is_out(out, k), gone, high, low);
+        r = r + choose(test, bit(k as u32), 0);
+        gains = gains + (choose(test, blocks[GAIN + i], 0) as u64);
+        i += 1;
     }
-    r
+    Ruled { out: r, gains }
 }
 
 // Whether the other way to decide the block that was decided last loses the limit or more: then what a branch can reach is as it was before that block.
@@ -85,7 +128,8 @@ pub struct Judged {
 
 // A branch is dropped where no completion can be lawful and lose less than the limit: where the decided blocks lose as much already, where an hour can no
 // longer balance, where the least gaps within reach come to as much, or where a taken block misses its limit at the best prices within reach. An undecided
-// block that misses its limit there is out.
+// block that misses its limit there is out, and so is a child of one that is out or left out; the branch is dropped too where what they would gain and the
+// least gaps come to as much.
 pub fn judge(
     unit_prices: &[u32],
     gap: &[u32],
@@ -125,7 +169,8 @@ pub fn judge(
     let from = reach.from;
     let to = reach.to;
     let often = hours[CHANGE];
-    if limit <= node.loss + counted_least_gaps(gap, &hours[TURN..CHANGE], from, to, often) {
+    let least = node.loss + counted_least_gaps(gap, &hours[TURN..CHANGE], from, to, often);
+    if limit <= least {
         return drop;
     }
     let high = counted_prices(prices_at(unit_prices, from), often);
@@ -133,8 +178,10 @@ pub fn judge(
     if !keeps_limits(blocks, at, node.set, &high, &lowest) {
         return drop;
     }
+    let ruled = ruled_out(blocks, count as usize, at, node.set, out, &high, &lowest);
+    let with_gains = least + ruled.gains;
     Judged {
-        dropped: false,
-        out: ruled_out(blocks, count as usize, at, out, &high, &lowest),
+        dropped: limit <= with_gains,
+        out: ruled.out,
     }
 }

@@ -10,7 +10,7 @@ use native.Mathlib.Numerals.{add-one}
 use lib.ListN.{length, getD, set, replicate, length-set}
 use lib.Seq.{getD-set-same, getD-set-other}
 use Rattle.book.specs.Bounds.{mostBlocks}
-use Rattle.places.specs.Layout.{againstColumn, aheadColumn, hourPlaces, gainColumn, sideColumn, hoursColumn, limitColumn, mostQuantity, quantityColumn}
+use Rattle.places.specs.Layout.{againstColumn, parentColumn, hourPlaces, gainColumn, sideColumn, hoursColumn, limitColumn, mostQuantity, quantityColumn}
 use Rattle.records.specs.Records.{holdsHour}
 use Rattle.book.specs.Hours.{countedHours}
 use Rattle.orders.specs.Columns.{sideFor}
@@ -79,7 +79,7 @@ bought-within count sides hours quantities bought traded b t h k =
     )
 
 -- ONE BLOCK WRITTEN: six numbers
-module _ (c : List ℕ) (i v₀ v₁ v₂ v₃ v₄ v₅ : ℕ) (k : i < mostBlocks) (size : length c ≡ aheadColumn) where
+module _ (c : List ℕ) (i v₀ v₁ v₂ v₃ v₄ v₅ : ℕ) (k : i < mostBlocks) (size : length c ≡ parentColumn) where
   abbrev l₁ : List ℕ
   l₁ = set c (sideColumn + i) v₀
 
@@ -98,22 +98,22 @@ module _ (c : List ℕ) (i v₀ v₁ v₂ v₃ v₄ v₅ : ℕ) (k : i < mostBlo
   abbrev l₆ : List ℕ
   l₆ = set l₅ (gainColumn + i) v₅
 
-  size₁ : length l₁ ≡ aheadColumn
+  size₁ : length l₁ ≡ parentColumn
   size₁ = rw length-set size
 
-  size₂ : length l₂ ≡ aheadColumn
+  size₂ : length l₂ ≡ parentColumn
   size₂ = rw length-set size₁
 
-  size₃ : length l₃ ≡ aheadColumn
+  size₃ : length l₃ ≡ parentColumn
   size₃ = rw length-set size₂
 
-  size₄ : length l₄ ≡ aheadColumn
+  size₄ : length l₄ ≡ parentColumn
   size₄ = rw length-set size₃
 
-  size₅ : length l₅ ≡ aheadColumn
+  size₅ : length l₅ ≡ parentColumn
   size₅ = rw length-set size₄
 
-  six-size : length l₆ ≡ aheadColumn
+  six-size : length l₆ ≡ parentColumn
   six-size = rw length-set size₅
 
   -- other places are as they were
@@ -158,7 +158,7 @@ module _ (c : List ℕ) (i v₀ v₁ v₂ v₃ v₄ v₅ : ℕ) (k : i < mostBlo
   six₅ = getD-set-same l₅ (gainColumn + i) v₅ 0 (omega (arith, size₅))
 
 -- .. which are the block's
-module _ (c : List ℕ) (i side hours quantity limit sum : ℕ) (k : i < mostBlocks) (size : length c ≡ aheadColumn) where
+module _ (c : List ℕ) (i side hours quantity limit sum : ℕ) (k : i < mostBlocks) (size : length c ≡ parentColumn) where
   abbrev after : List ℕ
   after = written c i side hours quantity limit sum
 
@@ -168,7 +168,7 @@ module _ (c : List ℕ) (i side hours quantity limit sum : ℕ) (k : i < mostBlo
   abbrev won : ℕ
   won = quantity * bySide (sideFor side) (limit - sum) (sum - limit)
 
-  pub written-size : length after ≡ aheadColumn
+  pub written-size : length after ≡ parentColumn
   unfolding written
   written-size = six-size c i side hours quantity limit lost won k size
 
@@ -242,13 +242,13 @@ module _ (day : ℕ) (sides hours prices quantities root : List ℕ) where
 
   pub record WrittenTo (count i : ℕ) (columns : List ℕ) : Type 0 where
     pub inside : i ≤ count
-    pub size : length columns ≡ aheadColumn
+    pub size : length columns ≡ parentColumn
     pub small : (j : ℕ) → j < mostBlocks → quantityAt columns j ≤ mostQuantity
     pub done : (j : ℕ) → j < i → Written day sides hours prices quantities root columns j
 
-  pub written-start : (count : ℕ) → WrittenTo count 0 (replicate aheadColumn 0)
+  pub written-start : (count : ℕ) → WrittenTo count 0 (replicate parentColumn 0)
   written-start count =
-      record { inside = omega arith; size = refl; small = λ j k. omega (arith, zeros aheadColumn (quantityColumn + j)); done = λ j a. absurd (omega arith) }
+      record { inside = omega arith; size = refl; small = λ j k. omega (arith, zeros parentColumn (quantityColumn + j)); done = λ j a. absurd (omega arith) }
 
   pub written-next : (count i : ℕ) (columns : List ℕ) (side x q limit sum : ℕ) (more : List ℕ) → WrittenTo count i columns →
       BlocksHeld count prices quantities → i < count → side ≡ getD sides i 0 → x ≡ getD hours i 0 → q ≡ getD quantities i 0 → limit ≡ limitOf i →

@@ -17,11 +17,12 @@ use Rattle.book.specs.Hours.{countedHours}
 use Rattle.book.specs.Refusals.{Accepted}
 use Rattle.orders.specs.Bridge.{dayFrom}
 use Rattle.orders.specs.Columns.{StepColumns, BlockColumns, sideFor, stepsFrom, blockOf, blocksFrom}
-use Rattle.orders.specs.Columns.{blockRecords, blockSideAt, blockHoursAt, blockPriceAt, blockQuantityAt}
+use Rattle.orders.specs.Columns.{blockRecords, blockSideAt, blockHoursAt, blockPriceAt, blockQuantityAt, parentColumn}
 use Rattle.orders.proofs.BridgeLaws.{prices-in-range, hours-in-range, day-quiet, day-hours-read, day-short, blocks-from-columns, block-count, hour-count}
 use Rattle.orders.proofs.FrontLaws.{block-records-front, block-sides-front, block-hours-front, block-prices-front, block-quantities-front}
 use Rattle.orders.proofs.HourLaws.{hour-from-columns, ends-rise, ends-fit}
 use Rattle.orders.proofs.PlaceLaws.{block-place}
+use Rattle.orders.proofs.LinkLaws.{links-stand, parents-read}
 use Rattle.rules.specs.Orders.{Side, buy, sell, Step, Block, maxPrice}
 use Rattle.rules.specs.Hour.{bySide, when, allBuys, allSells}
 use Rattle.rules.specs.Day.{changeHour, weight, overBlocks, sells, buys, stepsIn, priceSum}
@@ -35,17 +36,19 @@ use Rattle.rules.proofs.BoundLaws.{gain}
 use Rattle.rules.proofs.BoundsLaws.{weight-small}
 use Rattle.rules.proofs.LossLaws.{against}
 use Rattle.rules.proofs.PlaceLaws.{hourAt}
-use Rattle.rules.proofs.TwinLaws.{limitOf, Ahead, ahead-by-limits}
+use Rattle.rules.proofs.TwinLaws.{limitOf, Exchangeable, Ahead, ahead-by-limits}
+use Rattle.rules.proofs.LinkLaws.{parentPlace, Parents, parents-stand}
 use Rattle.tables.specs.Tables.{UnitPrices, NotRising}
 use Rattle.tables.proofs.LevelLaws.{table-not-rising}
 use Rattle.tables.proofs.GapLaws.{gap-table, gap-falls, gap-rises}
 use Rattle.places.specs.Hours.{Small, cell, ofHour, sumOfHours, countedColumn, rowWidth, lastIn, HasRows}
-use Rattle.places.specs.Blocks.{sideAt, quantityAt, limitAt, aheadAt, behindAt, BlocksSized}
+use Rattle.places.specs.Blocks.{sideAt, quantityAt, limitAt, parentAt, aheadAt, behindAt, BlocksSized}
 use Rattle.search.specs.Tables.{Tables}
 use Rattle.search.specs.Meaning.{lastReached, Sized, Shown, Known, Turning}
 use Rattle.setup.specs.Setup.{
   StepsHeld,
   BlocksHeld,
+  ParentsHeld,
   fromTo,
   hourPart,
   rowPlaces,
@@ -59,6 +62,8 @@ use Rattle.setup.specs.Setup.{
   TradedBy,
   Written,
   TwinsAt,
+  StandsIn,
+  ParentsOf,
   ReadyFor,
 }
 use Rattle.places.proofs.CountedLaws.{block-sum}
@@ -114,7 +119,8 @@ slice-from-to a e l k = let z : a + (e - a) ≡ e = omega arith in rw (take-drop
 -- THE DAY OF AN ACCEPTED BOOK
 module _ (b ends stepRecords sides prices quantities : List ℕ) (count : ℕ) (records blockSides hours blockPrices blockQuantities : List ℕ)
     (a : Accepted b) (sc : StepColumns b ends stepRecords sides prices quantities)
-    (bc : BlockColumns mostBlocks b count records blockSides hours blockPrices blockQuantities) where
+    (bc : BlockColumns mostBlocks b count records blockSides hours blockPrices blockQuantities)
+    (parents : List ℕ) (po : ParentsOf b count parents) where
   abbrev blockHere : ℕ → Block
   blockHere j = blockOf (number b (getD records j 0)) (getD blockSides j 0) (getD hours j 0) (getD blockPrices j 0) (getD blockQuantities j 0)
 
@@ -179,7 +185,7 @@ module _ (b ends stepRecords sides prices quantities : List ℕ) (count : ℕ) (
   abbrev countedRoot : List ℕ → List ℕ
   countedRoot = countedColumn (weight (dayFrom b .hours) changeHour)
 
-  module _ (root columns : List ℕ) (rootSize : length root ≡ hourPlaces) (all : Completed (dayFrom b .hours) blockSides hours blockPrices blockQuantities (countedRoot root) count columns) (j : ℕ) (k : j < count) where
+  module _ (root columns : List ℕ) (rootSize : length root ≡ hourPlaces) (all : Completed (dayFrom b .hours) blockSides hours blockPrices blockQuantities parents (countedRoot root) count columns) (j : ℕ) (k : j < count) where
     w : Written (dayFrom b .hours) blockSides hours blockPrices blockQuantities (countedRoot root) columns j
     w = all .columns j k
 
@@ -225,15 +231,30 @@ module _ (b ends stepRecords sides prices quantities : List ℕ) (count : ℕ) (
     }
 
   -- TWINS OF THE COLUMNS: block i is ahead of block j where its limit is no worse
-  module _ (root columns : List ℕ) (rootSize : length root ≡ hourPlaces) (all : Completed (dayFrom b .hours) blockSides hours blockPrices blockQuantities (countedRoot root) count columns) where
-    twins-ahead : (i j : ℕ) (ki : i < count) (kj : j < count) → TwinsAt columns i j →
+  module _ (root columns : List ℕ) (rootSize : length root ≡ hourPlaces) (all : Completed (dayFrom b .hours) blockSides hours blockPrices blockQuantities parents (countedRoot root) count columns) where
+    -- the column of the parents has those of the day
+    parent-at : (j : ℕ) → j < count → parentAt columns j ≡ parentPlace (dayFrom b) j
+    parent-at j k = all .parentIs j k ∙ po .are j k
+
+    -- a block that may stand in for another may be exchanged for it
+    exchangeable : (i j : ℕ) → i < count → j < count → StandsIn columns i j → Exchangeable (dayFrom b) i j
+    exchangeable i j ki kj s = record {
+      parent = parentPlace (dayFrom b);
+      parents = po .stand;
+      noneOrSame = λ k e. sym (parent-at j kj) ∙ s .noneOrSame k (parent-at i ki ∙ e);
+      nobodys = λ c k e.
+          let inside : c < count = omega (arith, blocks-counted) in
+          s .nobodys c (omega (arith, all .few)) (parent-at c inside ∙ e);
+    }
+
+    twins-ahead : (i j : ℕ) (ki : i < count) (kj : j < count) → TwinsAt columns i j → StandsIn columns i j →
         bySide (sideFor (sideAt columns i)) (limitAt columns j) (limitAt columns i)
         ≤ bySide (sideFor (sideAt columns i)) (limitAt columns i) (limitAt columns j) →
         (j < i → (1 ≤ quantityAt columns i)
         × (bySide (sideFor (sideAt columns i)) (limitAt columns j) (limitAt columns i)
         < bySide (sideFor (sideAt columns i)) (limitAt columns i) (limitAt columns j))) →
         Ahead (dayFrom b) (λ h. getD root (h - 1) 0) i j
-    twins-ahead i j ki kj t le less =
+    twins-ahead i j ki kj t s le less =
         let wi = all .columns i ki in
         let wj = all .columns j kj in
         let mine = limit-at root columns rootSize all i ki in
@@ -241,30 +262,30 @@ module _ (b ends stepRecords sides prices quantities : List ℕ) (count : ℕ) (
         let hour : getD hours i 0 ≡ getD hours j 0 = sym (wi .hoursIs) ∙ t .sameHours ∙ wj .hoursIs in
         ahead-by-limits (dayFrom b) _ i j (blockHere i) (blockHere j) (block-next i ki) (block-next j kj)
         (ap sideFor (sym (wi .sideIs) ∙ t .sameSide ∙ wj .sideIs)) (λ h. rw hour) (sym (wi .quantityIs) ∙ t .sameQuantity ∙ wj .quantityIs)
-        (rw (mine, yours, ← wi .sideIs) le)
+        (exchangeable i j ki kj s) (rw (mine, yours, ← wi .sideIs) le)
         (λ n. (rw (← wi .quantityIs) (less n .0), rw (mine, yours, ← wi .sideIs) (less n .1)))
 
     is-ahead : (j a : ℕ) → j < count → aheadAt columns j ≡ suc a → (a < j) × Ahead (dayFrom b) (λ h. getD root (h - 1) 0) a j
     is-ahead j a k e =
         let f = all .ahead j k a e in
-        let below = f .0 in (
+        let below = f .earlier in (
           below,
-          twins-ahead a j (omega arith) k (f .1)
-              (rw (f .1 .sameSide) (no-worse-true (sideAt columns j) (limitAt columns a) (limitAt columns j) (f .2))) (λ n. absurd (omega arith)),
+          twins-ahead a j (omega arith) k (f .twins) (f .standsIn)
+              (rw (f .twins .sameSide) (no-worse-true (sideAt columns j) (limitAt columns a) (limitAt columns j) (f .better))) (λ n. absurd (omega arith)),
         )
 
     is-behind : (j c : ℕ) → j < count → behindAt columns j ≡ suc c → (c < j) × Ahead (dayFrom b) (λ h. getD root (h - 1) 0) j c
     is-behind j c k e =
         let f = all .behind j k c e in
-        let below = f .0 in
-        let less = no-worse-false (sideAt columns j) (limitAt columns c) (limitAt columns j) (f .2) in
-        (below, twins-ahead j c k (omega arith) (twins-back columns c j (f .1)) (omega (arith, less)) (λ n. (f .3, less)))
+        let below = f .earlier in
+        let less = no-worse-false (sideAt columns j) (limitAt columns c) (limitAt columns j) (f .better) in
+        (below, twins-ahead j c k (omega arith) (twins-back columns c j (f .twins)) (f .standsIn) (omega (arith, less)) (λ n. (f .trades, less)))
 
   -- THE HOURS
   module _ (off most root unitPrices gap first last turn columns : List ℕ) (gapSize : length gap ≡ length unitPrices) (rootSize : length root ≡ hourPlaces) (fit : RowsFit (rowWidth unitPrices) most)
       (bought : TradedBy count blockSides hours blockQuantities false off) (traded : TradedBy count blockSides hours blockQuantities true most)
       (rows : RowsAre (rowWidth unitPrices) sides prices quantities ends off most unitPrices) (ranges : RangesAre (rowWidth unitPrices) sides prices quantities ends off most root unitPrices gap first last turn)
-      (blocks : Completed (dayFrom b .hours) blockSides hours blockPrices blockQuantities (countedRoot root) count columns) where
+      (blocks : Completed (dayFrom b .hours) blockSides hours blockPrices blockQuantities parents (countedRoot root) count columns) where
     abbrev rootOf : ℕ → ℕ
     rootOf h = getD root (h - 1) 0
 
@@ -395,6 +416,9 @@ module _ (b ends stepRecords sides prices quantities : List ℕ) (count : ℕ) (
       clearsOnly = λ h i c. clears-only h (c .first) (c .last) i;
       gapIs = λ h i c. gap-is h (c .first) (c .last) i;
       shown = block-shown root columns rootSize blocks;
+      parent = parentPlace (dayFrom b);
+      parents = po .stand;
+      parentIs = parent-at root columns rootSize blocks;
       ahead = is-ahead root columns rootSize blocks;
       behind = is-behind root columns rootSize blocks;
     }
@@ -446,25 +470,25 @@ set-up t prices gaps first last fits small blocks change few =
       few = few;
     }
 
-pub ready : (day : ℕ) (sides prices quantities ends : List ℕ) (count : ℕ) (records blockSides hours blockPrices blockQuantities : List ℕ)
+pub ready : (day : ℕ) (sides prices quantities ends : List ℕ) (count : ℕ) (records blockSides hours blockPrices blockQuantities parents : List ℕ)
     (off most root unitPrices gap first last turn : List ℕ) (often : ℕ) (columns : List ℕ) → length gap ≡ length unitPrices → length root ≡ hourPlaces →
     RowsFit (rowWidth unitPrices) most → TradedBy count blockSides hours blockQuantities false off →
     TradedBy count blockSides hours blockQuantities true most → RowsAre (rowWidth unitPrices) sides prices quantities ends off most unitPrices →
     RangesAre (rowWidth unitPrices) sides prices quantities ends off most root unitPrices gap first last turn →
-    often ≡ weight day changeHour → Completed day blockSides hours blockPrices blockQuantities (countedColumn often root) count columns →
-    ReadyFor day sides prices quantities ends records blockSides hours blockPrices blockQuantities
+    often ≡ weight day changeHour → Completed day blockSides hours blockPrices blockQuantities parents (countedColumn often root) count columns →
+    ReadyFor day sides prices quantities ends records blockSides hours blockPrices blockQuantities parents
     record { unitPrices = unitPrices; gaps = gap; first = first; last = last; turn = turn; change = often; blocks = columns; count = count }
-ready day sides prices quantities ends count records blockSides hours blockPrices blockQuantities off most root unitPrices gap first last turn often columns l rs
-    fit o t rows ranges is w b stepRecords a e sc bc =
+ready day sides prices quantities ends count records blockSides hours blockPrices blockQuantities parents off most root unitPrices gap first last turn often columns l rs
+    fit o t rows ranges is w b stepRecords a e sc bc po =
     let same : day ≡ dayFrom b .hours = sym (day-hours-read b ∙ e) in
     let on-day = rw (is, same) at w in
     rw (is, same)
     record {
       p = _;
       rest = _;
-      known = known b ends stepRecords sides prices quantities count records blockSides hours blockPrices blockQuantities a sc bc off most root unitPrices
+      known = known b ends stepRecords sides prices quantities count records blockSides hours blockPrices blockQuantities a sc bc parents po off most root unitPrices
           gap first last turn columns l rs fit o t rows ranges on-day;
-      turning = turning b ends stepRecords sides prices quantities count records blockSides hours blockPrices blockQuantities a sc bc off most root unitPrices
+      turning = turning b ends stepRecords sides prices quantities count records blockSides hours blockPrices blockQuantities a sc bc parents po off most root unitPrices
           gap first last turn columns l rs fit o t rows ranges on-day;
     }
 
@@ -486,3 +510,13 @@ blocks-held b count records sides hours prices quantities c a = record {
   pricesFit = λ i k. block-place b count records sides hours prices quantities c a i k .priceRange .1;
   quantitiesFit = λ i k. block-place b count records sides hours prices quantities c a i k .quantityRange .1;
 }
+
+-- THE PARENTS of an accepted book's blocks stand as the rules ask, and those that are read are theirs
+day-parents : (b : List ℕ) → Accepted b → Parents (dayFrom b) (parentPlace (dayFrom b))
+day-parents b a = parents-stand (dayFrom b) (links-stand b a)
+
+pub parents-held : (b parents : List ℕ) → Accepted b → parents ≡ parentColumn b → ParentsHeld parents
+parents-held b parents a e i k = rw (e, parents-read b a i) (day-parents b a .before i)
+
+pub parents-of : (b : List ℕ) (count : ℕ) (parents : List ℕ) → Accepted b → parents ≡ parentColumn b → ParentsOf b count parents
+parents-of b count parents a e = record { are = λ j k. rw e (parents-read b a j); stand = day-parents b a }

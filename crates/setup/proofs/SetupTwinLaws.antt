@@ -1,10 +1,10 @@
--- The rest of the search's columns: the hours' three columns in one list, the blocks' rows, and their twins. Assumes nothing.
+-- The rest of the search's columns: the hours' three columns in one list, the blocks' parents, their rows, and their twins. Assumes nothing.
 use Prim.Native.Nat.{ℕ, zero, suc, _+_, _-_, _*_, _/_, _%_, _^_, _≤_, _<_}
-use mathlib.Core.Path.{_≡_, refl, sym, _∙_}
+use mathlib.Core.Path.{_≡_, refl, sym, ap, _∙_}
 use mathlib.Core.List.{List}
-use mathlib.Core.Bool.{Bool, true, false, cond, _&&_, Bool·beq}
+use mathlib.Core.Bool.{Bool, true, false, cond, _&&_, _||_, Bool·beq}
 use native.Mathlib.Omega.{arith}
-use native.Mathlib.Decide.{decLe}
+use native.Mathlib.Decide.{decLe, ℕ-discrete}
 use native.Mathlib.Nat.{lt-of-not-le}
 use native.Mathlib.Numerals.{add-one}
 use lib.Dec.{leb, ltb, eqb}
@@ -12,7 +12,7 @@ use lib.ListN.{length, take, drop, getD, set, replicate, length-set, length-take
 use lib.Seq.{getD-set-same, getD-set-other, getD-take, getD-drop, ext-getD}
 use borrow.Author.Tests.{leb-true, leb-false, ltb-true, eqb-true}
 use Rattle.book.specs.Bounds.{mostBlocks}
-use Rattle.places.specs.Layout.{againstColumn, aheadColumn, behindColumn, blockListSize, rowsColumn, hourPlaces, gainColumn, hourListSize, hoursColumn, sideColumn, lastColumn, limitColumn, mostQuantity, quantityColumn, turnColumn, changePlace}
+use Rattle.places.specs.Layout.{againstColumn, aheadColumn, behindColumn, blockListSize, rowsColumn, hourPlaces, gainColumn, hourListSize, hoursColumn, sideColumn, lastColumn, limitColumn, mostQuantity, parentColumn, quantityColumn, turnColumn, changePlace}
 use Rattle.records.specs.Records.{holdsHour}
 use Rattle.orders.specs.Columns.{sideFor}
 use Rattle.rules.specs.Orders.{Side, buy, sell}
@@ -20,13 +20,19 @@ use Rattle.rules.specs.Hour.{bySide, when}
 use Rattle.rules.specs.Execution.{testSide}
 use Rattle.rules.proofs.Tests.{by-test, both}
 use Rattle.places.specs.Hours.{clearsFirst, clearsLast, gapsTurn, changeOften}
-use Rattle.places.specs.Blocks.{sideAt, hoursAt, quantityAt, limitAt, aheadAt, behindAt, rowQuantity, BlocksSized}
+use Rattle.places.specs.Blocks.{sideAt, hoursAt, quantityAt, limitAt, parentAt, aheadAt, behindAt, rowQuantity, BlocksSized}
 use Rattle.setup.specs.Setup.{
+  ParentsHeld,
   Written,
   Widened,
+  ParentsWritten,
   RowsEmpty,
   RowsWritten,
+  ParentsBefore,
+  parentNumbers,
+  Marked,
   TwinsAt,
+  StandsIn,
   noWorse,
   TwinOf,
   TwinsEmpty,
@@ -120,7 +126,7 @@ module _ (first last turn : List ℕ) (often : ℕ) where
 
 -- THE SIX COLUMNS COPIED into the whole list
 pub record WidenedTo (columns : List ℕ) (k : ℕ) (r : List ℕ) : Type 0 where
-  pub inside : k ≤ aheadColumn
+  pub inside : k ≤ parentColumn
   pub size : length r ≡ blockListSize
   pub same : (i : ℕ) → i < k → getD r i 0 ≡ getD columns i 0
   pub none : (i : ℕ) → k ≤ i → getD r i 0 ≡ 0
@@ -128,7 +134,7 @@ pub record WidenedTo (columns : List ℕ) (k : ℕ) (r : List ℕ) : Type 0 wher
 pub widened-start : (columns : List ℕ) → WidenedTo columns 0 (replicate blockListSize 0)
 widened-start columns = record { inside = omega arith; size = refl; same = λ i a. absurd (omega arith); none = λ i a. zeros blockListSize i }
 
-pub widened-next : (columns : List ℕ) (k : ℕ) (r : List ℕ) → WidenedTo columns k r → k < aheadColumn → WidenedTo columns (k + 1) (set r k (getD columns k 0))
+pub widened-next : (columns : List ℕ) (k : ℕ) (r : List ℕ) → WidenedTo columns k r → k < parentColumn → WidenedTo columns (k + 1) (set r k (getD columns k 0))
 widened-next columns k r w below = record {
   inside = omega arith;
   size = rw length-set (w .size);
@@ -138,8 +144,37 @@ widened-next columns k r w below = record {
   none = λ i a. getD-set-other r k i (getD columns k 0) 0 (λ e. omega arith) ∙ w .none i (omega arith);
 }
 
-pub widened-all : (columns : List ℕ) (k : ℕ) (r : List ℕ) → WidenedTo columns k r → aheadColumn ≤ k → Widened columns r
+pub widened-all : (columns : List ℕ) (k : ℕ) (r : List ℕ) → WidenedTo columns k r → parentColumn ≤ k → Widened columns r
 widened-all columns k r w all = record { size = w .size; same = λ i a. w .same i (omega arith); none = λ i a. w .none i (omega (arith, w .inside)) }
+
+-- THE PARENTS, block by block
+module _ (parents blocks : List ℕ) where
+  pub record ParentsTo (i : ℕ) (r : List ℕ) : Type 0 where
+    pub inside : i ≤ mostBlocks
+    pub size : length r ≡ blockListSize
+    pub done : (j : ℕ) → j < i → parentAt r j ≡ getD parents j 0
+    pub columns : (k : ℕ) → k < parentColumn → getD r k 0 ≡ getD blocks k 0
+    pub rest : (k : ℕ) → aheadColumn ≤ k → getD r k 0 ≡ getD blocks k 0
+
+  pub parents-start : length blocks ≡ blockListSize → ParentsTo 0 blocks
+  parents-start size = record { inside = omega arith; size = size; done = λ j a. absurd (omega arith); columns = λ k a. refl; rest = λ k a. refl }
+
+  pub parents-next : (i : ℕ) (r : List ℕ) → ParentsTo i r → i < mostBlocks → ParentsTo (i + 1) (set r (parentColumn + i) (getD parents i 0))
+  parents-next i r p below = record {
+    inside = omega arith;
+    size = rw length-set (p .size);
+    done = λ j a. below-next (λ j. parentAt (set r (parentColumn + i) (getD parents i 0)) j ≡ getD parents j 0) i j
+        (λ b. other (parentColumn + j) (λ e. omega arith) ∙ p .done j b)
+        (getD-set-same r (parentColumn + i) (getD parents i 0) 0 (omega (arith, p .size))) (rw add-one at a);
+    columns = λ k a. other k (λ e. omega arith) ∙ p .columns k a;
+    rest = λ k a. other k (λ e. omega arith) ∙ p .rest k a;
+  }
+    where
+      other : (at : ℕ) → (at ≡ parentColumn + i → ⊥) → getD (set r (parentColumn + i) (getD parents i 0)) at 0 ≡ getD r at 0
+      other at e = getD-set-other r (parentColumn + i) at (getD parents i 0) 0 e
+
+  pub parents-all : (i : ℕ) (r : List ℕ) → ParentsTo i r → mostBlocks ≤ i → ParentsWritten parents blocks r
+  parents-all i r p all = record { size = p .size; parentIs = λ j k. p .done j (omega arith); columns = p .columns; rest = p .rest }
 
 -- THE ROWS, number after number
 module _ (blocks : List ℕ) where
@@ -227,6 +262,49 @@ twins-from blocks a b e =
 pub twins-back : (blocks : List ℕ) (a b : ℕ) → TwinsAt blocks a b → TwinsAt blocks b a
 twins-back blocks a b t = record { sameSide = sym (t .sameSide); sameHours = sym (t .sameHours); sameQuantity = sym (t .sameQuantity) }
 
+-- LINKS: the numbers that the parents' column names, marked block by block
+module _ (blocks : List ℕ) where
+  pub record MarkedTo (j : ℕ) (marks : List ℕ) : Type 0 where
+    pub inside : j ≤ mostBlocks
+    pub size : length marks ≡ parentNumbers
+    pub done : (i : ℕ) → i < j → getD marks (parentAt blocks i) 0 ≡ 1
+
+  pub marked-start : MarkedTo 0 (replicate parentNumbers 0)
+  marked-start = record { inside = omega arith; size = refl; done = λ i a. absurd (omega arith) }
+
+  pub marked-next : (j : ℕ) (marks : List ℕ) → MarkedTo j marks → ParentsBefore blocks → j < mostBlocks → MarkedTo (j + 1) (set marks (parentAt blocks j) 1)
+  marked-next j marks m before below = record {
+    inside = omega arith;
+    size = rw length-set (m .size);
+    done = λ i a. below-next (λ i. getD (set marks (parentAt blocks j) 1) (parentAt blocks i) 0 ≡ 1) j i (earlier i) here (rw add-one at a);
+  }
+    where
+      here : getD (set marks (parentAt blocks j) 1) (parentAt blocks j) 0 ≡ 1
+      here = getD-set-same marks (parentAt blocks j) 1 0 (omega (arith, m .size, before j below))
+
+      earlier : (i : ℕ) → i < j → getD (set marks (parentAt blocks j) 1) (parentAt blocks i) 0 ≡ 1
+      earlier i b = elim (ℕ-discrete (parentAt blocks i) (parentAt blocks j)) [
+        | yes same ↦ ap (λ k. getD (set marks (parentAt blocks j) 1) k 0) same ∙ here
+        | no other ↦ getD-set-other marks (parentAt blocks j) (parentAt blocks i) 1 0 other ∙ m .done i b
+      ]
+
+  pub marked-all : (j : ℕ) (marks : List ℕ) → MarkedTo j marks → mostBlocks ≤ j → Marked blocks marks
+  marked-all j marks m all i k = m .done i (omega arith)
+
+-- one block may stand in for another: by the tests of the parents and of the mark
+pub stands-in : (blocks marks : List ℕ) (a b : ℕ) → Marked blocks marks →
+    ((eqb (parentAt blocks a) 0 || eqb (parentAt blocks a) (parentAt blocks b)) && eqb (getD marks (b + 1) 0) 0) ≡ true → StandsIn blocks a b
+stands-in blocks marks a b marked e =
+    let two = both (eqb (parentAt blocks a) 0 || eqb (parentAt blocks a) (parentAt blocks b)) _ e in
+    record {
+      noneOrSame = λ k is. by-test (λ t. (t || eqb (parentAt blocks a) (parentAt blocks b)) ≡ true → parentAt blocks b ≡ suc k)
+          (eqb (parentAt blocks a) 0) (λ none x. absurd (omega (arith, eqb-true (parentAt blocks a) 0 none, is)))
+          (λ none x. sym (eqb-true (parentAt blocks a) (parentAt blocks b) x) ∙ is) (two .0);
+      nobodys = λ j k is.
+          let named : getD marks (b + 1) 0 ≡ 1 = ap (λ n. getD marks n 0) (add-one b ∙ sym is) ∙ marked j k in
+          omega (arith, named, eqb-true (getD marks (b + 1) 0) 0 (two .1));
+    }
+
 -- two tests with the same answer
 agree : (a b : Bool) → Bool·beq a b ≡ true → a ≡ b
 agree true true e = refl
@@ -239,7 +317,7 @@ pub twin-none : (blocks : List ℕ) (i : ℕ) (ahead : Bool) → TwinOf blocks i
 twin-none blocks i ahead a e = absurd (omega arith)
 
 pub twin-next : (blocks : List ℕ) (i j found next : ℕ) (ahead twins better nearer : Bool) → TwinOf blocks i ahead found → j < i →
-    (twins ≡ true → TwinsAt blocks j i) → better ≡ noWorse (sideAt blocks i) (limitAt blocks j) (limitAt blocks i) →
+    (twins ≡ true → TwinsAt blocks j i × StandsIn blocks (cond ahead j i) (cond ahead i j)) → better ≡ noWorse (sideAt blocks i) (limitAt blocks j) (limitAt blocks i) →
     next ≡ cond (((twins && ltb 0 (quantityAt blocks i)) && Bool·beq better ahead) && nearer) (j + 1) found → TwinOf blocks i ahead next
 twin-next blocks i j found next ahead twins better nearer so k are is e =
     rw e
@@ -249,7 +327,14 @@ twin-next blocks i j found next ahead twins better nearer so k are is e =
     let three = both (twins && ltb 0 (quantityAt blocks i)) (Bool·beq better ahead)
     (both ((twins && ltb 0 (quantityAt blocks i)) && Bool·beq better ahead) nearer p .0) in
     let two = both twins (ltb 0 (quantityAt blocks i)) (three .0) in
-    rw same (k, are (two .0), sym is ∙ agree better ahead (three .1), ltb-true 0 (quantityAt blocks i) (two .1)))
+    rw same
+    record {
+      earlier = k;
+      twins = are (two .0) .0;
+      better = sym is ∙ agree better ahead (three .1);
+      trades = ltb-true 0 (quantityAt blocks i) (two .1);
+      standsIn = are (two .0) .1;
+    })
     (λ p. so))
 
 -- the twins of the blocks, block by block
@@ -339,15 +424,17 @@ no-worse-false side limit other = at (sideFor side)
     at buy e = leb-false other limit e
     at sell e = leb-false limit other e
 
--- THE WHOLE LIST: the columns, rows and twins of the first count blocks, all said of it alone
-pub record Completed (day : ℕ) (sides hours prices quantities root : List ℕ) (count : ℕ) (blocks : List ℕ) : Type 0 where
+-- THE WHOLE LIST: the columns, parents, rows and twins of the first count blocks, all said of it alone
+pub record Completed (day : ℕ) (sides hours prices quantities parents root : List ℕ) (count : ℕ) (blocks : List ℕ) : Type 0 where
   pub columns : (j : ℕ) → j < count → Written day sides hours prices quantities root blocks j
+  pub few : count ≤ mostBlocks
+  pub parentIs : (j : ℕ) → j < count → parentAt blocks j ≡ getD parents j 0
   pub row : (j h : ℕ) → j < count → 1 ≤ h → h ≤ hourPlaces → rowQuantity blocks j h ≡ when (holdsHour (hoursAt blocks j) h) (quantityAt blocks j)
   pub ahead : (j : ℕ) → j < count → TwinOf blocks j true (aheadAt blocks j)
   pub behind : (j : ℕ) → j < count → TwinOf blocks j false (behindAt blocks j)
 
 -- what is said of a list's six columns is said of one with the same six
-module _ (before blocks : List ℕ) (same : (k : ℕ) → k < aheadColumn → getD blocks k 0 ≡ getD before k 0) where
+module _ (before blocks : List ℕ) (same : (k : ℕ) → k < parentColumn → getD blocks k 0 ≡ getD before k 0) where
   written-carried : (day : ℕ) (sides hours prices quantities root : List ℕ) (j : ℕ) → j < mostBlocks → Written day sides hours prices quantities root before j →
       Written day sides hours prices quantities root blocks j
   written-carried day sides hours prices quantities root j k w = record {
@@ -357,6 +444,14 @@ module _ (before blocks : List ℕ) (same : (k : ℕ) → k < aheadColumn → ge
     limitIs = same (limitColumn + j) (omega arith) ∙ w .limitIs;
     againstIs = same (againstColumn + j) (omega arith) ∙ w .againstIs;
     gainIs = same (gainColumn + j) (omega arith) ∙ w .gainIs;
+  }
+
+-- .. and so of their parents and twins
+module _ (before blocks : List ℕ) (same : (k : ℕ) → k < aheadColumn → getD blocks k 0 ≡ getD before k 0) where
+  stands-in-carried : (a b : ℕ) → a < mostBlocks → b < mostBlocks → StandsIn before a b → StandsIn blocks a b
+  stands-in-carried a b i j s = record {
+    noneOrSame = λ k e. same (parentColumn + b) (omega arith) ∙ s .noneOrSame k (sym (same (parentColumn + a) (omega arith)) ∙ e);
+    nobodys = λ c k e. s .nobodys c k (sym (same (parentColumn + c) (omega arith)) ∙ e);
   }
 
   twins-carried : (a b : ℕ) → a < mostBlocks → b < mostBlocks → TwinsAt before a b → TwinsAt blocks a b
@@ -369,32 +464,44 @@ module _ (before blocks : List ℕ) (same : (k : ℕ) → k < aheadColumn → ge
   twin-carried : (i : ℕ) (ahead : Bool) (found : ℕ) → i < mostBlocks → TwinOf before i ahead found → TwinOf blocks i ahead found
   twin-carried i ahead found k of a e =
       let t = of a e in
-      let b = t .0 in (
-        b,
-        twins-carried a i (omega arith) k (t .1),
-        rw (same (sideColumn + i) (omega arith), same (limitColumn + a) (omega arith), same (limitColumn + i) (omega arith)) (t .2),
-        rw (same (quantityColumn + i) (omega arith)) (t .3),
-      )
+      let b : a < mostBlocks = omega (arith, t .earlier) in
+      record {
+        earlier = t .earlier;
+        twins = twins-carried a i b k (t .twins);
+        better = rw (same (sideColumn + i) (omega arith), same (limitColumn + a) (omega arith), same (limitColumn + i) (omega arith)) (t .better);
+        trades = rw (same (quantityColumn + i) (omega arith)) (t .trades);
+        standsIn = stands-in-carried (cond ahead a i) (cond ahead i a) (chosen ahead a i b k) (chosen ahead i a k b) (t .standsIn);
+      }
+    where
+      chosen : (test : Bool) (x y : ℕ) → x < mostBlocks → y < mostBlocks → cond test x y < mostBlocks
+      chosen true x y kx ky = kx
+      chosen false x y kx ky = ky
 
 -- the number of an earlier twin fits
 twin-fits : (blocks : List ℕ) (i : ℕ) (ahead : Bool) (found : ℕ) → i < mostBlocks → TwinOf blocks i ahead found → found ≤ mostBlocks
 twin-fits blocks i ahead zero k of = omega arith
-twin-fits blocks i ahead (suc a) k of = omega (arith, of a refl .0)
+twin-fits blocks i ahead (suc a) k of = omega (arith, of a refl .earlier)
 
--- the list as it grows: the columns, wide; with its rows; with its twins
-module _ (count : ℕ) (columns wide traded blocks : List ℕ) (few : count ≤ mostBlocks) (widened : Widened columns wide) (rows : RowsWritten count wide traded)
+-- the list as it grows: the columns, wide; with its parents; with its rows; with its twins
+module _ (count : ℕ) (parents columns wide linked traded blocks : List ℕ) (few : count ≤ mostBlocks) (held : ParentsHeld parents)
+    (widened : Widened columns wide) (links : ParentsWritten parents wide linked) (rows : RowsWritten count linked traded)
     (twins : TwinsWritten count traded blocks) where
-  same-columns : (k : ℕ) → k < aheadColumn → getD blocks k 0 ≡ getD columns k 0
-  same-columns k a = twins .columns k a ∙ rows .same k (omega arith) ∙ widened .same k a
+  same-columns : (k : ℕ) → k < parentColumn → getD blocks k 0 ≡ getD columns k 0
+  same-columns k a = twins .columns k (omega arith) ∙ rows .same k (omega arith) ∙ links .columns k a ∙ widened .same k a
+
+  parent-is : (j : ℕ) → j < mostBlocks → parentAt blocks j ≡ getD parents j 0
+  parent-is j k = twins .columns (parentColumn + j) (omega arith) ∙ rows .same (parentColumn + j) (omega arith) ∙ links .parentIs j k
 
   pub completed : (day : ℕ) (sides hours prices quantities root : List ℕ) → ((j : ℕ) → j < count → Written day sides hours prices quantities root columns j) →
-      Completed day sides hours prices quantities root count blocks
+      Completed day sides hours prices quantities parents root count blocks
   completed day sides hours prices quantities root w = record {
     columns = λ j k. written-carried columns blocks same-columns day sides hours prices quantities root j (omega arith) (w j k);
+    few = few;
+    parentIs = λ j k. parent-is j (omega arith);
     row = λ j h k from to.
         let there = twins .rows (rowsColumn + hourPlaces * j + (h - 1)) (omega arith) ∙ rows .row j h k from to in
-        let x : hoursAt blocks j ≡ hoursAt wide j = twins .columns (hoursColumn + j) (omega arith) ∙ rows .same (hoursColumn + j) (omega arith) in
-        let q : quantityAt blocks j ≡ quantityAt wide j = twins .columns (quantityColumn + j) (omega arith) ∙ rows .same (quantityColumn + j) (omega arith) in
+        let x : hoursAt blocks j ≡ hoursAt linked j = twins .columns (hoursColumn + j) (omega arith) ∙ rows .same (hoursColumn + j) (omega arith) in
+        let q : quantityAt blocks j ≡ quantityAt linked j = twins .columns (quantityColumn + j) (omega arith) ∙ rows .same (quantityColumn + j) (omega arith) in
         rw (x, q) there;
     ahead = λ j k. twin-carried traded blocks (twins .columns) j true (aheadAt blocks j) (omega arith) (twins .ahead j k);
     behind = λ j k. twin-carried traded blocks (twins .columns) j false (behindAt blocks j) (omega arith) (twins .behind j k);
@@ -409,6 +516,7 @@ module _ (count : ℕ) (columns wide traded blocks : List ℕ) (few : count ≤ 
       rows .fits (rowsColumn + hourPlaces * i + (h - 1))
           (omega arith),
     );
+    parentsFit = λ i k. omega (arith, parent-is i k, held i k);
     twinsFit = λ i k. elim (decLe count i) [
       | yes a ↦ let n = twins .none i a k in (omega (arith, n .0), omega (arith, n .1))
       | no a ↦
@@ -418,9 +526,16 @@ module _ (count : ℕ) (columns wide traded blocks : List ℕ) (few : count ≤ 
   }
 
 -- what each step is given by the one before
-pub rows-empty : (columns wide : List ℕ) → Widened columns wide → ((i : ℕ) → i < mostBlocks → quantityAt columns i ≤ mostQuantity) → RowsEmpty wide
-rows-empty columns wide w small =
-    record { small = λ i k. omega (arith, w .same (quantityColumn + i) (omega arith), small i k); none = λ k a. w .none k (omega arith) }
+module _ (parents columns wide linked : List ℕ) (widened : Widened columns wide) (links : ParentsWritten parents wide linked) where
+  pub rows-empty : ((i : ℕ) → i < mostBlocks → quantityAt columns i ≤ mostQuantity) → RowsEmpty linked
+  rows-empty small = record {
+    small = λ i k. omega (arith, links .columns (quantityColumn + i) (omega arith), widened .same (quantityColumn + i) (omega arith), small i k);
+    none = λ k a. links .rest k (omega arith) ∙ widened .none k (omega arith);
+  }
 
-pub twins-empty : (columns wide traded : List ℕ) (count : ℕ) → Widened columns wide → RowsWritten count wide traded → TwinsEmpty traded
-twins-empty columns wide traded count w rows k a b = rows .same k b ∙ w .none k a
+  module _ (count : ℕ) (traded : List ℕ) (rows : RowsWritten count linked traded) where
+    pub twins-empty : TwinsEmpty traded
+    twins-empty k a b = rows .same k b ∙ links .rest k a ∙ widened .none k (omega arith)
+
+    pub parents-before : ParentsHeld parents → ParentsBefore traded
+    parents-before held i k = omega (arith, rows .same (parentColumn + i) (omega arith), links .parentIs i k, held i k)

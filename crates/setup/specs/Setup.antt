@@ -17,9 +17,10 @@ use Rattle.tables.specs.Tables.{PriceTable, AllOf, ClearRange, GapTable}
 use Rattle.rules.specs.Orders.{maxPrice}
 use Rattle.book.specs.Bounds.{mostBlocks}
 use Rattle.orders.specs.Layout.{stepPlaces}
-use Rattle.places.specs.Layout.{hourPlaces, mostQuantity, lastPlace, lastAndAbove, sideColumn, hoursColumn, quantityColumn, limitColumn, againstColumn, gainColumn, aheadColumn, rowsColumn, blockListSize}
+use Rattle.places.specs.Layout.{hourPlaces, mostQuantity, lastPlace, lastAndAbove, sideColumn, hoursColumn, quantityColumn, limitColumn, againstColumn, gainColumn, parentColumn, aheadColumn, rowsColumn, blockListSize}
 use Rattle.places.specs.Hours.{Small, FirstSmall, sumOfHours}
-use Rattle.places.specs.Blocks.{sideAt, hoursAt, quantityAt, limitAt, againstAt, gainAt, aheadAt, behindAt, rowQuantity}
+use Rattle.places.specs.Blocks.{sideAt, hoursAt, quantityAt, limitAt, againstAt, gainAt, parentAt, aheadAt, behindAt, rowQuantity}
+use Rattle.rules.proofs.LinkLaws.{parentPlace, Parents}
 use Rattle.search.specs.Tables.{Tables}
 use Rattle.search.specs.Meaning.{Known, Turning}
 
@@ -45,6 +46,10 @@ pub record BlocksHeld (count : ℕ) (prices quantities : List ℕ) : Type 0 wher
   pub few : count ≤ mostBlocks
   pub pricesFit : FirstSmall count maxPrice prices
   pub quantitiesFit : FirstSmall count mostQuantity quantities
+
+-- Each block's parent, given as its position and 1, stands before it; 0 for none.
+abbrev pub ParentsHeld : List ℕ → Type 0
+ParentsHeld parents = (i : ℕ) → i < mostBlocks → getD parents i 0 ≤ i
 
 -- PARTS: the numbers of a column from a up to e; those of hour h + 1; and that hour's row of a table, as far as it is filled.
 abbrev pub fromTo : ℕ → ℕ → List ℕ → List ℕ
@@ -143,8 +148,15 @@ pub record Written (day : ℕ) (sides hours prices quantities root columns : Lis
 -- The six columns, and nothing behind them yet.
 pub record Widened (columns blocks : List ℕ) : Type 0 where
   pub size : length blocks ≡ blockListSize
-  pub same : (k : ℕ) → k < aheadColumn → getD blocks k 0 ≡ getD columns k 0
-  pub none : (k : ℕ) → aheadColumn ≤ k → getD blocks k 0 ≡ 0
+  pub same : (k : ℕ) → k < parentColumn → getD blocks k 0 ≡ getD columns k 0
+  pub none : (k : ℕ) → parentColumn ≤ k → getD blocks k 0 ≡ 0
+
+-- The parents stand in their column, and all else is as it was.
+pub record ParentsWritten (parents before blocks : List ℕ) : Type 0 where
+  pub size : length blocks ≡ blockListSize
+  pub parentIs : (i : ℕ) → i < mostBlocks → parentAt blocks i ≡ getD parents i 0
+  pub columns : (k : ℕ) → k < parentColumn → getD blocks k 0 ≡ getD before k 0
+  pub rest : (k : ℕ) → aheadColumn ≤ k → getD blocks k 0 ≡ getD before k 0
 
 -- No row stands yet, and every quantity is in its range.
 pub record RowsEmpty (blocks : List ℕ) : Type 0 where
@@ -164,14 +176,38 @@ pub record TwinsAt (blocks : List ℕ) (a b : ℕ) : Type 0 where
   pub sameHours : hoursAt blocks a ≡ hoursAt blocks b
   pub sameQuantity : quantityAt blocks a ≡ quantityAt blocks b
 
+-- Each parent of the list stands before its child.
+abbrev pub ParentsBefore : List ℕ → Type 0
+ParentsBefore blocks = (i : ℕ) → i < mostBlocks → parentAt blocks i ≤ i
+
+-- What the parents' column may name: 0 for none, and of each block its number and 1.
+abbrev pub parentNumbers : ℕ
+parentNumbers = mostBlocks + 1
+
+-- Each that it names is marked with 1.
+abbrev pub Marked : (blocks marks : List ℕ) → Type 0
+Marked blocks marks = (j : ℕ) → j < mostBlocks → getD marks (parentAt blocks j) 0 ≡ 1
+
+-- Block a may stand in for block b: it has no parent or b's, and b is nobody's parent.
+pub record StandsIn (blocks : List ℕ) (a b : ℕ) : Type 0 where
+  pub noneOrSame : (k : ℕ) → parentAt blocks a ≡ suc k → parentAt blocks b ≡ suc k
+  pub nobodys : (j : ℕ) → j < mostBlocks → parentAt blocks j ≡ suc b → ⊥
+
 -- A limit is kept wherever another is.
 unfoldable pub noWorse : (side limit other : ℕ) → Bool
 noWorse side limit other = testSide (sideFor side) (leb other limit) (leb limit other)
 
--- A number that is 0, or 1 and the number of an earlier twin of block i: one that is taken before it, or where `ahead` is false after it.
+-- Block a is an earlier twin of block i that is taken before it, or where `ahead` is false after it; the one taken before may stand in for the other.
+pub record TwinAt (blocks : List ℕ) (i : ℕ) (ahead : Bool) (a : ℕ) : Type 0 where
+  pub earlier : a < i
+  pub twins : TwinsAt blocks a i
+  pub better : noWorse (sideAt blocks i) (limitAt blocks a) (limitAt blocks i) ≡ ahead
+  pub trades : 1 ≤ quantityAt blocks i
+  pub standsIn : StandsIn blocks (cond ahead a i) (cond ahead i a)
+
+-- A number that is 0, or 1 and the number of such a twin.
 abbrev pub TwinOf : (blocks : List ℕ) (i : ℕ) (ahead : Bool) (found : ℕ) → Type 0
-TwinOf blocks i ahead found = (a : ℕ) → found ≡ suc a →
-    (a < i) × TwinsAt blocks a i × (noWorse (sideAt blocks i) (limitAt blocks a) (limitAt blocks i) ≡ ahead) × (1 ≤ quantityAt blocks i)
+TwinOf blocks i ahead found = (a : ℕ) → found ≡ suc a → TwinAt blocks i ahead a
 
 -- No twin stands yet.
 abbrev pub TwinsEmpty : List ℕ → Type 0
@@ -193,7 +229,12 @@ pub record Ready (b : List ℕ) (t : Tables) : Type 0 where
   pub known : Known (dayFrom b) p rest t
   pub turning : Turning t
 
-abbrev pub ReadyFor : (day : ℕ) (sides prices quantities ends : List ℕ) (records blockSides hours blockPrices blockQuantities : List ℕ) (t : Tables) → Type 0
-ReadyFor day sides prices quantities ends records blockSides hours blockPrices blockQuantities t =
+-- The parents are those of the book's blocks.
+pub record ParentsOf (b : List ℕ) (count : ℕ) (parents : List ℕ) : Type 0 where
+  pub are : (j : ℕ) → j < count → getD parents j 0 ≡ parentPlace (dayFrom b) j
+  pub stand : Parents (dayFrom b) (parentPlace (dayFrom b))
+
+abbrev pub ReadyFor : (day : ℕ) (sides prices quantities ends : List ℕ) (records blockSides hours blockPrices blockQuantities parents : List ℕ) (t : Tables) → Type 0
+ReadyFor day sides prices quantities ends records blockSides hours blockPrices blockQuantities parents t =
     (b stepRecords : List ℕ) → Accepted b → dayHours b ≡ day → StepColumns b ends stepRecords sides prices quantities →
-    BlockColumns mostBlocks b (t .count) records blockSides hours blockPrices blockQuantities → Ready b t
+    BlockColumns mostBlocks b (t .count) records blockSides hours blockPrices blockQuantities → ParentsOf b (t .count) parents → Ready b t

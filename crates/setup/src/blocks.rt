@@ -1,4 +1,4 @@
-// The blocks for the search: what they trade in each hour, their six columns at the root prices, and a row of hours for each.
+// The blocks for the search: what they trade in each hour, their six columns at the root prices, their parents, and a row of hours for each.
 ghost use mathlib.Core.Path.{_≡_};
 ghost use Prim.Native.Nat.{ℕ, _≤_, _<_};
 ghost use Rattle.rules.specs.Day.{autumnHours};
@@ -6,17 +6,17 @@ ghost use Rattle.book.specs.Bounds.{mostBlocks};
 ghost use Rattle.places.specs.Layout.{mostQuantity, mostLimit};
 ghost use Rattle.places.specs.Hours.{Small, FirstSmall, DayPrices};
 ghost use Rattle.places.specs.Blocks.{quantityAt};
-ghost use Rattle.setup.specs.Setup.{BlocksHeld, TradedBy, written, Written, Widened, RowsEmpty, RowsWritten};
+ghost use Rattle.setup.specs.Setup.{BlocksHeld, TradedBy, written, Written, Widened, ParentsWritten, RowsEmpty, RowsWritten};
 use book::hours::counted_hours;
 use places::added::moved;
 use places::layout::AGAINST;
-use places::layout::AHEAD;
 use places::layout::BLOCK_LIST;
 use places::layout::BLOCK_ROWS;
 use places::layout::GAIN;
 use places::layout::HOURS;
 use places::layout::LIMIT;
 use places::layout::MOST_BLOCKS;
+use places::layout::PARENT;
 use places::layout::QUANTITY;
 use places::layout::RUNS;
 use places::layout::SIDE;
@@ -26,8 +26,8 @@ use places::numbers::choose;
 use places::numbers::larger;
 use places::numbers::less;
 
-// How much the first six columns hold, those in front of the twins'.
-const SIX_COLUMNS: usize = AHEAD;
+// How much the first six columns hold, those in front of the parents'.
+const SIX_COLUMNS: usize = PARENT;
 
 // The largest number of a column of hours.
 pub fn largest(column: [u32; HOURS]) -> u32
@@ -123,7 +123,7 @@ pub fn block_columns(
     columns
 }
 
-// The blocks' six columns with room for their twins and rows.
+// The blocks' six columns with room for their parents, twins and rows.
 pub fn widened(columns: [u32; SIX_COLUMNS]) -> [u32; BLOCK_LIST]
     ensures { λ r. ⌜ Widened columns r ⌝ }
 {
@@ -132,6 +132,19 @@ pub fn widened(columns: [u32; SIX_COLUMNS]) -> [u32; BLOCK_LIST]
     while k < SIX_COLUMNS {
         r[k] = columns[k];
         k += 1;
+    }
+    r
+}
+
+// The same with the parent of each block.
+pub fn with_parents(parents: [u32; MOST_BLOCKS], blocks: [u32; BLOCK_LIST]) -> [u32; BLOCK_LIST]
+    ensures { λ r. ⌜ ParentsWritten parents blocks r ⌝ }
+{
+    let mut r = blocks;
+    let mut i: usize = 0;
+    while i < MOST_BLOCKS {
+        r[PARENT + i] = parents[i];
+        i += 1;
     }
     r
 }

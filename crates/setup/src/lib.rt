@@ -8,11 +8,12 @@ ghost use Rattle.rules.specs.Orders.{maxPrice};
 ghost use Rattle.rules.specs.Day.{autumnHours};
 ghost use Rattle.search.specs.Tables.{tablesOf};
 ghost use Rattle.search.specs.Meaning.{Sized};
-ghost use Rattle.setup.specs.Setup.{StepsHeld, BlocksHeld, BlocksFit, ReadyFor};
+ghost use Rattle.setup.specs.Setup.{StepsHeld, BlocksHeld, ParentsHeld, BlocksFit, ReadyFor};
 use crate::blocks::block_columns;
 use crate::blocks::largest;
 use crate::blocks::traded_by_hour;
 use crate::blocks::widened;
+use crate::blocks::with_parents;
 use crate::blocks::with_rows;
 use crate::rows::fill_ranges;
 use crate::rows::fill_tables;
@@ -25,9 +26,10 @@ use places::layout::BLOCK_LIST;
 use places::layout::HOUR_LIST;
 use places::layout::HOURS;
 use places::layout::LAST_AND_ABOVE;
+use places::layout::MOST_BLOCKS;
 use roots::root_prices;
 
-pub mod blocks; // what they trade, their columns and rows
+pub mod blocks; // what they trade, their columns, parents and rows
 pub mod rows; // the tables, ranges and gaps of the hours
 pub mod twins; // the blocks that are taken in turn
 
@@ -50,7 +52,8 @@ pub fn row_needed(blocks: Blocks) -> usize
     (largest(most) as usize) + LAST_AND_ABOVE
 }
 
-// All that the search is given on a day of so many hours, from the columns of a book's steps and blocks; unit_prices and gap are its two tables, a row of places for each hour.
+// All that the search is given on a day of so many hours, from the columns of a book's steps and blocks and the blocks' parents (the position and 1, or 0 for none);
+// unit_prices and gap are its two tables, a row of places for each hour.
 pub fn prepare(
     day: u8,
     sides: &[u8],
@@ -58,17 +61,19 @@ pub fn prepare(
     quantities: &[u32],
     ends: [u16; HOURS + 1],
     blocks: Blocks,
+    parents: [u32; MOST_BLOCKS],
     unit_prices: &mut [u32],
     gap: &mut [u32],
 ) -> Prepared
     requires day { ⌜ day ≤ autumnHours ⌝ }
     requires steps { ⌜ StepsHeld (now sides) (now prices) (now quantities) ends ⌝ }
     requires blocks { ⌜ BlocksHeld (blocks .count) (blocks .prices) (blocks .quantities) ⌝ }
+    requires parents { ⌜ ParentsHeld parents ⌝ }
     requires tables { ⌜ HasRows (now «unit_prices») × (length (now gap) ≡ length (now «unit_prices»)) × Small maxPrice (now «unit_prices») ⌝ }
     requires room { ⌜ BlocksFit (rowWidth (now «unit_prices»)) blocks ⌝ }
     ensures sized { λ r. ⌜ Sized (tablesOf (now («unit_prices» .exit)) (now (gap .exit)) (r .hours) (r .columns) (blocks .count)) ⌝ }
     ensures ready { λ r. ⌜ ReadyFor day (now (sides .entry)) (now (prices .entry)) (now (quantities .entry)) ends
-        (blocks .records) (blocks .sides) (blocks .hours) (blocks .prices) (blocks .quantities)
+        (blocks .records) (blocks .sides) (blocks .hours) (blocks .prices) (blocks .quantities) parents
         (tablesOf (now («unit_prices» .exit)) (now (gap .exit)) (r .hours) (r .columns) (blocks .count)) ⌝ }
 {
     let count = blocks.count;
@@ -107,7 +112,8 @@ pub fn prepare(
     let last = ranges.last;
     let turn = ranges.turn;
     let wide = widened(columns);
-    let traded = with_rows(count, wide);
+    let linked = with_parents(parents, wide);
+    let traded = with_rows(count, linked);
     Prepared {
         hours: joined(first, last, turn, often),
         columns: with_twins(count, traded),

@@ -1,19 +1,50 @@
 // The twins for the search: for each block the earlier one of the same side, hours and quantity that is taken before it, and the one that is taken after it.
+// Only where to exchange the two breaks no link.
 ghost use mathlib.Core.Path.{_≡_};
-ghost use mathlib.Core.Bool.{true};
-ghost use Prim.Native.Nat.{ℕ, _≤_, _<_};
+ghost use mathlib.Core.Bool.{true, cond};
+ghost use Prim.Native.Nat.{_≤_, _<_};
 ghost use lib.ListN.{length};
 ghost use Rattle.book.specs.Bounds.{mostBlocks};
 ghost use Rattle.places.specs.Layout.{blockListSize};
-ghost use Rattle.setup.specs.Setup.{TwinsAt, noWorse, TwinOf, TwinsEmpty, TwinsWritten};
+ghost use Rattle.setup.specs.Setup.{parentNumbers, ParentsBefore, Marked, TwinsAt, StandsIn, noWorse, TwinOf, TwinsEmpty, TwinsWritten};
 use places::layout::AHEAD;
 use places::layout::BEHIND;
 use places::layout::BLOCK_LIST;
 use places::layout::LIMIT;
+use places::layout::MOST_BLOCKS;
+use places::layout::PARENT;
 use places::layout::QUANTITY;
 use places::layout::RUNS;
 use places::layout::SIDE;
 use places::numbers::choose;
+
+// What the parents' column may name: 0 for none, and of each block its number and 1.
+const PARENT_NUMBERS: usize = MOST_BLOCKS + 1;
+
+// Each that it names, marked with 1.
+fn parent_marks(blocks: &[u32]) -> [u32; PARENT_NUMBERS]
+    requires { ⌜ (length (now blocks) ≡ blockListSize) × ParentsBefore (now blocks) ⌝ }
+    ensures { λ r. ⌜ Marked (now (blocks .entry)) r ⌝ }
+{
+    let mut marks = [0; PARENT_NUMBERS];
+    let mut j: usize = 0;
+    while j < MOST_BLOCKS {
+        marks[blocks[PARENT + j] as usize] = 1;
+        j += 1;
+    }
+    marks
+}
+
+// Whether block a may stand in for block b: it has no parent or b's, and b is nobody's parent.
+fn may_stand_in(blocks: &[u32], marks: &[u32], a: usize, b: usize) -> bool
+    requires blocks { ⌜ (length (now blocks) ≡ blockListSize) × (a < mostBlocks) × (b < mostBlocks) ⌝ }
+    requires marks { ⌜ (length (now marks) ≡ parentNumbers) × Marked (now blocks) (now marks) ⌝ }
+    ensures { λ r. ⌜ (r ≡ true → StandsIn (now (blocks .entry)) a b) ⌝ }
+{
+    let parent = blocks[PARENT + a];
+    let none_or_same = (parent == 0) | (parent == blocks[PARENT + b]);
+    none_or_same & (marks[b + 1] == 0)
+}
 
 // Whether two blocks are twins: of the same side, hours and quantity.
 fn are_twins(blocks: &[u32], a: usize, b: usize) -> bool
@@ -24,6 +55,22 @@ fn are_twins(blocks: &[u32], a: usize, b: usize) -> bool
     let same_hours = blocks[RUNS + a] == blocks[RUNS + b];
     let same_quantity = blocks[QUANTITY + a] == blocks[QUANTITY + b];
     (same_side & same_hours) & same_quantity
+}
+
+// Whether blocks j and i are twins of which the one ahead may stand in for the other: j for i, or where ahead is false i for j.
+fn may_exchange(blocks: &[u32], marks: &[u32], j: usize, i: usize, ahead: bool) -> bool
+    requires blocks { ⌜ (length (now blocks) ≡ blockListSize) × (j < mostBlocks) × (i < mostBlocks) ⌝ }
+    requires marks { ⌜ (length (now marks) ≡ parentNumbers) × Marked (now blocks) (now marks) ⌝ }
+    ensures { λ r. ⌜ (r ≡ true → TwinsAt (now (blocks .entry)) j i × StandsIn (now (blocks .entry)) (cond ahead j i) (cond ahead i j)) ⌝ }
+{
+    if !are_twins(blocks, j, i) {
+        return false;
+    }
+    if ahead {
+        may_stand_in(blocks, marks, j, i)
+    } else {
+        may_stand_in(blocks, marks, i, j)
+    }
 }
 
 // Whether a limit is kept wherever another is: a buy's is no lower, a sell's no higher.
@@ -39,8 +86,9 @@ fn is_no_worse(side: u32, limit: u32, other: u32) -> bool
 
 // Of the earlier twins of block i that are taken before it, the last by limit; where ahead is false, of those that are taken after it, the first. Its number
 // and 1, or 0 for none.
-fn nearest_twin(blocks: &[u32], i: usize, ahead: bool) -> u32
-    requires { ⌜ (length (now blocks) ≡ blockListSize) × (i < mostBlocks) ⌝ }
+fn nearest_twin(blocks: &[u32], marks: &[u32], i: usize, ahead: bool) -> u32
+    requires blocks { ⌜ (length (now blocks) ≡ blockListSize) × (i < mostBlocks) ⌝ }
+    requires marks { ⌜ (length (now marks) ≡ parentNumbers) × Marked (now blocks) (now marks) ⌝ }
     ensures { λ r. ⌜ TwinOf (now (blocks .entry)) i ahead r ⌝ }
 {
     let side = blocks[SIDE + i];
@@ -51,7 +99,8 @@ fn nearest_twin(blocks: &[u32], i: usize, ahead: bool) -> u32
     let mut j: usize = 0;
     while j < i {
         let here = blocks[LIMIT + j];
-        let fits = (are_twins(blocks, j, i) & trades) & (is_no_worse(side, here, limit) == ahead);
+        let twins = may_exchange(blocks, marks, j, i, ahead);
+        let fits = (twins & trades) & (is_no_worse(side, here, limit) == ahead);
         let test = fits & (is_no_worse(side, edge, here) == ahead);
         let next = choose(test, (j + 1) as u32, found);
         let nearer = choose(test, here, edge);
@@ -64,14 +113,15 @@ fn nearest_twin(blocks: &[u32], i: usize, ahead: bool) -> u32
 
 // The same with the twins of each block.
 pub fn with_twins(count: usize, blocks: [u32; BLOCK_LIST]) -> [u32; BLOCK_LIST]
-    requires { ⌜ (count ≤ mostBlocks) × TwinsEmpty blocks ⌝ }
+    requires { ⌜ (count ≤ mostBlocks) × TwinsEmpty blocks × ParentsBefore blocks ⌝ }
     ensures { λ r. ⌜ TwinsWritten count blocks r ⌝ }
 {
+    let marks = parent_marks(&blocks);
     let mut r = blocks;
     let mut i: usize = 0;
     while i < count {
-        r[AHEAD + i] = nearest_twin(&blocks, i, true);
-        r[BEHIND + i] = nearest_twin(&blocks, i, false);
+        r[AHEAD + i] = nearest_twin(&blocks, &marks, i, true);
+        r[BEHIND + i] = nearest_twin(&blocks, &marks, i, false);
         i += 1;
     }
     r

@@ -124,7 +124,7 @@ most-24 : most 24 ≡ 471
 unfolding most decimal decimalIn
 most-24 = refl
 
-refused-short : (n : ℕ) → length (refusedLine n) ≤ 29
+pub refused-short : (n : ℕ) → length (refusedLine n) ≤ 29
 unfolding refusedLine text
 refused-short n = omega (arith, field-length n lineFeed, any-digits n)
 
@@ -214,8 +214,12 @@ module _ (b space : List ℕ) (count : ℕ) (a : Accepted b) (counted : count �
     pub again-length : 196 + 4 * count ≡ length (take (196 + 4 * count) (after ++ drop (196 + 4 * count) space))
     again-length = sym (length-take-le (196 + 4 * count) (after ++ drop (196 + 4 * count) space) again-fits)
 
+    -- the front is the result
+    pub front-is : take (196 + 4 * count) (after ++ drop (196 + 4 * count) space) ≡ resultBytes b
+    front-is = take-at after (drop (196 + 4 * count) space) (196 + 4 * count) after-length ∙ after-is
+
     lines-in-front : linesIn b (take (196 + 4 * count) (after ++ drop (196 + 4 * count) space)) ≡ sheetOf b
-    lines-in-front = rw (take-at after (drop (196 + 4 * count) space) (196 + 4 * count) after-length, after-is) (sheet-accepted b a)
+    lines-in-front = rw front-is (sheet-accepted b a)
 
     -- the lines have room in 781 bytes, and are the sheet
     pub lines-room : ((i : ℕ) → byteAt b i < 256) → (out : List ℕ) → 781 ≤ length out →

@@ -8,7 +8,7 @@ use Rattle.book.specs.Refusals.{refusal}
 use Rattle.rules.specs.Orders.{canonical}
 use Rattle.rules.specs.Day.{dayOf, eachOnDay}
 use Rattle.orders.specs.Bridge.{blockFrom, ordersOf, dayFrom}
-use Rattle.orders.specs.WorkedBooks.{chained, bookOn}
+use Rattle.orders.specs.WorkedBooks.{chained, bookWith}
 use Rattle.result.specs.WorkedResult.{s5Book}
 use Rattle.result.proofs.WorkedResultLaws.{s5-worked}
 use Rattle.text.specs.Text.{text, decimalIn, decimal, field}
@@ -17,5 +17,5 @@ use Rattle.sheet.specs.WorkedSheet.{s5Sheet}
 
 pub s5-sheet : sheetOf s5Book ≡ s5Sheet
 unfolding sheetOf s5Sheet outcomeSheet hourLines hourLine ofHour blockLines blockLine field decimal decimalIn text dayFrom dayOf eachOnDay canonical ordersOf
-    blockFrom blockAt blockOrder chainFrom u16At u24At bookOn chained
+    blockFrom blockAt blockOrder chainFrom u16At u24At bookWith chained
 s5-sheet = rw (eq-eqb (refusal s5Book) 0 (s5-worked .accepted), s5-worked .publishes) refl

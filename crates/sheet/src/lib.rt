@@ -37,7 +37,7 @@ fn put_outcome(out: &mut [u8], book: &[u8], space: &mut [u8]) -> usize
 }
 
 // The number of the reader's answer, 0 for an accepted book.
-fn refusal_in(reading: Reading) -> u8
+pub fn refusal_in(reading: Reading) -> u8
     ensures { λ r. ⌜ r ≡ numberOf reading ⌝ }
 {
     match reading {

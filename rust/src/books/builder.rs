@@ -26,7 +26,15 @@ pub struct BlockOrder {
     pub portfolio: u32,
 }
 
-/// The orders of a book; each list is a chain in its order.
+/// A link to be written. No field is checked.
+#[derive(Clone, Copy, Debug, PartialEq, Eq)]
+pub struct LinkOrder {
+    /// The number of the block that may be taken only with its parent.
+    pub child: u32,
+    pub parent: u32,
+}
+
+/// The orders of a book and their links; each list is a chain in its order.
 #[derive(Clone, Debug, PartialEq, Eq)]
 pub struct Orders {
     /// Edition 1, where nothing else is said.
@@ -35,11 +43,13 @@ pub struct Orders {
     pub day: u32,
     pub steps: Vec<StepOrder>,
     pub blocks: Vec<BlockOrder>,
+    /// Of edition 3; in the others they make a refused book.
+    pub links: Vec<LinkOrder>,
 }
 
 impl Default for Orders {
     fn default() -> Orders {
-        Orders { edition: 1, day: 24, steps: Vec::new(), blocks: Vec::new() }
+        Orders { edition: 1, day: 24, steps: Vec::new(), blocks: Vec::new(), links: Vec::new() }
     }
 }
 
@@ -100,12 +110,18 @@ impl Orders {
         self
     }
 
-    /// How many orders there are.
-    pub fn count(&self) -> usize {
-        self.steps.len() + self.blocks.len()
+    /// Adds a link behind those that there are.
+    pub fn link(mut self, child: u32, parent: u32) -> Orders {
+        self.links.push(LinkOrder { child, parent });
+        self
     }
 
-    /// The book with the steps in records 1, 2, .. and the blocks after them.
+    /// How many records there are beside the head: steps, blocks and links.
+    pub fn count(&self) -> usize {
+        self.steps.len() + self.blocks.len() + self.links.len()
+    }
+
+    /// The book with the steps in records 1, 2, .., then the blocks, then the links.
     pub fn book(&self) -> Vec<u8> {
         let places: Vec<usize> = (1..=self.count()).collect();
         self.book_at(&places)
@@ -118,27 +134,32 @@ impl Orders {
         self.book_at(&places)
     }
 
-    /// The book with each order in the record given for it, steps first. The
-    /// places are the numbers 1 to the count of orders in any order.
+    /// The book with each order and link in the record given for it, steps first, then
+    /// blocks. The places are the numbers 1 to the count of records in any order.
     pub fn book_at(&self, places: &[usize]) -> Vec<u8> {
         assert_eq!(places.len(), self.count(), "one place for each order");
-        let (step_places, block_places) = places.split_at(self.steps.len());
+        let (step_places, others) = places.split_at(self.steps.len());
+        let (block_places, link_places) = others.split_at(self.blocks.len());
         let mut book = vec![0; 16 * (self.count() + 1)];
-        self.write_head(&mut book, first(step_places), first(block_places));
+        self.write_head(&mut book, [step_places, block_places, link_places].map(first));
         for (index, step) in self.steps.iter().enumerate() {
             write_step(&mut book, step_places[index], first(&step_places[index + 1..]), step);
         }
         for (index, block) in self.blocks.iter().enumerate() {
             write_block(&mut book, block_places[index], first(&block_places[index + 1..]), block);
         }
+        for (index, link) in self.links.iter().enumerate() {
+            write_link(&mut book, link_places[index], first(&link_places[index + 1..]), link);
+        }
         book
     }
 
-    fn write_head(&self, book: &mut [u8], first_step: usize, first_block: usize) {
+    fn write_head(&self, book: &mut [u8], first_of_chains: [usize; 3]) {
         let record_count = book.len() / 16;
         put(book, 0, 0, 2, record_count as u32);
-        put(book, 0, 2, 2, first_step as u32);
-        put(book, 0, 4, 2, first_block as u32);
+        for (at, first) in [2, 4, 8].into_iter().zip(first_of_chains) {
+            put(book, 0, at, 2, first as u32);
+        }
         put(book, 0, 6, 1, self.day);
         put(book, 0, 7, 1, self.edition);
     }
@@ -176,6 +197,13 @@ fn write_block(book: &mut [u8], k: usize, next: usize, block: &BlockOrder) {
     put(book, k, 8, 3, block.hours);
     put(book, k, 11, 3, block.price);
     put(book, k, 14, 2, block.quantity);
+}
+
+fn write_link(book: &mut [u8], k: usize, next: usize, link: &LinkOrder) {
+    put(book, k, 0, 1, 3);
+    put(book, k, 2, 2, next as u32);
+    put(book, k, 4, 2, link.child);
+    put(book, k, 6, 2, link.parent);
 }
 
 fn side_byte(side: Side) -> u32 {

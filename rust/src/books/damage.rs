@@ -3,6 +3,7 @@
 
 use super::builder::{hour_bits, put, BlockOrder, Orders, StepOrder};
 use super::dice::Dice;
+use super::links::{link_blocks, Shape};
 use super::random::small_orders_of;
 use crate::paper::{limits, passing_hours, Limits, Side, CHANGED_HOUR};
 
@@ -12,12 +13,12 @@ pub fn reader_book(seed: u64) -> Vec<u8> {
     reader_book_of(1, seed)
 }
 
-/// A book for a reader of an edition. For edition 2 there are also books whose head
+/// A book for a reader of an edition. From edition 2 on there are also books whose head
 /// names another edition than the one that their orders were made for.
 pub fn reader_book_of(edition: u32, seed: u64) -> Vec<u8> {
     let mut dice = Dice::new(seed ^ 0x7265_6164_0000_0000);
     if edition != 1 && dice.once_in(5) {
-        return another_edition(&mut dice);
+        return another_edition(edition, &mut dice);
     }
     if dice.once_in(2_000) {
         return large_book(edition, &mut dice);
@@ -25,11 +26,11 @@ pub fn reader_book_of(edition: u32, seed: u64) -> Vec<u8> {
     match dice.below(20) {
         0..=4 => small_orders_of(edition, &mut dice).shuffled_book(&mut dice),
         5..=9 => {
-            let cause = dice.between(1, 6) as u8;
+            let cause = some_cause(edition, &mut dice);
             book_with_causes_of(edition, &[cause], &mut dice)
         }
         10..=13 => {
-            let causes = [dice.between(1, 6) as u8, dice.between(1, 6) as u8];
+            let causes = [some_cause(edition, &mut dice), some_cause(edition, &mut dice)];
             book_with_causes_of(edition, &causes, &mut dice)
         }
         14..=16 => {
@@ -39,6 +40,14 @@ pub fn reader_book_of(edition: u32, seed: u64) -> Vec<u8> {
         17 => length_changed(edition, &mut dice),
         18 => noise(&mut dice),
         _ => loose_records(edition, &mut dice),
+    }
+}
+
+/// A cause of a book of an edition on a day of 24 hours.
+fn some_cause(edition: u32, dice: &mut Dice) -> u8 {
+    match edition {
+        1 | 2 => dice.between(1, 6) as u8,
+        _ => dice.pick(&[1, 2, 3, 3, 4, 5, 6, 10, 10]),
     }
 }
 
@@ -128,7 +137,7 @@ pub fn edition_edges() -> Vec<Vec<u8>> {
 }
 
 /// A random book with each of these causes, 1 to 6, so that the lowest of them
-/// is its refusal.
+/// is its refusal; in edition 3 also 10.
 pub fn book_with_causes(causes: &[u8], dice: &mut Dice) -> Vec<u8> {
     book_with_causes_of(1, causes, dice)
 }
@@ -138,18 +147,25 @@ pub fn book_with_causes_of(edition: u32, causes: &[u8], dice: &mut Dice) -> Vec<
     with_causes(small_orders_of(edition, dice), causes, dice)
 }
 
-/// The book of some orders with each of these causes, 1 to 6 and, on a day of 23 hours, 9.
+/// The book of some orders with each of these causes: 1 to 6, on a day of 23 hours 9, in
+/// edition 3 10.
 pub(super) fn with_causes(mut orders: Orders, causes: &[u8], dice: &mut Dice) -> Vec<u8> {
     let limits = limits(orders.edition).expect("an edition");
-    ensure_orders(&mut orders);
+    ensure_orders(&mut orders, dice);
     let holds = |cause: u8| causes.contains(&cause);
     if holds(6) {
         crowd_blocks(&mut orders, limits, dice);
+    }
+    if holds(10) && orders.links.is_empty() {
+        orders = orders.linked(Shape::Chain, dice);
     }
     let book = orders.shuffled_book(dice);
     let mut damaged = Damaged { limits, chained: (1..=orders.count()).collect(), book };
     // From the last cause back, so that no change undoes one that comes before its own.
     // What it does to the later ones does not matter.
+    if holds(10) {
+        damaged.break_a_link(orders.blocks.len() as u32, dice);
+    }
     if holds(9) {
         damaged.leave_the_day(dice);
     }
@@ -196,21 +212,42 @@ impl Damaged {
         self.get(k, 0, 1) == 2
     }
 
+    fn is_link(&self, k: usize) -> bool {
+        self.get(k, 0, 1) == 3
+    }
+
     fn kind_of_chain(&self, k: usize) -> usize {
         self.get(k, 0, 1)
     }
 
     /// Where the index of record k is written: (record, byte).
     fn place_of_link_to(&self, k: usize) -> (usize, usize) {
-        let heads = [(0, 2), (0, 4)];
+        let heads = [(0, 2), (0, 4), (0, 8)];
         let nexts = self.chained.iter().map(|&before| (before, 2));
         let mut links = heads.into_iter().chain(nexts);
         links.find(|&(record, at)| self.get(record, at, 2) == k).expect("k is on a chain")
     }
 
+    /// Cause 10, where the blocks are numbered 1 to their count: a parent that is not there
+    /// or not below its child, or a child that is not there, which only the last can be.
+    fn break_a_link(&mut self, blocks: u32, dice: &mut Dice) {
+        let links: Vec<usize> = self.chained.iter().copied().filter(|&k| self.is_link(k)).collect();
+        let last = links.iter().copied().max_by_key(|&k| self.get(k, 4, 2)).expect("a link");
+        if dice.once_in(4) {
+            let child = dice.pick(&[blocks + 1, blocks + 2, 256 + blocks, 65_535]);
+            self.put(last, 4, 2, child);
+            return;
+        }
+        let k = dice.pick(&links);
+        let child = self.get(k, 4, 2) as u32;
+        let above = dice.between(child, blocks);
+        self.put(k, 6, 2, dice.pick(&[0, child, above, blocks + 1, 65_535]));
+    }
+
     /// Cause 9 on a day of 23 hours: a step for hour 3, or a block with one hour besides it.
     fn leave_the_day(&mut self, dice: &mut Dice) {
-        let k = dice.pick(&self.chained);
+        let orders = self.chained.iter().copied().filter(|&k| !self.is_link(k));
+        let k = dice.pick(&orders.collect::<Vec<usize>>());
         if self.is_block(k) {
             let other = dice.pick(&[1, 2, 2, 4, 4, 5, 23, 24]);
             self.put(k, 8, 3, hour_bits(&[CHANGED_HOUR, other]));
@@ -242,6 +279,10 @@ impl Damaged {
     /// Cause 4: a field of an order outside its range.
     fn break_a_field(&mut self, dice: &mut Dice) {
         let k = dice.pick(&self.chained);
+        if self.is_link(k) {
+            let at = dice.pick(&[1, 1, 8, 9, 10, 11, 12, 13, 14, 15]);
+            return self.put(k, at, 1, dice.pick(&[1, 2, 128, 255]));
+        }
         let side = (1, 1, dice.between(2, 255));
         let portfolio = (7, 1, 0);
         let one_hour = hour_bits(&[dice.between(1, 24)]);
@@ -288,8 +329,11 @@ impl Damaged {
                 self.put(record, at, 2, index.max(records));
             }
             1 => {
-                let kind = dice.pick(&[0, 3, 255, 3 - self.kind_of_chain(k) as u32]);
-                self.put(k, 0, 1, kind);
+                let others = match self.kind_of_chain(k) as u32 {
+                    3 => [0, 1, 255, 2],
+                    kind => [0, 3, 255, 3 - kind],
+                };
+                self.put(k, 0, 1, dice.pick(&others));
             }
             2 => self.put(k, 4, 2, 0),
             3 => self.repeat_a_number(k, record, dice),
@@ -339,11 +383,13 @@ impl Damaged {
     /// Cause 2.
     fn break_the_head(&mut self, dice: &mut Dice) {
         let hours = |value: u32| if passing_hours(value).is_some() { 26 } else { value };
-        let edition = |value: u32| if limits(value).is_some() { 3 } else { value };
+        let edition = |value: u32| if limits(value).is_some() { 4 } else { value };
+        // Bytes 8 and 9 lead to the links of edition 3.
+        let zeros = if self.get(0, 7, 1) == 3 { 10..16 } else { 8..16 };
         match dice.below(3) {
             0 => self.put(0, 6, 1, hours(dice.between(0, 254))),
             1 => self.put(0, 7, 1, edition(dice.between(0, 254))),
-            _ => self.put(0, 8 + dice.below(8), 1, dice.between(1, 255)),
+            _ => self.put(0, zeros.start + dice.below(zeros.len()), 1, dice.between(1, 255)),
         }
     }
 
@@ -360,8 +406,9 @@ impl Damaged {
     }
 }
 
-/// At least two steps and two blocks, so that every cause can be made.
-pub(super) fn ensure_orders(orders: &mut Orders) {
+/// At least two steps and two blocks, so that every cause can be made; numbered from 1 on
+/// and, in edition 3, linked anew.
+pub(super) fn ensure_orders(orders: &mut Orders, dice: &mut Dice) {
     while orders.steps.len() < 2 {
         let number = orders.steps.last().map_or(1, |step| step.number);
         orders.steps.insert(
@@ -391,6 +438,7 @@ pub(super) fn ensure_orders(orders: &mut Orders) {
         );
     }
     number_from_one(orders);
+    link_blocks(orders, dice);
 }
 
 fn number_from_one(orders: &mut Orders) {
@@ -420,13 +468,14 @@ fn crowd_blocks(orders: &mut Orders, limits: Limits, dice: &mut Dice) {
         }
     }
     number_from_one(orders);
+    link_blocks(orders, dice);
 }
 
-/// Orders at the limits of either edition, under any edition.
-fn another_edition(dice: &mut Dice) -> Vec<u8> {
-    let edition = dice.between(1, 2);
+/// Orders at the limits of the editions up to one, under any edition.
+fn another_edition(last: u32, dice: &mut Dice) -> Vec<u8> {
+    let edition = dice.between(1, last);
     let mut orders = small_orders_of(edition, dice);
-    ensure_orders(&mut orders);
+    ensure_orders(&mut orders, dice);
     if dice.once_in(2) {
         let k = dice.below(orders.blocks.len());
         orders.blocks[k].quantity = dice.pick(&[50, 51, 52, 249, 250, 251, 252]);
@@ -438,8 +487,13 @@ fn another_edition(dice: &mut Dice) -> Vec<u8> {
         orders.blocks.resize(count, model);
         orders.blocks.iter_mut().for_each(|block| block.portfolio = model.portfolio);
         number_from_one(&mut orders);
+        link_blocks(&mut orders, dice);
     }
-    orders.of_edition(dice.pick(&[0, 1, 1, 1, 2, 2, 2, 3, 4, 255])).shuffled_book(dice)
+    let editions = match last {
+        2 => [0, 1, 1, 1, 2, 2, 2, 3, 4, 255],
+        _ => [0, 1, 1, 2, 2, 3, 3, 3, 4, 255],
+    };
+    orders.of_edition(dice.pick(&editions)).shuffled_book(dice)
 }
 
 /// The book of some orders with one to three bytes changed, a little or altogether.
@@ -476,11 +530,12 @@ fn noise(dice: &mut Dice) -> Vec<u8> {
     (0..length).map(|_| dice.between(0, most) as u8).collect()
 }
 
-/// A right head over records whose links, kinds and numbers are drawn at random
+/// A right head over records whose indices, kinds and numbers are drawn at random
 /// from a few values: cycles, shared records and strays of every shape.
 fn loose_records(edition: u32, dice: &mut Dice) -> Vec<u8> {
     let mut orders = many_steps(dice.between(1, 3)).of_edition(edition);
     orders.blocks = many_blocks(edition, dice.between(1, 3), 5).blocks;
+    link_blocks(&mut orders, dice);
     let records = orders.count() as u32 + 1;
     let mut book = orders.shuffled_book(dice);
     let wrong_kinds = dice.once_in(2);
@@ -492,8 +547,11 @@ fn loose_records(edition: u32, dice: &mut Dice) -> Vec<u8> {
             put(&mut book, k, 4, 2, dice.between(0, records));
         }
         if wrong_kinds && k > 0 && dice.once_in(4) {
-            put(&mut book, k, 0, 1, dice.between(1, 2));
+            put(&mut book, k, 0, 1, dice.between(1, 2.max(edition)));
         }
+    }
+    if edition == 3 && dice.once_in(2) {
+        put(&mut book, 0, 8, 2, dice.between(0, records));
     }
     book
 }
@@ -503,6 +561,9 @@ fn large_book(edition: u32, dice: &mut Dice) -> Vec<u8> {
     let of_one_portfolio = limits(edition).expect("an edition").blocks_of_a_portfolio;
     let mut orders = many_steps(dice.between(2_014, 2_016)).of_edition(edition);
     orders.blocks = many_blocks(edition, 32, of_one_portfolio as u32).blocks;
+    link_blocks(&mut orders, dice);
+    // The links take the place of steps.
+    orders.steps.truncate(orders.steps.len() - orders.links.len());
     let mut book = orders.shuffled_book(dice);
     if dice.once_in(2) {
         let place = dice.below(book.len());

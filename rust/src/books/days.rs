@@ -6,6 +6,7 @@
 use super::builder::{hour_bits, hours_in, Orders};
 use super::damage::{bytes_changed, ensure_orders, with_causes, SOME_EDITIONS};
 use super::dice::Dice;
+use super::links::with_parents_only;
 use super::random::{placed, pricing_case_in, small_orders_of, some_used_hour, tiny_orders_of};
 use crate::paper::{passing_hours, price_hour, HourAnswer, Side, CHANGED_HOUR};
 
@@ -13,8 +14,8 @@ use crate::paper::{passing_hours, price_hour, HourAnswer, Side, CHANGED_HOUR};
 pub const DAYS: [u32; 3] = [23, 24, 25];
 
 /// Each length of a day in each edition.
-pub const DAYS_AND_EDITIONS: [(u32, u32); 6] =
-    [(23, 1), (24, 1), (25, 1), (23, 2), (24, 2), (25, 2)];
+pub const DAYS_AND_EDITIONS: [(u32, u32); 9] =
+    [(23, 1), (24, 1), (25, 1), (23, 2), (24, 2), (25, 2), (23, 3), (24, 3), (25, 3)];
 
 /// A random book of a day and an edition as `small_book_of` has them. Most have blocks over
 /// hour 3, and in half of them some limits are met or missed by a cent.
@@ -98,6 +99,7 @@ fn leave_hour_3(orders: &mut Orders, dice: &mut Dice) {
 fn put_limits_on_ticks(orders: &mut Orders, dice: &mut Dice) {
     let book = orders.book();
     let set = dice.bits() as u32 & ((1 << orders.blocks.len()) - 1);
+    let set = with_parents_only(orders, set);
     let price_in = |hour| match price_hour(&book, set, hour) {
         HourAnswer::Cleared { price, .. } => Some(price),
         _ => None,
@@ -115,10 +117,21 @@ fn put_limits_on_ticks(orders: &mut Orders, dice: &mut Dice) {
 }
 
 /// The causes for which a book by itself is refused, in the order in which they are given.
-pub const OWN_CAUSES: [u8; 7] = [1, 2, 3, 4, 5, 6, 9];
+pub const OWN_CAUSES: [u8; 8] = [1, 2, 3, 4, 5, 6, 9, 10];
 
-/// A random book of a day and an edition with each of these causes, so that the first of
-/// them is its refusal; 9 has its meaning on a day of 23 hours alone.
+/// Those that a book of a day and an edition can have: 9 is of a day of 23 hours, and 10 of
+/// edition 3.
+pub fn own_causes(day: u32, edition: u32) -> Vec<u8> {
+    let can_be = |cause: &u8| match cause {
+        9 => day == 23,
+        10 => edition == 3,
+        _ => true,
+    };
+    OWN_CAUSES.into_iter().filter(can_be).collect()
+}
+
+/// A random book of a day and an edition with each of these of its [`own_causes`], so that
+/// the first of them is its refusal.
 pub fn book_with_causes_on(day: u32, edition: u32, causes: &[u8], dice: &mut Dice) -> Vec<u8> {
     with_causes(small_orders_on(day, edition, dice), causes, dice)
 }
@@ -127,11 +140,11 @@ pub fn book_with_causes_on(day: u32, edition: u32, causes: &[u8], dice: &mut Dic
 /// number of hours in the head, orders that are wrong or right by hour 3, random changes.
 pub fn reader_book_on(day: u32, edition: u32, seed: u64) -> Vec<u8> {
     let mut dice = dice_of(seed ^ 0x7265_6164);
-    let causes = if day == 23 { &OWN_CAUSES[..] } else { &OWN_CAUSES[..6] };
-    let one = dice.pick(causes);
+    let causes = own_causes(day, edition);
+    let one = dice.pick(&causes);
     let kind = dice.below(10);
     if (2..=5).contains(&kind) {
-        let other = if kind < 4 { one } else { dice.pick(causes) };
+        let other = if kind < 4 { one } else { dice.pick(&causes) };
         return book_with_causes_on(day, edition, &[one, other], &mut dice);
     }
     let mut orders = small_orders_on(day, edition, &mut dice);
@@ -147,7 +160,7 @@ pub fn reader_book_on(day: u32, edition: u32, seed: u64) -> Vec<u8> {
 
 /// Some hours at and around hour 3 for a step and a block.
 fn change_hours(orders: &mut Orders, dice: &mut Dice) {
-    ensure_orders(orders);
+    ensure_orders(orders, dice);
     if dice.once_in(2) {
         let position = dice.below(orders.steps.len());
         orders.steps[position].hour = dice.pick(&[2, 3, 3, 4]);

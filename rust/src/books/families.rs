@@ -2,6 +2,7 @@
 
 use super::builder::{hour_bits, BlockOrder, Orders, StepOrder};
 use super::dice::Dice;
+use super::links::Shape;
 use crate::paper::{self, Side};
 
 /// About the price of each hour of a full day.
@@ -34,7 +35,7 @@ impl Family {
 }
 
 /// The families of the benchmark.
-pub const FAMILIES: [Family; 12] = [
+pub const FAMILIES: [Family; 16] = [
     Family::new("full days", 32, 32, |seed, blocks| full_day(seed, 2015, blocks)),
     Family::new("full days, odd hours", 32, 32, odd_day),
     Family::new("identical blocks", 30, 32, identical_blocks),
@@ -47,6 +48,10 @@ pub const FAMILIES: [Family; 12] = [
     Family::new("edition 2, small", 32, 32, ed2_small),
     Family::new("days of 25 hours", 32, 32, |seed, blocks| changed_day(25, seed, blocks)),
     Family::new("days of 23 hours", 32, 32, |seed, blocks| changed_day(23, seed, blocks)),
+    Family::new("linked by 2", 32, 32, |seed, blocks| linked_by(2, seed, blocks)),
+    Family::new("linked by 4", 32, 32, |seed, blocks| linked_by(4, seed, blocks)),
+    Family::new("linked by 8", 32, 32, |seed, blocks| linked_by(8, seed, blocks)),
+    Family::new("the same, not linked", 32, 32, |seed, blocks| linked_day(seed, blocks, None)),
 ];
 
 /// A day with deep curves in every hour and ordinary blocks, most of which have
@@ -198,6 +203,25 @@ fn changed_day(day: u32, seed: u64, blocks: usize) -> Vec<u8> {
     }
     add_ordinary_blocks(&mut orders, &mut dice, blocks, usual_hours, 20);
     orders.book()
+}
+
+/// As many steps as leave room for 32 blocks and 31 links.
+const STEPS_BESIDE_LINKS: usize = 1984;
+
+/// A full day of ordinary blocks linked in a shape; without one it is of edition 2. The
+/// steps and the blocks of a seed are the same whatever the links.
+pub fn linked_day(seed: u64, blocks: usize, shape: Option<Shape>) -> Vec<u8> {
+    let mut dice = Dice::new(seed);
+    let mut orders = deep_steps(&mut dice, STEPS_BESIDE_LINKS).of_edition(2);
+    add_ordinary_blocks(&mut orders, &mut dice, blocks, usual_hours, 20);
+    if let Some(shape) = shape {
+        orders = orders.linked(shape, &mut dice);
+    }
+    orders.book()
+}
+
+fn linked_by(size: usize, seed: u64, blocks: usize) -> Vec<u8> {
+    linked_day(seed, blocks, Some(Shape::Families(size)))
 }
 
 /// What the blocks with hour h + 1 trade in it, all of them together.

@@ -1,12 +1,13 @@
 //! Random accepted books: few price levels so that ties are frequent, prices at
 //! both ends, empty and one-sided hours, blocks that meet and miss their limits.
 //!
-//! A function whose name ends with `of` makes books of an edition, 1 or 2; the one
+//! A function whose name ends with `of` makes books of an edition, 1 to 3; the one
 //! without it those of edition 1. All of them are of days of 24 hours; `days` has the
 //! others. The books of a seed stay as they are: a test holds them.
 
 use super::builder::{hour_bits, BlockOrder, Orders, StepOrder};
 use super::dice::Dice;
+use super::links::link_blocks;
 use crate::paper::Side;
 
 /// What the orders of one book are drawn from.
@@ -30,6 +31,7 @@ pub fn small_book(seed: u64) -> Vec<u8> {
 
 /// A random book of an edition. Those of edition 2 have 0 to 10 blocks, mostly six or
 /// more and mostly of one portfolio, and quantities on both sides of 50 and up to 250.
+/// Those of edition 3 are alike, most of them with links.
 pub fn small_book_of(edition: u32, seed: u64) -> Vec<u8> {
     let mut dice = Dice::new(seed);
     let orders = small_orders_of(edition, &mut dice);
@@ -44,7 +46,7 @@ pub fn tiny_book(seed: u64) -> Vec<u8> {
 
 /// A random book of an edition, so small that all its contenders can be listed. Those of
 /// edition 2 have six to nine blocks of at most 2, or few steps and blocks of more
-/// than 50.
+/// than 50; those of edition 3 are alike, most of them with links.
 pub fn tiny_book_of(edition: u32, seed: u64) -> Vec<u8> {
     let mut dice = Dice::new(seed);
     let orders = tiny_orders_of(edition, &mut dice);
@@ -53,7 +55,7 @@ pub fn tiny_book_of(edition: u32, seed: u64) -> Vec<u8> {
 
 /// The orders of a tiny book of an edition, see [`tiny_book_of`].
 pub(super) fn tiny_orders_of(edition: u32, dice: &mut Dice) -> Orders {
-    let orders = match edition {
+    let mut orders = match edition {
         1 => tiny_orders(dice),
         // The lists of the first two are the longest.
         _ => match dice.below(8) {
@@ -61,8 +63,10 @@ pub(super) fn tiny_orders_of(edition: u32, dice: &mut Dice) -> Orders {
             1 => two_larger_steps(dice),
             _ => many_tiny_blocks(dice),
         },
-    };
-    orders.of_edition(edition)
+    }
+    .of_edition(edition);
+    link_blocks(&mut orders, dice);
+    orders
 }
 
 fn tiny_orders(dice: &mut Dice) -> Orders {
@@ -130,7 +134,9 @@ pub fn small_orders_of(edition: u32, dice: &mut Dice) -> Orders {
         1 => small_market(dice),
         _ => wide_market(dice),
     };
-    orders_of(&market, dice).of_edition(edition)
+    let mut orders = orders_of(&market, dice).of_edition(edition);
+    link_blocks(&mut orders, dice);
+    orders
 }
 
 fn small_market(dice: &mut Dice) -> Market {

@@ -2,7 +2,7 @@
 //! and portfolios follow decision 23: the base book's steps are 1 to 4, portfolio 1 buys,
 //! portfolio 2 sells, portfolio 3 owns the blocks.
 
-use super::builder::Orders;
+use super::builder::{LinkOrder, Orders};
 use crate::paper::Side::{Buy, Sell};
 
 /// The cases S1 to S10 by name.
@@ -155,4 +155,84 @@ pub fn step_beside_the_day() -> Orders {
 /// On a day of 23 hours a block with one hour besides hour 3.
 pub fn block_beside_the_day() -> Orders {
     base_in([2, 4]).block(Sell, &[2, 3], 2_900, 50, 3).on_day_of(23)
+}
+
+/// Days with links by name: the base book with two sell blocks or a sell and a buy, the
+/// second below the first; a day of 25 hours with several generations; and a chain of 32.
+pub fn linked_days() -> Vec<(&'static str, Orders)> {
+    vec![
+        ("linked-both", sell_and_buy(4_500)),
+        ("linked-neither", sell_and_buy(3_999)),
+        ("linked-left-out", two_sells([3_900, 2_900], 50)),
+        ("linked-tie", two_sells([3_000, 3_000], 25)),
+        ("linked-generations", generations()),
+        ("linked-chain", chain_of_32()),
+    ]
+}
+
+/// A sell of 50 at 3500, which alone would meet 3000, and its child, a buy of 50. Together
+/// they leave the price at 4000, which the sell needs and the buy has to pay.
+fn sell_and_buy(buys_at: u32) -> Orders {
+    base()
+        .block(Sell, &[1, 2], 3_500, 50, 3)
+        .block(Buy, &[1, 2], buys_at, 50, 3)
+        .link(2, 1)
+        .of_edition(3)
+}
+
+/// Two sells, the second below the first. Each alone meets 3000.
+fn two_sells(prices: [u32; 2], quantity: u32) -> Orders {
+    let sell = |orders: Orders, price| orders.block(Sell, &[1, 2], price, quantity, 3);
+    prices.into_iter().fold(base(), sell).link(2, 1).of_edition(3)
+}
+
+/// A day of 25 hours on which every set of blocks meets 3000 in hours 2 and 3. Block 4
+/// misses its limit; 5 and 7 would keep theirs, but are below it. Block 3 is below 2, which
+/// is below 1.
+fn generations() -> Orders {
+    let mut orders = Orders::new().of_edition(3).on_day_of(25);
+    for hour in [2, 3] {
+        orders = orders.step(Buy, hour, 5_000, 1_000, 1).step(Sell, hour, 3_000, 1_000, 2);
+    }
+    for (price, quantity) in
+        [(2_900, 100), (2_800, 50), (2_950, 30), (3_100, 40), (2_000, 60), (2_500, 20), (1_000, 10)]
+    {
+        orders = orders.block(Sell, &[2, 3], price, quantity, 3);
+    }
+    orders.link(2, 1).link(3, 2).link(4, 1).link(5, 4).link(7, 5)
+}
+
+/// How many blocks are taken in the chain of 32: those ahead of the one at 3001.
+pub const CHAIN_OF_32_TAKEN: u32 = 19;
+
+/// Thirty-two sells of 30, each below the one before it, so that 2^32 sets need not be
+/// listed: they sell 960 together, and hours 1 and 2 buy 1000 at 5000 and sell 1000 at 3000.
+/// So their price is 3000 whatever is taken. All blocks are at 2000 but block 20, which
+/// misses its limit and keeps out all below it.
+fn chain_of_32() -> Orders {
+    let mut orders = Orders::new().of_edition(3);
+    for hour in [1, 2] {
+        orders = orders.step(Buy, hour, 5_000, 1_000, 1).step(Sell, hour, 3_000, 1_000, 2);
+    }
+    for position in 0..32 {
+        let price = if position == CHAIN_OF_32_TAKEN { 3_001 } else { 2_000 };
+        orders = orders.block(Sell, &[1, 2], price, 30, 3 + position / 10);
+    }
+    (2..=32).fold(orders, |orders, child| orders.link(child, child - 1))
+}
+
+/// Two blocks with a link to a parent that is not there.
+pub fn link_without_parent() -> Orders {
+    let mut orders = two_sells([2_900, 2_900], 25);
+    orders.blocks[0].number = 1;
+    orders.blocks[1].number = 3;
+    orders.links[0] = LinkOrder { child: 3, parent: 2 };
+    orders
+}
+
+/// Two blocks with a link from the lower number to the higher.
+pub fn link_upwards() -> Orders {
+    let mut orders = two_sells([2_900, 2_900], 25);
+    orders.links[0] = LinkOrder { child: 1, parent: 2 };
+    orders
 }

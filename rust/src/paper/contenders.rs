@@ -1,10 +1,10 @@
 //! Demand 3 taken literally: every set with every choice of step quantities.
 
-use super::day::{is_better, keeps_limit, prices_under, welfare};
+use super::day::{holds_parents, is_better, keeps_limit, prices_under, welfare};
 use super::read::{read, Book, Side, Step, HOURS};
 
 /// A set of blocks with a whole quantity for each step, balanced in every hour of the day
-/// and with every block of the set within its limit.
+/// and with every block of the set within its limit and beside its parent.
 #[derive(Clone, Debug, PartialEq, Eq)]
 pub struct Contender {
     /// The lowest bit stands for the first block of the chain.
@@ -48,6 +48,9 @@ pub fn for_each_contender(book: &Book, visit: &mut dyn FnMut(&Contender)) {
     let hours: Vec<Vec<Step>> = (1..=HOURS).map(|hour| book.steps_of(hour)).collect();
     for set in 0..1u64 << book.blocks.len() {
         let set = set as u32;
+        if !holds_parents(book, set) {
+            continue;
+        }
         // Prices depend on the set alone. Where an hour does not clear, no
         // choice of quantities balances it, so there is nothing to list.
         let Some(prices) = prices_under(book, &hours, set) else {

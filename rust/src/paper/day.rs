@@ -54,7 +54,8 @@ fn best_outcome(book: &Book) -> Outcome {
     best
 }
 
-/// The outcome under a set, or nothing when the set is not lawful.
+/// The outcome under a set, or nothing when the set is not lawful or lacks the parent of
+/// one of its blocks.
 pub fn outcome(book: &Book, set: u32) -> Option<Outcome> {
     outcome_with(book, &steps_by_hour(book), set)
 }
@@ -64,6 +65,9 @@ fn steps_by_hour(book: &Book) -> Vec<Vec<Step>> {
 }
 
 fn outcome_with(book: &Book, hours: &[Vec<Step>], set: u32) -> Option<Outcome> {
+    if !holds_parents(book, set) {
+        return None;
+    }
     let prices = prices_under(book, hours, set)?;
     let lawful = taken_blocks(&book.blocks, set).all(|block| keeps_limit(book, block, &prices));
     if !lawful {
@@ -83,6 +87,13 @@ fn outcome_with(book: &Book, hours: &[Vec<Step>], set: u32) -> Option<Outcome> {
 fn taken_blocks(blocks: &[Block], set: u32) -> impl Iterator<Item = &Block> {
     let positions = blocks.iter().enumerate();
     positions.filter(move |(position, _)| (set >> position) & 1 == 1).map(|(_, block)| block)
+}
+
+/// "A child may be taken only with its parent": each link is tried by the numbers of the
+/// taken blocks. A book without links has only such sets.
+pub fn holds_parents(book: &Book, set: u32) -> bool {
+    let is_taken = |number: u32| taken_blocks(&book.blocks, set).any(|it| it.number == number);
+    book.links.iter().all(|link| !is_taken(link.child) || is_taken(link.parent))
 }
 
 /// N: block sales less block purchases of a set in an hour.
@@ -200,7 +211,7 @@ pub fn tie_goes_to(one: u32, other: u32) -> bool {
     lowest_difference.is_some_and(|position| holds(one, &position))
 }
 
-/// The result buffer: welfare, the 24 hours, the records 1 to R - 1.
+/// The result buffer: welfare, the 24 hours, the records 1 to R - 1; a link has 0.
 pub fn result_bytes(book: &Book, outcome: &Outcome) -> Vec<u8> {
     let mut rows = vec![0u32; book.record_count];
     for (step, &quantity) in book.steps.iter().zip(&outcome.executed) {

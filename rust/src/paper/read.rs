@@ -1,4 +1,4 @@
-//! Layer 1: the book in bytes, and its own refusals 1 to 6 and 9.
+//! Layer 1: the book in bytes, and its own refusals 1 to 6, 9 and 10.
 
 /// Hours of the clock, each with a row in the result, whatever the day's length.
 pub const HOURS: u32 = 24;
@@ -11,6 +11,7 @@ const MOST_RECORDS: usize = 2_048;
 const MOST_BLOCKS: usize = 32;
 const KIND_STEP: u32 = 1;
 const KIND_BLOCK: u32 = 2;
+const KIND_LINK: u32 = 3;
 
 /// What an edition allows a portfolio's blocks.
 #[derive(Clone, Copy, Debug, PartialEq, Eq)]
@@ -25,7 +26,8 @@ pub struct Limits {
 pub fn limits(edition: u32) -> Option<Limits> {
     match edition {
         1 => Some(Limits { block_quantity: 50, blocks_of_a_portfolio: 5 }),
-        2 => Some(Limits { block_quantity: 250, blocks_of_a_portfolio: 10 }),
+        // Edition 3 has all of edition 2.
+        2 | 3 => Some(Limits { block_quantity: 250, blocks_of_a_portfolio: 10 }),
         _ => None,
     }
 }
@@ -89,10 +91,22 @@ impl Block {
     }
 }
 
-/// An accepted book. Both lists are in chain order, so in rising order number.
+/// That a block may be taken only with another.
+#[derive(Clone, Copy, Debug, PartialEq, Eq)]
+pub struct Link {
+    /// Index of the record the link stands in.
+    pub record: usize,
+    /// The number of the block that needs the other.
+    pub child: u32,
+    /// The number of the block that it needs.
+    pub parent: u32,
+}
+
+/// An accepted book. The lists are in chain order, so in rising order number; links in
+/// rising number of their children.
 #[derive(Clone, Debug, PartialEq, Eq)]
 pub struct Book {
-    /// 1 or 2.
+    /// 1, 2 or 3.
     pub edition: u32,
     /// The hours of the day as they pass, see [`passing_hours`]; 23, 24 or 25 of them.
     pub hours: Vec<u32>,
@@ -100,6 +114,8 @@ pub struct Book {
     pub record_count: usize,
     pub steps: Vec<Step>,
     pub blocks: Vec<Block>,
+    /// None but in edition 3.
+    pub links: Vec<Link>,
 }
 
 impl Book {
@@ -115,34 +131,45 @@ impl Book {
     }
 }
 
-/// Reads a book, or gives the first of the refusals 1 to 6 and 9 whose cause holds.
+/// Reads a book, or gives the first of the refusals 1 to 6, 9 and 10 whose cause holds.
 pub fn read(book: &[u8]) -> Result<Book, u8> {
     if length_is_wrong(book) {
         return Err(1);
     }
     // Edition and day are known before any order is looked at: 2 before 4, 6 and 9.
     let (limits, hours) = head(book).ok_or(2)?;
-    // Both chains are walked before any other field is looked at: 3 before 4.
+    // All chains are walked before any other field is looked at: 3 before 4.
     let step_records = chain(book, number(book, 2, 2), KIND_STEP)?;
     let block_records = chain(book, number(book, 4, 2), KIND_BLOCK)?;
+    // In editions 1 and 2 these bytes are 0, so that this chain is empty.
+    let link_records = chain(book, number(book, 8, 2), KIND_LINK)?;
     let bad_step = step_records.iter().any(|&k| step_is_out_of_range(book, k));
     let bad_block = block_records.iter().any(|&k| block_is_out_of_range(book, k, limits));
-    if bad_step || bad_block {
+    let bad_link = link_records.iter().any(|&k| link_is_out_of_range(book, k));
+    if bad_step || bad_block || bad_link {
         return Err(4);
     }
-    let is_on_a_chain = |k: &usize| step_records.contains(k) || block_records.contains(k);
-    if !(1..record_count(book)).all(|k| is_on_a_chain(&k)) {
+    let chained = [&step_records[..], &block_records, &link_records].concat();
+    if !(1..record_count(book)).all(|k| chained.contains(&k)) {
         return Err(5);
     }
     let blocks: Vec<Block> = block_records.iter().map(|&k| block_at(book, k)).collect();
     if too_many_blocks(&blocks, limits) {
         return Err(6);
     }
-    let steps = step_records.iter().map(|&k| step_at(book, k)).collect();
-    let record_count = record_count(book);
-    let book = Book { edition: edition(book), hours, record_count, steps, blocks };
+    let book = Book {
+        edition: edition(book),
+        hours,
+        record_count: record_count(book),
+        steps: step_records.iter().map(|&k| step_at(book, k)).collect(),
+        blocks,
+        links: link_records.iter().map(|&k| link_at(book, k)).collect(),
+    };
     if trades_beside_the_day(&book) {
         return Err(9);
+    }
+    if book.links.iter().any(|link| is_no_link_of(&book, link)) {
+        return Err(10);
     }
     Ok(book)
 }
@@ -180,8 +207,10 @@ fn edition(book: &[u8]) -> u32 {
 /// The limits of the head's edition and the hours of its day; nothing where the head is
 /// wrong, refusal 2.
 fn head(book: &[u8]) -> Option<(Limits, Vec<u32>)> {
-    let rest_is_zero = book[8..16].iter().all(|&byte| byte == 0);
-    let limits = limits(edition(book)).filter(|_| rest_is_zero)?;
+    let edition = edition(book);
+    // Edition 3 heads its links at bytes 8 and 9.
+    let rest = if edition == 3 { &book[10..16] } else { &book[8..16] };
+    let limits = limits(edition).filter(|_| rest.iter().all(|&byte| byte == 0))?;
     Some((limits, passing_hours(number(book, 6, 1))?))
 }
 
@@ -237,6 +266,11 @@ fn block_is_out_of_range(book: &[u8], k: usize, limits: Limits) -> bool {
         || !(1..=limits.block_quantity).contains(&quantity)
 }
 
+/// Refusal 4 at a link. Its parent has no range: any number that names no block is 10.
+fn link_is_out_of_range(book: &[u8], k: usize) -> bool {
+    field(book, k, 1, 1) != 0 || (8..16).any(|at| field(book, k, at, 1) != 0)
+}
+
 /// Refusal 6: 32 blocks at most in every edition, and of one portfolio those of the
 /// edition. Both sides of a portfolio count together.
 fn too_many_blocks(blocks: &[Block], limits: Limits) -> bool {
@@ -251,6 +285,13 @@ fn too_many_blocks(blocks: &[Block], limits: Limits) -> bool {
 fn trades_beside_the_day(book: &Book) -> bool {
     book.steps.iter().any(|step| !book.hours.contains(&step.hour))
         || book.blocks.iter().any(|block| book.hours_of(block).len() < 2)
+}
+
+/// Refusal 10: a link that names a block not in the book, or whose parent's number is not
+/// below the child's. Blocks are numbered from 1, so that a parent of 0 is not in the book.
+fn is_no_link_of(book: &Book, link: &Link) -> bool {
+    let is_there = |number: u32| book.blocks.iter().any(|block| block.number == number);
+    !is_there(link.child) || !is_there(link.parent) || link.parent >= link.child
 }
 
 fn side_at(book: &[u8], k: usize) -> Side {
@@ -283,4 +324,8 @@ fn block_at(book: &[u8], k: usize) -> Block {
         price: field(book, k, 11, 3),
         quantity: field(book, k, 14, 2),
     }
+}
+
+fn link_at(book: &[u8], k: usize) -> Link {
+    Link { record: k, child: field(book, k, 4, 2), parent: field(book, k, 6, 2) }
 }

@@ -5,16 +5,19 @@ use super::read::{read, Book};
 
 /// The sheet of a book's published outcome, or `refused;` and the number.
 pub fn sheet(book: &[u8]) -> Vec<u8> {
-    match sheet_or_refusal(book) {
-        Ok(sheet) => sheet,
-        Err(refusal) => format!("refused;{refusal}\n").into_bytes(),
-    }
+    published(book).map_or_else(refusal_line, |(book, result)| sheet_of(&book, &result))
 }
 
-fn sheet_or_refusal(book: &[u8]) -> Result<Vec<u8>, u8> {
+/// An accepted book and the bytes of its result, or the refusal.
+pub(super) fn published(book: &[u8]) -> Result<(Book, Vec<u8>), u8> {
     let accepted = read(book)?;
     let result = clear(book, result_length(accepted.record_count))?;
-    Ok(sheet_of(&accepted, &result))
+    Ok((accepted, result))
+}
+
+/// What is written of a refused book.
+pub(super) fn refusal_line(refusal: u8) -> Vec<u8> {
+    format!("refused;{refusal}\n").into_bytes()
 }
 
 /// The sheet of a book and the bytes of its result.

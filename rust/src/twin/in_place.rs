@@ -3,9 +3,10 @@
 //! What is kept in place of what the proved code computes anew at each node:
 //! the places that a branch can reach change only at the hours of a block that
 //! is decided or fixed; the blocks that their losses fix are a prefix of the
-//! blocks in falling order of loss; and a taken block is tested again only after
-//! a change in one of its hours. The answers of the test are the same, so the
-//! nodes are the same.
+//! blocks in falling order of loss; a taken block is tested again only after a
+//! change in one of its hours; and a family is left out with its root, where the
+//! proved code asks each block for its parent. The answers of the test are the same,
+//! so the nodes are the same.
 //!
 //! - `orders`: bytes to columns, or the refusal;
 //! - `hours`: the tables of the hours, by sorting their steps;
@@ -60,6 +61,11 @@ fn clear_in<const ROOM: usize>(orders: &Orders, hours: &mut Hours<ROOM>, result:
     hours.fill_prices(orders);
     let root = root::prices(orders, hours);
     hours.fill_gaps(&root);
-    let best = search::find(orders, hours, &root);
+    // Where there are no links, the search has no line for them.
+    let best = if orders.links.is_empty() {
+        search::find::<ROOM, false>(orders, hours, &root)
+    } else {
+        search::find::<ROOM, true>(orders, hours, &root)
+    };
     publish::publish(orders, hours, &best, result);
 }

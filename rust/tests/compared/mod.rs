@@ -35,11 +35,11 @@ fn parts(book: &[u8], set: u32, hour: u32) -> [u32; 4] {
     [0, 1, 2, 3].map(part)
 }
 
-/// Clears and prints accepted books.
+/// Clears and prints accepted books, sheet and family report.
 pub fn compare_accepted(books: impl Iterator<Item = Named>) {
     for (name, book) in books {
         assert_eq!(clearing_agrees(&book, result_length_for(&book), &name), 0, "{name}");
-        assert_eq!(auction::sheet(&book).as_bytes(), paper::sheet(&book), "{name}");
+        texts_agree(&book, &name);
     }
 }
 
@@ -54,9 +54,16 @@ pub fn compare_any(books: impl Iterator<Item = Named>) -> Met {
         for size in [right, right + 1, 0] {
             met.add(clearing_agrees(&book, size, &name));
         }
-        assert_eq!(auction::sheet(&book).as_bytes(), paper::sheet(&book), "{name}");
+        texts_agree(&book, &name);
     }
     met
+}
+
+/// The proved sheet and family report of any bytes, against the listing.
+fn texts_agree(book: &[u8], name: &str) {
+    let (sheet, families) = paper::sheet_and_families(book);
+    assert_eq!(auction::sheet(book).as_bytes(), sheet, "{name}");
+    assert_eq!(auction::family_report(book).as_bytes(), families, "{name}");
 }
 
 /// The proved clearing of a book into a buffer of a size, against the listing; the answer.

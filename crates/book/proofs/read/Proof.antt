@@ -1,5 +1,5 @@
 -- `book::read` meets its contract: an answer for number 1, one for any other number, and one for none. Assumes nothing.
-use mathlib.Core.Path.{_≡_, sym, _∙_}
+use mathlib.Core.Path.{sym, _∙_}
 use native.Mathlib.Omega.{arith}
 use Rattle.book.proofs.Refused.{refusal-size, steps-counted, blocks-counted, reading-accepted, reading-refused}
 use borrow.Author.Needs.{needs}
@@ -18,18 +18,22 @@ survey-of-requires c κs = search needs
 survey-of-requires-2 : tie.Need-survey-of-requires-2
 survey-of-requires-2 c κs = search needs
 
+survey-of-requires-3 : tie.Need-survey-of-requires-3
+survey-of-requires-3 c κs = search needs
+
 refusal-of-requires : tie.Need-refusal-of-requires
 refusal-of-requires c κs =
-    let s = c .before in
+    let t = c .before in
+    let s = t .before in
     let n = s .before in
-    (sym (n .before .has-wrong-size .ensures) ∙ n .if1 .left, s .survey-of .ensures, c .survey-of2 .ensures)
+    (sym (n .before .has-wrong-size .ensures) ∙ n .if1 .left, s .survey-of .ensures, t .survey-of2 .ensures, c .survey-of3 .ensures)
 
 returns-2 : tie.Need-returns-2
 returns-2 c = reading-refused _ _ (c .before .refusal-of .ensures) (c .if2 .taken)
 
 returns-3 : tie.Need-returns-3
 returns-3 c =
-    let t = c .before .before in
+    let t = c .before .before .before in
     reading-accepted _ _ _ (sym (c .before .refusal-of .ensures) ∙ c .if2 .left) (steps-counted _ _ (t .before .survey-of .ensures))
     (blocks-counted _ _ (t .survey-of2 .ensures))
 
@@ -41,6 +45,7 @@ read-spec =
     returns
     survey-of-requires
     survey-of-requires-2
+    survey-of-requires-3
     refusal-of-requires
     returns-2
     returns-3)

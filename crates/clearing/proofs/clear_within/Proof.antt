@@ -8,16 +8,20 @@ use Rattle.book.proofs.Accepted.{day-hours}
 use Rattle.orders.proofs.HourLaws.{ends-fit}
 use Rattle.places.specs.Layout.{hourListSize}
 use Rattle.places.specs.Steps.{StepsSized}
-use Rattle.setup.proofs.SetupLaws.{steps-held, blocks-held}
+use Rattle.setup.specs.Setup.{ParentsOf}
+use Rattle.setup.proofs.SetupLaws.{steps-held, blocks-held, parents-held, parents-of}
 use Rattle.clearing.proofs.PublishLaws.{columns-steps}
 use Rattle.clearing.proofs.PublishableLaws.{steps-sized, publishable}
 use borrow.Author.Needs.{needs}
 use Rattle.clearing.proofs.clear_within.Statement.{statement}
 use Rattle.clearing.proofs.clear_within.Tie as tie
 
--- THE STATES on the way: the start behind the tables, these behind the set found
+-- THE STATES on the way: the start and the parents behind the tables, these behind the set found
 abbrev start : tie.After-prepare → tie.Start
-start c = c .before .before .before .before .before .before .before .before .before .before .before .before .before .before .before .before
+start c = c .before .before .before .before .before .before .before .before .before .before .before .before .before .before .before .before .before
+
+abbrev linked : tie.After-prepare → tie.After-parents-of
+linked c = c .before .before .before .before .before .before
 
 abbrev prepared : tie.After-find → tie.After-prepare
 prepared c = c .before .before .before .before .before .before .before .before .before .before .before .before .before .before .before .before
@@ -50,8 +54,12 @@ hours-size : (m : tie.After-prepare) → length (m .prepare .result .hours) ≡ 
 hours-size m = search needs
 
 -- the hours of the day are the book's
-day-is : (m : tie.After-prepare) → dayHours (start m .args .book .now) ≡ m .before .before .before .before .before .before .before .before .before .before .before .day-hours .result
-day-is m = sym (m .before .before .before .before .before .before .before .before .before .before .before .day-hours .ensures)
+day-is : (m : tie.After-prepare) → dayHours (start m .args .book .now) ≡ m .before .before .before .before .before .before .before .before .before .before .before .before .day-hours .result
+day-is m = sym (m .before .before .before .before .before .before .before .before .before .before .before .before .day-hours .ensures)
+
+-- the parents are those of the book's blocks
+parents-are : (m : tie.After-prepare) → ParentsOf (start m .args .book .now) (start m .args .blocks .count) (linked m .parents-of .result)
+parents-are m = parents-of _ _ _ (start m .pre .0 .accepted) (linked m .parents-of .ensures)
 
 day-hours-requires : tie.Need-day-hours-requires
 day-hours-requires c κs = search needs
@@ -61,6 +69,9 @@ record-count-requires c κs = search needs
 
 cast-count : tie.Need-cast-count
 cast-count c = search needs
+
+parents-of-requires : tie.Need-parents-of-requires
+parents-of-requires c κs = search needs
 
 slice-aggregate-prepare : tie.Need-slice-aggregate-prepare
 slice-aggregate-prepare c = search needs
@@ -73,12 +84,13 @@ slice-aggregate-prepare-3 c = search needs
 
 prepare-requires : tie.Need-prepare-requires
 prepare-requires c κs =
-    let s = c .before .before .before .before .before .before .before .before .before .before .before .before .before .before .before in
+    let s = c .before .before .before .before .before .before .before .before .before .before .before .before .before .before .before .before in
     let h = s .pre .0 in
     let t = s .pre .1 in
-    let day = c .before .before .before .before .before .before .before .before .before .before .day-hours .ensures in (
+    let day = c .before .before .before .before .before .before .before .before .before .before .before .day-hours .ensures in
+    let parents = c .before .before .before .before .before .parents-of .ensures in (
       rw day (day-hours _ (h .accepted) .1),
-      (steps-held _ _ _ _ _ _ (h .stepsAre) (size-sides s) (size-prices s) (size-quantities s), (blocks-held _ _ _ _ _ _ _ (h .blocksAre) (h .accepted), ((t .0, t .1, t .2), t .3))),
+      (steps-held _ _ _ _ _ _ (h .stepsAre) (size-sides s) (size-prices s) (size-quantities s), (blocks-held _ _ _ _ _ _ _ (h .blocksAre) (h .accepted), (parents-held _ _ (h .accepted) parents, ((t .0, t .1, t .2), t .3)))),
     )
 
 slice-aggregate-find : tie.Need-slice-aggregate-find
@@ -114,10 +126,10 @@ publish-requires c κs =
     let m = prepared best in
     let s = start m in
     let h = s .pre .0 in
-    let ready = m .prepare .ensures .1 _ _ (h .accepted) (day-is m) (h .stepsAre) (h .blocksAre) in
+    let ready = m .prepare .ensures .1 _ _ (h .accepted) (day-is m) (h .stepsAre) (h .blocksAre) (parents-are m) in
     let steps = columns-steps _ _ _ _ _ _ (h .stepsAre) (h .accepted) in
     let is = best .find .ensures _ (ready .p) (ready .rest) steps (ready .known) (ready .turning) in
-    let e = m .before .before .before .before .before .before .before .before .before .before .record-count .ensures in
+    let e = m .before .before .before .before .before .before .before .before .before .before .before .record-count .ensures in
     publishable _ (h .accepted) _ _ _ _ _ _ (h .blocksAre) (is .2) (day-is m) e (omega (arith, h .buffer, e)) (omega (arith, ends-in s, size-records s)) (steps-in s)
 
 same-length : tie.Need-same-length
@@ -134,10 +146,10 @@ returns c =
     let best = c .before .before .before .before in
     let m = prepared best in
     let h = start m .pre .0 in
-    let ready = m .prepare .ensures .1 _ _ (h .accepted) (day-is m) (h .stepsAre) (h .blocksAre) in
+    let ready = m .prepare .ensures .1 _ _ (h .accepted) (day-is m) (h .stepsAre) (h .blocksAre) (parents-are m) in
     let steps = columns-steps _ _ _ _ _ _ (h .stepsAre) (h .accepted) in
     let is = best .find .ensures _ (ready .p) (ready .rest) steps (ready .known) (ready .turning) in
-    let e = m .before .before .before .before .before .before .before .before .before .before .record-count .ensures in
+    let e = m .before .before .before .before .before .before .before .before .before .before .before .record-count .ensures in
     c .before .before .publish .ensures _ (h .accepted) (day-is m) (h .stepsAre) (h .blocksAre) (is .0) (is .2) e
 
 pub clear-within-spec : {M : Type 1} → statement M
@@ -147,6 +159,7 @@ clear-within-spec =
     day-hours-requires
     record-count-requires
     cast-count
+    parents-of-requires
     slice-aggregate-prepare
     slice-aggregate-prepare-2
     slice-aggregate-prepare-3

@@ -10,7 +10,7 @@ use Rattle.rules.proofs.BoundsLaws.{weight-small}
 use Rattle.places.specs.Hours.{Small, rowWidth}
 use Rattle.setup.specs.Setup.{RowsFit}
 use Rattle.setup.proofs.SetupLaws.{rows-fit, off-fits, set-up, ready}
-use Rattle.setup.proofs.SetupTwinLaws.{completed, blocks-sized, rows-empty, twins-empty}
+use Rattle.setup.proofs.SetupTwinLaws.{completed, blocks-sized, rows-empty, twins-empty, parents-before}
 use Rattle.setup.proofs.SetupBlockLaws.{bought-within}
 use borrow.Author.Needs.{needs}
 use Rattle.setup.proofs.prepare.Statement.{statement}
@@ -34,7 +34,7 @@ prices-fit f = f .fill-tables .ensures .1
 
 -- the places that the blocks reach have room in the rows
 fits : (m : tie.After-traded-by-hour2) → RowsFit (rowWidth (opened (m .before) .args .unit-prices .now)) (m .traded-by-hour2 .result)
-fits m = rows-fit _ _ _ _ _ _ (m .traded-by-hour2 .ensures) (opened (m .before) .pre .1 .1 .1 .1)
+fits m = rows-fit _ _ _ _ _ _ (m .traded-by-hour2 .ensures) (opened (m .before) .pre .1 .1 .1 .1 .1)
 
 within : (m : tie.After-traded-by-hour2) → (h : ℕ) → h < hourPlaces →
     getD (m .before .traded-by-hour .result) h 0 ≤ getD (m .traded-by-hour2 .result) h 0
@@ -54,7 +54,7 @@ fill-tables-requires c κs =
     let most = c .before in
     let off = most .before in
     let s = opened off in
-    let t = s .pre .1 .1 .1 .0 in
+    let t = s .pre .1 .1 .1 .1 .0 in
     ((s .pre .1 .0, off .traded-by-hour .ensures .small, most .traded-by-hour2 .ensures .small), (t .0, fits most, t .2))
 
 root-prices-requires : tie.Need-root-prices-requires
@@ -64,7 +64,7 @@ root-prices-requires c κs =
     let start = begun f in
     let held = start .pre .1 .1 .0 in
     let m = f .before .before in
-    let rows = rw (← (prices-size f)) at (start .pre .1 .1 .1 .0 .0) in
+    let rows = rw (← (prices-size f)) at (start .pre .1 .1 .1 .1 .0 .0) in
     let fit = rw (← (prices-size f)) at (fits m) in
     let off = off-fits (unitPricesOf f) (after-traded-by-hour .traded-by-hour .result) (m .traded-by-hour2 .result) (off-size after-traded-by-hour) (within m) fit in
     (start .pre .0, ((rows, prices-fit f, off), (held .few, held .pricesFit, held .quantitiesFit)))
@@ -74,7 +74,7 @@ fill-ranges-requires c κs =
     let f = c .before .before .before .before .before .before in
     let m = f .before .before in
     let s = begun f in
-    let t = s .pre .1 .1 .1 .0 in
+    let t = s .pre .1 .1 .1 .1 .0 in
     let same = sym (t .1) in (
       (s .pre .1 .0, m .traded-by-hour2 .ensures .small, c .before .before .root-prices .ensures, rw same at (t .0), rw same at (fits m)),
       (within m, (prices-size f ∙ same, rw same at (f .fill-tables .ensures .0))),
@@ -118,48 +118,60 @@ started c = begun (filled (rooted (ranged (weighed c))))
 widened-requires : tie.Need-widened-requires
 widened-requires c κs = search needs
 
+with-parents-requires : tie.Need-with-parents-requires
+with-parents-requires c κs = search needs
+
 with-rows-requires : tie.Need-with-rows-requires
 with-rows-requires c κs =
-    let columns = c .before .before .before .before in
-    (started columns .pre .1 .1 .0 .few, rows-empty _ _ (c .widened .ensures) (columns .block-columns .ensures .0))
+    let w = c .before in
+    let columns = w .before .before .before .before in
+    (started columns .pre .1 .1 .0 .few, rows-empty _ _ _ _ (w .widened .ensures) (c .with-parents .ensures) (columns .block-columns .ensures .0))
 
 joined-requires : tie.Need-joined-requires
 joined-requires c κs = search needs
 
 with-twins-requires : tie.Need-with-twins-requires
 with-twins-requires c κs =
-    let columns = c .before .before .before .before .before .before in
-    (started columns .pre .1 .1 .0 .few, twins-empty _ _ _ _ (c .before .before .widened .ensures) (c .before .with-rows .ensures))
+    let rows = c .before in
+    let links = rows .before in
+    let columns = links .before .before .before .before .before in
+    let s = started columns in (
+      s .pre .1 .1 .0 .few,
+      twins-empty _ _ _ _ (links .before .widened .ensures) (links .with-parents .ensures) _ _ (rows .with-rows .ensures),
+      parents-before _ _ _ _ (links .before .widened .ensures) (links .with-parents .ensures) _ _ (rows .with-rows .ensures) (s .pre .1 .1 .1 .0),
+    )
 
 same-length : tie.Need-same-length
-same-length c = prices-size (filled (rooted (ranged (weighed (c .before .before .before .before .before .before .before)))))
+same-length c = prices-size (filled (rooted (ranged (weighed (c .before .before .before .before .before .before .before .before)))))
 
 same-length-2 : tie.Need-same-length-2
-same-length-2 c = ranged (weighed (c .before .before .before .before .before .before .before)) .fill-ranges .kept .1 .1 .1 .1 .1 .1 .1 .1 .0
+same-length-2 c = ranged (weighed (c .before .before .before .before .before .before .before .before)) .fill-ranges .kept .1 .1 .1 .1 .1 .1 .1 .1 .0
 
 returns : tie.Need-returns
 returns c =
     let j = c .before in
-    let after-block-columns = j .before .before .before .before .before .before in
+    let after-block-columns = j .before .before .before .before .before .before .before in
     let g = ranged (weighed after-block-columns) in
     let after-root-prices = rooted g in
     let f = filled after-root-prices in
     let after-traded-by-hour2 = f .before .before in
     let after-traded-by-hour = after-traded-by-hour2 .before in
     let s = begun f in
-    let wide = c .before .before .before .widened .ensures in
-    let rows = c .before .before .with-rows .ensures in
+    let wide = j .before .before .before .widened .ensures in
+    let links = j .before .before .with-parents .ensures in
+    let rows = j .before .with-rows .ensures in
+    let held = s .pre .1 .1 .1 .0 in
     let twins = c .with-twins .ensures in
     let few = s .pre .1 .1 .0 .few in
-    let sized = blocks-sized _ _ _ _ _ few wide rows twins in
+    let sized = blocks-sized _ _ _ _ _ _ _ few held wide links rows twins in
     let weight-is = weighed after-block-columns .change-weight .ensures in
-    let all = completed _ _ _ _ _ few wide rows twins _ _ _ _ _ _ (after-block-columns .block-columns .ensures .1) in
-    let gapSize = g .fill-ranges .kept .1 .1 .1 .1 .1 .1 .1 .1 .0 ∙ s .pre .1 .1 .1 .0 .1 ∙ sym (prices-size f) in
+    let all = completed _ _ _ _ _ _ _ few held wide links rows twins _ _ _ _ _ _ (after-block-columns .block-columns .ensures .1) in
+    let gapSize = g .fill-ranges .kept .1 .1 .1 .1 .1 .1 .1 .1 .0 ∙ s .pre .1 .1 .1 .1 .0 .1 ∙ sym (prices-size f) in
     let t = g .fill-ranges .ensures .0 in
-    let same = s .pre .1 .1 .1 .0 .1 ∙ sym (prices-size f) in
+    let same = s .pre .1 .1 .1 .1 .0 .1 ∙ sym (prices-size f) in
     rw (j .joined .ensures .0, j .joined .ensures .1, j .joined .ensures .2, j .joined .ensures .3) (
-      set-up _ (rw (← (prices-size f)) at (s .pre .1 .1 .1 .0 .0)) gapSize (t .0) (t .1) (rw same at (t .3)) (prices-fit f) sized (often-few (weighed after-block-columns)) few,
-      ready _ _ _ _ _ _ _ _ _ _ _ (after-traded-by-hour .traded-by-hour .result) (after-traded-by-hour2 .traded-by-hour2 .result)
+      set-up _ (rw (← (prices-size f)) at (s .pre .1 .1 .1 .1 .0 .0)) gapSize (t .0) (t .1) (rw same at (t .3)) (prices-fit f) sized (often-few (weighed after-block-columns)) few,
+      ready _ _ _ _ _ _ _ _ _ _ _ _ (after-traded-by-hour .traded-by-hour .result) (after-traded-by-hour2 .traded-by-hour2 .result)
           (after-root-prices .root-prices .result) (unitPricesOf f) _ _ _ _ _ _ gapSize (root-size after-root-prices) (rw (← (prices-size f)) at (fits after-traded-by-hour2)) (after-traded-by-hour .traded-by-hour .ensures)
           (after-traded-by-hour2 .traded-by-hour2 .ensures) (rw (← (prices-size f)) at (f .fill-tables .ensures .0)) (rw same at (g .fill-ranges .ensures .1))
           weight-is (rw (after-block-columns .before .counted-prices .ensures .0) at all),
@@ -178,6 +190,7 @@ prepare-spec =
     counted-prices-requires
     block-columns-requires
     widened-requires
+    with-parents-requires
     with-rows-requires
     joined-requires
     with-twins-requires

@@ -51,7 +51,7 @@ fn group(name: &str, book: impl Fn(u64) -> Vec<u8>, options: &Options) -> bool {
     let some_late = all.iter().find(|one| one.right() != "yes");
     let cells = [
         name.to_string(),
-        subjects[0].steps().to_string(),
+        subjects[0].steps.to_string(),
         subjects[0].blocks.to_string(),
         whole(of(&|one| Some(one.nodes.all as f64))),
         whole(of(&|one| Some(one.nodes.cut as f64))),

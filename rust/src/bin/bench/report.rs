@@ -94,7 +94,7 @@ fn cells(subject: &Subject, measured: &Measured, options: &Options) -> Vec<Strin
     let of_expected = subject.expected.as_ref().map(|expected| expected.nodes as f64);
     vec![
         subject.name.clone(),
-        subject.steps().to_string(),
+        subject.steps.to_string(),
         subject.blocks.to_string(),
         measured.nodes.all.to_string(),
         measured.nodes.cut.to_string(),

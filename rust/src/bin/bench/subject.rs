@@ -7,6 +7,7 @@ use std::path::{Path, PathBuf};
 pub struct Subject {
     pub name: String,
     pub book: Vec<u8>,
+    pub steps: usize,
     pub blocks: usize,
     pub expected: Option<Expected>,
 }
@@ -37,7 +38,8 @@ fn books_in(path: &Path) -> Vec<PathBuf> {
 impl Subject {
     pub fn new(name: String, book: Vec<u8>) -> Subject {
         let accepted = paper::read(&book).unwrap_or_else(|refusal| panic!("{name}: {refusal}"));
-        Subject { name, blocks: accepted.blocks.len(), book, expected: None }
+        let (steps, blocks) = (accepted.steps.len(), accepted.blocks.len());
+        Subject { name, steps, blocks, book, expected: None }
     }
 
     pub fn from_file(file: &str) -> Subject {
@@ -47,10 +49,6 @@ impl Subject {
         let mut subject = Subject::new(base.trim_end_matches(".book").to_string(), book);
         subject.expected = expected_of(path, base);
         subject
-    }
-
-    pub fn steps(&self) -> usize {
-        self.book.len() / 16 - 1 - self.blocks
     }
 
     /// Whether a result has the expected set, welfare and prices.

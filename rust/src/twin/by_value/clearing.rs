@@ -7,6 +7,7 @@ use crate::twin::by_value::orders::Blocks;
 use crate::twin::by_value::orders::Steps;
 use crate::twin::by_value::orders::blocks_of;
 use crate::twin::by_value::orders::layout::HOURS;
+use crate::twin::by_value::orders::parents_of;
 use crate::twin::by_value::orders::steps_of;
 use crate::twin::by_value::records::day_hours;
 use crate::twin::by_value::records::record_count;
@@ -43,6 +44,7 @@ fn clear_within(
     let prices = steps.prices;
     let quantities = steps.quantities;
     let ends = steps.ends;
+    let parents = parents_of(book);
     let prepared = prepare(
         day,
         &sides,
@@ -50,6 +52,7 @@ fn clear_within(
         &quantities,
         ends,
         blocks,
+        parents,
         unit_prices,
         gap,
     );

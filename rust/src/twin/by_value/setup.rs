@@ -4,6 +4,7 @@ use crate::twin::by_value::setup::blocks::block_columns;
 use crate::twin::by_value::setup::blocks::largest;
 use crate::twin::by_value::setup::blocks::traded_by_hour;
 use crate::twin::by_value::setup::blocks::widened;
+use crate::twin::by_value::setup::blocks::with_parents;
 use crate::twin::by_value::setup::blocks::with_rows;
 use crate::twin::by_value::setup::rows::fill_ranges;
 use crate::twin::by_value::setup::rows::fill_tables;
@@ -16,9 +17,10 @@ use crate::twin::by_value::places::layout::BLOCK_LIST;
 use crate::twin::by_value::places::layout::HOUR_LIST;
 use crate::twin::by_value::places::layout::HOURS;
 use crate::twin::by_value::places::layout::LAST_AND_ABOVE;
+use crate::twin::by_value::places::layout::MOST_BLOCKS;
 use crate::twin::by_value::roots::root_prices;
 
-pub mod blocks; // what they trade, their columns and rows
+pub mod blocks; // what they trade, their columns, parents and rows
 pub mod rows; // the tables, ranges and gaps of the hours
 pub mod twins; // the blocks that are taken in turn
 
@@ -39,7 +41,8 @@ pub fn row_needed(blocks: Blocks) -> usize
     (largest(most) as usize) + LAST_AND_ABOVE
 }
 
-// All that the search is given on a day of so many hours, from the columns of a book's steps and blocks; unit_prices and gap are its two tables, a row of places for each hour.
+// All that the search is given on a day of so many hours, from the columns of a book's steps and blocks and the blocks' parents (the position and 1, or 0 for none);
+// unit_prices and gap are its two tables, a row of places for each hour.
 pub fn prepare(
     day: u8,
     sides: &[u8],
@@ -47,6 +50,7 @@ pub fn prepare(
     quantities: &[u32],
     ends: [u16; HOURS + 1],
     blocks: Blocks,
+    parents: [u32; MOST_BLOCKS],
     unit_prices: &mut [u32],
     gap: &mut [u32],
 ) -> Prepared
@@ -87,7 +91,8 @@ pub fn prepare(
     let last = ranges.last;
     let turn = ranges.turn;
     let wide = widened(columns);
-    let traded = with_rows(count, wide);
+    let linked = with_parents(parents, wide);
+    let traded = with_rows(count, linked);
     Prepared {
         hours: joined(first, last, turn, often),
         columns: with_twins(count, traded),

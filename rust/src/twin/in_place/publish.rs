@@ -34,6 +34,9 @@ pub fn publish<const ROOM: usize>(
         let worth = i64::from(chosen) * i64::from(block.quantity) * i64::from(block.limit);
         welfare += if block.sells { -worth } else { worth };
     }
+    for link in &orders.links {
+        put(result, row_of(link.record), 0);
+    }
     result[..8].copy_from_slice(&welfare.to_be_bytes());
 }
 

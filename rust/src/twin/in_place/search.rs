@@ -27,10 +27,13 @@ struct Choice {
     near: u32,
     /// Its place in `Search::order`.
     rank: usize,
-    /// The bits of the twins that are taken next before it and next after it, of those
-    /// with lower numbers.
-    ahead: u32,
+    /// The bits of the blocks without which it is not taken: its parent, and the twin that
+    /// is taken next before it, of those with lower numbers.
+    needs: u32,
+    /// The bit of the twin that is taken next after it, of those with lower numbers.
     behind: u32,
+    /// The blocks that are not taken without it: its children, theirs and so on.
+    below: u32,
 }
 
 /// What is known of a branch.
@@ -41,8 +44,11 @@ struct State {
     most: ByHour<u16>,
     /// How many blocks of `Search::order` are fixed by their losses or decided.
     fixed: usize,
-    /// The undecided blocks that no completion takes, found by their limits.
+    /// The undecided blocks that no completion takes, found by their limits and by those
+    /// of the blocks above them.
     out: u32,
+    /// The blocks below those that were left out; out from the next test on.
+    orphans: u32,
     /// The blocks whose best prices may have changed since the last test.
     risk: u32,
     /// Whether places have changed since the last test.
@@ -51,7 +57,8 @@ struct State {
     gaps: u64,
 }
 
-struct Search<'a, const ROOM: usize> {
+/// The search of a day, `LINKED` or without links.
+struct Search<'a, const ROOM: usize, const LINKED: bool> {
     hours: &'a Hours<ROOM>,
     day: Day,
     choices: Vec<Choice>,
@@ -66,8 +73,12 @@ struct Search<'a, const ROOM: usize> {
 }
 
 /// Passes with a doubled limit until one finds a set.
-pub fn find<const ROOM: usize>(orders: &Orders, hours: &Hours<ROOM>, root: &ByHour<u32>) -> Best {
-    let mut search = Search::new(orders, hours, root);
+pub fn find<const ROOM: usize, const LINKED: bool>(
+    orders: &Orders,
+    hours: &Hours<ROOM>,
+    root: &ByHour<u32>,
+) -> Best {
+    let mut search = Search::<ROOM, LINKED>::new(orders, hours, root);
     let start = search.state;
     let mut limit = 1024;
     loop {
@@ -81,7 +92,7 @@ pub fn find<const ROOM: usize>(orders: &Orders, hours: &Hours<ROOM>, root: &ByHo
     }
 }
 
-impl<'a, const ROOM: usize> Search<'a, ROOM> {
+impl<'a, const ROOM: usize, const LINKED: bool> Search<'a, ROOM, LINKED> {
     fn new(orders: &Orders, hours: &'a Hours<ROOM>, root: &ByHour<u32>) -> Self {
         let mut choices = choices(orders, root);
         let mut order: Vec<usize> = (0..choices.len()).collect();
@@ -95,6 +106,7 @@ impl<'a, const ROOM: usize> Search<'a, ROOM> {
             most: hours.most,
             fixed: 0,
             out: 0,
+            orphans: 0,
             risk: u32::MAX,
             changed: true,
             gaps: 0,
@@ -115,8 +127,8 @@ impl<'a, const ROOM: usize> Search<'a, ROOM> {
         if at == self.choices.len() {
             return self.decide(set, loss);
         }
-        let Choice { taken, left, ahead, behind, .. } = self.choices[at];
-        let is_only_left = ahead & !set != 0 || self.state.is_out(at);
+        let Choice { taken, left, needs, behind, .. } = self.choices[at];
+        let is_only_left = needs & !set != 0 || self.state.is_out(at);
         let is_due = behind & set != 0;
         let here = self.state;
         if !is_only_left {
@@ -139,6 +151,8 @@ impl<'a, const ROOM: usize> Search<'a, ROOM> {
         let choice = &self.choices[at];
         if take {
             self.state.risk |= 1 << at;
+        } else if LINKED {
+            self.state.orphans |= choice.below;
         }
         // A block that is fixed, or out, is decided as it was before.
         if choice.rank >= self.state.fixed && !self.state.is_out(at) {
@@ -158,8 +172,17 @@ impl<'a, const ROOM: usize> Search<'a, ROOM> {
         self.fix(at, loss);
         self.passes(set, loss) && {
             self.rule_out(at);
-            true
+            self.limit > loss + self.state.gaps + self.lost_by_out(at)
         }
+    }
+
+    /// What the undecided blocks that are out would gain.
+    fn lost_by_out(&self, at: usize) -> u64 {
+        bits_of(self.state.out & self.undecided(at)).map(|i| self.choices[i].left).sum()
+    }
+
+    fn undecided(&self, at: usize) -> u32 {
+        (u32::MAX.checked_shl(at as u32).unwrap_or(0)) & self.all
     }
 
     /// Whether the other decision of the last block would have lost the limit: then what
@@ -224,9 +247,10 @@ impl<'a, const ROOM: usize> Search<'a, ROOM> {
         prices_at(hours, &std::array::from_fn(|h| if sells { from(h) } else { to(h) }))
     }
 
-    /// Leaves out the undecided blocks that miss their limits at the best prices in reach.
+    /// Leaves out the undecided blocks that miss their limits at the best prices in reach,
+    /// and those below them or below blocks that were left out.
     fn rule_out(&mut self, at: usize) {
-        let undecided = (u32::MAX.checked_shl(at as u32).unwrap_or(0)) & self.all;
+        let undecided = self.undecided(at);
         let tested = self.state.risk & undecided & !self.state.out;
         let mut missing = 0;
         for sells in [true, false] {
@@ -240,6 +264,12 @@ impl<'a, const ROOM: usize> Search<'a, ROOM> {
             }
         }
         self.state.risk = 0;
+        if LINKED {
+            let below = |found, i: usize| found | self.choices[i].below;
+            let gone = bits_of(missing).fold(self.state.orphans, below);
+            missing |= gone & undecided & !self.state.out;
+            self.state.orphans = 0;
+        }
         for i in bits_of(missing) {
             let choice = &self.choices[i];
             if choice.rank >= self.state.fixed {
@@ -352,24 +382,37 @@ fn choices(orders: &Orders, root: &ByHour<u32>) -> Vec<Choice> {
             mask,
             near: bits_where(&orders.blocks, near),
             rank: 0,
-            ahead: 0,
+            needs: block.parent,
             behind: 0,
+            below: 0,
         }
     };
     let mut choices: Vec<Choice> = orders.blocks.iter().map(choice).collect();
+    let parents = orders.blocks.iter().fold(0, |found, block| found | block.parent);
     for (i, choice) in choices.iter_mut().enumerate() {
-        (choice.ahead, choice.behind) = twins_of(&orders.blocks, i);
+        let (ahead, behind) = twins_of(&orders.blocks, parents, i);
+        choice.needs |= ahead;
+        choice.behind = behind;
+    }
+    // A block stands behind its parent, so that those below it are known before it is asked.
+    for (i, block) in orders.blocks.iter().enumerate().rev().filter(|(_, it)| it.parent != 0) {
+        choices[block.parent.trailing_zeros() as usize].below |= choices[i].below | 1 << i;
     }
     choices
 }
 
 /// The next twin that is taken before block i and the next one after it, as bits: a
 /// sell with a lower limit goes first, a buy with a higher one, of equals the earlier.
-/// Of equals it is the last ahead and the first behind, as in the proved code.
-fn twins_of(blocks: &[Block], i: usize) -> (u32, u32) {
+/// Of equals it is the last ahead and the first behind, as in the proved code. The one
+/// that is taken first must be able to stand in for the other, whatever their links.
+fn twins_of(blocks: &[Block], parents: u32, i: usize) -> (u32, u32) {
     let block = &blocks[i];
     let is_twin = |other: &Block| {
         (other.sells, other.hours, other.quantity) == (block.sells, block.hours, block.quantity)
+    };
+    let stands_in = |one: usize, other: usize| {
+        let parent = blocks[one].parent;
+        (parent == 0 || parent == blocks[other].parent) && (parents >> other) & 1 == 0
     };
     let turn = |j: usize| {
         let limit = i64::from(blocks[j].limit);
@@ -382,10 +425,10 @@ fn twins_of(blocks: &[Block], i: usize) -> (u32, u32) {
     let (mut ahead, mut behind) = (None, None);
     for j in (0..i).filter(|&j| is_twin(&blocks[j])) {
         if turn(j) <= turn(i) {
-            if ahead.is_none_or(|found| turn(found) <= turn(j)) {
+            if stands_in(j, i) && ahead.is_none_or(|found| turn(found) <= turn(j)) {
                 ahead = Some(j);
             }
-        } else if behind.is_none_or(|found| turn(j) < turn(found)) {
+        } else if stands_in(i, j) && behind.is_none_or(|found| turn(j) < turn(found)) {
             behind = Some(j);
         }
     }

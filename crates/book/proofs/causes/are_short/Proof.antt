@@ -10,8 +10,11 @@ add-result c = search needs
 add-result-2 : tie.Need-add-result-2
 add-result-2 c = search needs
 
+add-result-3 : tie.Need-add-result-3
+add-result-3 c = search needs
+
 returns : tie.Need-returns
 returns c = refl
 
 pub are-short-spec : {M : Type 1} → statement M
-are-short-spec = tie.close (tie.spec add-result add-result-2 returns)
+are-short-spec = tie.close (tie.spec add-result add-result-2 add-result-3 returns)

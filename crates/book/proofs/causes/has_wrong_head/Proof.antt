@@ -34,17 +34,22 @@ cast-is-within-6 c = search needs
 is-within-requires-2 : tie.Need-is-within-requires-2
 is-within-requires-2 c κs = search needs
 
+has-early-links-requires : tie.Need-has-early-links-requires
+has-early-links-requires c κs = search needs
+
 is-nonzero-requires : tie.Need-is-nonzero-requires
 is-nonzero-requires c κs = search needs
 
 returns : tie.Need-returns
 unfolding wrongHead
 returns c =
-    let editions = c .before in
+    let links = c .before in
+    let editions = links .before in
     let edition = editions .before in
     let days = edition .before in
     rw (
       c .is-nonzero .ensures,
+      links .has-early-links .ensures,
       editions .is-within2 .ensures,
       edition .edition-of .ensures,
       days .is-within .ensures,
@@ -65,5 +70,6 @@ has-wrong-head-spec =
     cast-is-within-5
     cast-is-within-6
     is-within-requires-2
+    has-early-links-requires
     is-nonzero-requires
     returns)

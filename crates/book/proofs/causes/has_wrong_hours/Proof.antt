@@ -19,12 +19,22 @@ is-uncounted-on-requires c κs = search needs
 is-uncounted-on-requires-2 : tie.Need-is-uncounted-on-requires-2
 is-uncounted-on-requires-2 c κs = search needs
 
+is-uncounted-on-requires-3 : tie.Need-is-uncounted-on-requires-3
+is-uncounted-on-requires-3 c κs = search needs
+
 returns-2 : tie.Need-returns-2
 unfolding wrongHours
 returns-2 c =
-    let steps = c .before in
+    let blocks = c .before in
+    let steps = blocks .before in
     let day = steps .before .before in
-    rw (← (day .day-hours .ensures), eq-eqb _ _ (steps .before .if1 .left), steps .is-uncounted-on .ensures, c .is-uncounted-on2 .ensures)
+    rw (
+      ← (day .day-hours .ensures),
+      eq-eqb _ _ (steps .before .if1 .left),
+      steps .is-uncounted-on .ensures,
+      blocks .is-uncounted-on2 .ensures,
+      c .is-uncounted-on3 .ensures,
+    )
     (on-some (uncountedOn (day .before .before .args .book .now)))
 
 pub has-wrong-hours-spec : {M : Type 1} → statement M
@@ -35,4 +45,5 @@ has-wrong-hours-spec =
     returns
     is-uncounted-on-requires
     is-uncounted-on-requires-2
+    is-uncounted-on-requires-3
     returns-2)

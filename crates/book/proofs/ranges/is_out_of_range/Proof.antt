@@ -23,6 +23,12 @@ is-block-in-range-requires c κs = search needs
 enum-told : tie.Need-enum-told
 enum-told c = search needs
 
+is-link-in-range-requires : tie.Need-is-link-in-range-requires
+is-link-in-range-requires c κs = search needs
+
+enum-told-2 : tie.Need-enum-told-2
+enum-told-2 c = search needs
+
 returns : tie.Need-returns
 unfolding outOfRange recordInRange
 returns c =
@@ -37,7 +43,13 @@ returns-2 c =
 
 returns-3 : tie.Need-returns-3
 unfolding outOfRange recordInRange
-returns-3 c = rw (sym (c .before .before .record-at .ensures) ∙ c .enum-told .given .1)
+returns-3 c =
+    let arm = c .before .before in
+    rw (sym (arm .before .record-at .ensures) ∙ c .before .enum-told .given .1, c .is-link-in-range .ensures)
+
+returns-4 : tie.Need-returns-4
+unfolding outOfRange recordInRange
+returns-4 c = rw (sym (c .before .before .record-at .ensures) ∙ c .enum-told2 .given .1)
 
 pub is-out-of-range-spec : {M : Type 1} → statement M
 is-out-of-range-spec =
@@ -49,6 +61,9 @@ is-out-of-range-spec =
     enum-known-found-2
     is-block-in-range-requires
     enum-told
+    is-link-in-range-requires
+    enum-told-2
     returns
     returns-2
-    returns-3)
+    returns-3
+    returns-4)

@@ -1,9 +1,27 @@
 -- `book::ranges::is_uncounted` meets its contract, by what the record is. Assumes nothing.
-use mathlib.Core.Path.{sym, _∙_}
+use Prim.Native.Nat.{ℕ}
+use mathlib.Core.Path.{_≡_, refl, sym, _∙_}
+use mathlib.Core.List.{List, [], _∷_}
+use mathlib.Core.Bool.{false}
+use mathlib.Core.Logic.{⊎-elim}
+use native.Mathlib.Omega.{arith}
+use types.Run.{OneOf}
+use denote.Enum.Declared.{tagOf}
+use Rattle.records.specs.declared.Record.{Record}
+use Rattle.records.proofs.Record as declared
+use Rattle.records.specs.declared.Record.the-variants as record-of
 use Rattle.book.specs.Refusals.{uncounted}
 use borrow.Author.Needs.{needs}
 use Rattle.book.proofs.ranges.is_uncounted.Statement.{statement}
 use Rattle.book.proofs.ranges.is_uncounted.Tie as tie
+
+-- a record of another kind
+other : (b : List ℕ) (r : Record) → OneOf (2 ∷ 3 ∷ []) (tagOf declared.the-type r) → false ≡ uncounted b r
+unfolding uncounted
+other b (record-of.Step s) h = absurd (⊎-elim (λ e. omega arith) (λ e. omega arith) h)
+other b (record-of.Block s) h = absurd (⊎-elim (λ e. omega arith) (λ e. omega arith) h)
+other b (record-of.Link l) h = refl
+other b record-of.Other h = refl
 
 day-hours-requires : tie.Need-day-hours-requires
 day-hours-requires c κs = search needs
@@ -26,9 +44,6 @@ enum-known-found-2 c = search needs
 counted-hours-requires : tie.Need-counted-hours-requires
 counted-hours-requires c κs = search needs
 
-enum-told : tie.Need-enum-told
-enum-told c = search needs
-
 returns : tie.Need-returns
 unfolding uncounted
 returns c =
@@ -44,8 +59,7 @@ returns-2 c =
     rw (sym (record-read .record-at .ensures) ∙ arm .found2 .given .1, c .counted-hours .ensures, record-read .before .day-hours .ensures)
 
 returns-3 : tie.Need-returns-3
-unfolding uncounted
-returns-3 c = rw (sym (c .before .before .record-at .ensures) ∙ c .enum-told .given .1)
+returns-3 c = rw (← (c .before .record-at .ensures)) (other _ (c .before .record-at .result) (c .match .keys3))
 
 pub is-uncounted-spec : {M : Type 1} → statement M
 is-uncounted-spec =
@@ -58,7 +72,6 @@ is-uncounted-spec =
     is-counted-requires
     enum-known-found-2
     counted-hours-requires
-    enum-told
     returns
     returns-2
     returns-3)

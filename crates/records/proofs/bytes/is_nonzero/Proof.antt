@@ -10,7 +10,7 @@ use Rattle.records.proofs.bytes.is_nonzero.Statement.{statement}
 use Rattle.records.proofs.bytes.is_nonzero.Tie as tie
 
 abbrev Inv-loop : tie.InvT-loop
-Inv-loop book at count i₀ left₀ i left = (i + left ≤ 131072) × (nonzero book at count ≡ nonzero book i left)
+Inv-loop book at count i₀ left₀ i left = (i + left ≤ 4295032831) × (nonzero book at count ≡ nonzero book i left)
 
 abbrev μ-loop : tie.MeasureT-loop
 μ-loop book at count i₀ left₀ i left = left

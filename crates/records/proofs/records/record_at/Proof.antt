@@ -46,16 +46,36 @@ returns-3 c =
       c .block-at .ensures,
     )
 
+link-at-requires : tie.Need-link-at-requires
+link-at-requires c κs = search needs
+
 returns-4 : tie.Need-returns-4
 unfolding recordAt
 returns-4 c =
-    let step = c .before in
+    let block = c .before .before in
+    let step = block .before in
     let kind = step .before in
     simp (
       le-ltb _ _ (kind .before .if1 .left),
       ← (kind .kind-of .ensures),
       ne-eqb _ _ (step .if2 .left),
-      ne-eqb _ _ (c .if3 .left),
+      ne-eqb _ _ (block .if3 .left),
+      eq-eqb _ _ (c .before .if4 .taken),
+      c .link-at .ensures,
+    )
+
+returns-5 : tie.Need-returns-5
+unfolding recordAt
+returns-5 c =
+    let block = c .before in
+    let step = block .before in
+    let kind = step .before in
+    simp (
+      le-ltb _ _ (kind .before .if1 .left),
+      ← (kind .kind-of .ensures),
+      ne-eqb _ _ (step .if2 .left),
+      ne-eqb _ _ (block .if3 .left),
+      ne-eqb _ _ (c .if4 .left),
     )
 
 pub record-at-spec : {M : Type 1} → statement M
@@ -71,4 +91,6 @@ record-at-spec =
     returns-2
     block-at-requires
     returns-3
-    returns-4)
+    link-at-requires
+    returns-4
+    returns-5)

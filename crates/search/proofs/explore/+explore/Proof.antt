@@ -1,7 +1,10 @@
 -- `search::explore::explore` meets its contract: a branch is dropped, decided, or explored with its next block taken and then left out; only left out where it
 -- is out, and of twins only one way where the other is decided. The number of undecided blocks falls. Assumes nothing.
+use mathlib.Core.Bool.{false}
 use mathlib.Core.Path.{_≡_, sym, _∙_}
 use native.Mathlib.Omega.{arith}
+use Rattle.search.specs.Decisions.{isBarred}
+use Rattle.search.proofs.DecisionLaws.{neither}
 use Rattle.search.proofs.BranchLaws.{explored-dropped, explored-judged, explored-decided, explored-both, explored-left, explored-taken}
 use borrow.Author.Needs.{needs}
 use Prim.Native.Nat.{ℕ, _+_, _-_, _<_}
@@ -44,6 +47,12 @@ judged t c = c .before .before .before .before
 abbrev left : (t : ℕ) → explore-lts.Else3 (claims-explore t) (explore-at t) explore.Post →
     explore-lts.After-leave (claims-explore t) (explore-at t) explore.Post
 left t c = c .before .before .before
+
+-- the block may be taken
+free : (t : ℕ) (c : explore-lts.Else3 (claims-explore t) (explore-at t) explore.Post) →
+    isBarred (start t (judged t (left t c)) .args .blocks .now) (start t (judged t (left t c)) .args .count - start t (judged t (left t c)) .args .left)
+    (start t (judged t (left t c)) .args .node .set) ≡ false
+free t c = sym (c .before .is-barred .ensures) ∙ neither (c .before .before .is-out .result) (c .before .is-barred .result) (c .if3 .left) .1
 
 explore-judge-requires : (t : ℕ) → explore-lts.Need-judge-requires (claims-explore t) (explore-at t) explore.Post
 explore-judge-requires t c κs = search needs
@@ -134,7 +143,7 @@ explore-returns-4 t c =
     let s = start t j in
     let k = l .before .before .if2 .left in
     explored-judged (l .before .before .before .if1 .left) (j .judge .ensures)
-    (explored-taken (omega arith) (s .pre .1 .4) (s .pre .1 .5 .setFits)
+    (explored-taken (omega arith) (s .pre .1 .4) (s .pre .1 .5 .setFits) (free t (both .before .before))
     (sym (c .before .is-due .ensures) ∙ c .if4 .taken) (both .before .take .ensures .1) (both .explore2 .ensures))
 
 explore-explore-requires-3 : (t : ℕ) → explore-lts.Need-explore-requires-3 (claims-explore t) (explore-at t) explore.Post
@@ -154,7 +163,7 @@ explore-returns-5 t c =
     let s = start t j in
     let k = l .before .before .if2 .left in
     explored-judged (l .before .before .before .if1 .left) (j .judge .ensures)
-    (explored-both (omega arith) (s .pre .1 .4) (s .pre .1 .5 .setFits)
+    (explored-both (omega arith) (s .pre .1 .4) (s .pre .1 .5 .setFits) (free t (both .before .before))
     (both .before .take .ensures .1) (l .leave .ensures .1) (both .explore2 .ensures) (c .explore3 .ensures))
 
 pub +explore-spec : {M : Type 1} → statement M

@@ -5,7 +5,7 @@ use Rattle.search.proofs.judge.is_ruled_out.Statement.{statement}
 use Rattle.search.proofs.judge.is_ruled_out.Tie as tie
 
 returns : tie.Need-returns
-returns c = ruled-before _ _ _ _ _ (c .if1 .taken)
+returns c = ruled-before _ _ _ _ _ _ (c .if1 .taken)
 
 add-keeps-limit : tie.Need-add-keeps-limit
 add-keeps-limit c = search needs
@@ -38,7 +38,7 @@ keeps-limit-requires : tie.Need-keeps-limit-requires
 keeps-limit-requires c κs = search needs
 
 returns-2 : tie.Need-returns-2
-returns-2 c = ruled-now _ _ _ _ _ (c .before .before .before .before .if1 .left) _ (c .keeps-limit .ensures)
+returns-2 c = ruled-now _ _ _ _ _ _ (c .before .before .before .before .if1 .left) _ (c .keeps-limit .ensures)
 
 pub is-ruled-out-spec : {M : Type 1} → statement M
 is-ruled-out-spec =

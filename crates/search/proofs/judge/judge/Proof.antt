@@ -28,9 +28,12 @@ bounded c = c .before .before
 abbrev counting : tie.After-keeps-limits → tie.After-counted-prices2
 counting c = c .before .before .before
 
--- from the prices back to an hour's balance
+-- from the prices back to the least gaps, and to an hour's balance
+abbrev gaps : tie.After-counted-prices2 → tie.After-counted-least-gaps
+gaps c = bounded (c .before .before .before .before)
+
 abbrev back : tie.After-counted-prices2 → tie.Else3
-back c = balanced (bounded (c .before .before .before .before) .before)
+back c = balanced (gaps c .before)
 
 -- arrays of 24
 from-size : (f : tie.After-reach-at) → length (f .reach-at .result .from) ≡ hourPlaces
@@ -87,8 +90,8 @@ counted-least-gaps-requires c κs =
     let s = start (r .before) in
     (s .pre .0 .gapRows, turn-size s, to-fits (r .reach-at .ensures .reach) (s .pre .0 .lastInGaps), s .pre .0 .changeFew)
 
-add-if4 : tie.Need-add-if4
-add-if4 c =
+add-least : tie.Need-add-least
+add-least c =
     let p = start (reached (balanced (c .before .before)) .before) .pre in
     omega (arith, c .before .counted-least-gaps .ensures .1, p .3 .lossFits, p .0 .few)
 
@@ -151,17 +154,24 @@ ruled-out-requires : tie.Need-ruled-out-requires
 ruled-out-requires c κs =
     let low = counting (c .before .before .before) in
     let p = start (reached (back low) .before) .pre in
-    (p .0 .blocksFit .columns, p .0 .few, omega (arith, p .2), low .before .before .counted-prices .ensures .1, low .counted-prices2 .ensures .1)
+    (p .0 .blocksFit, p .0 .few, omega (arith, p .2), low .before .before .counted-prices .ensures .1, low .counted-prices2 .ensures .1)
 
 returns-6 : tie.Need-returns-6
 returns-6 c =
-    let low = counting (c .before .before .before .before) in
+    let low = counting (c .before .before .before .before .before) in
     let high = low .before .before in
     let b = back low in
     let r = reached b in
     let p = start (r .before) .pre in
     judged-open (r .reach-at .ensures .rest) (r .reach-at .ensures .reach) (high .before .prices-at .ensures) (low .before .prices-at2 .ensures)
-    (not-false _ (b .if3 .left)) (high .counted-prices .ensures .0) (low .counted-prices2 .ensures .0) (p .2) (c .ruled-out .ensures)
+    (not-false _ (b .if3 .left)) (high .counted-prices .ensures .0) (low .counted-prices2 .ensures .0) (p .2) (c .before .ruled-out .ensures .0)
+    (gaps low .counted-least-gaps .ensures .0) (c .before .ruled-out .ensures .1 .0)
+
+add-with-gains : tie.Need-add-with-gains
+add-with-gains c =
+    let low = counting (c .before .before .before .before .before) in
+    let p = start (reached (back low) .before) .pre in
+    omega (arith, gaps low .counted-least-gaps .ensures .1, c .before .ruled-out .ensures .1 .1, p .3 .lossFits, p .0 .few)
 
 pub judge-spec : {M : Type 1} → statement M
 judge-spec =
@@ -179,7 +189,7 @@ judge-spec =
     part-counted-least-gaps-start
     part-counted-least-gaps-end
     counted-least-gaps-requires
-    add-if4
+    add-least
     returns-4
     prices-at-requires
     counted-prices-requires
@@ -192,4 +202,5 @@ judge-spec =
     slice-aggregate-ruled-out
     slice-aggregate-ruled-out-2
     ruled-out-requires
+    add-with-gains
     returns-6)

@@ -1,6 +1,6 @@
 -- `setup::widened` meets its contract: the numbers before k are copied. Assumes nothing.
 use Prim.Native.Nat.{_-_}
-use Rattle.places.specs.Layout.{aheadColumn}
+use Rattle.places.specs.Layout.{parentColumn}
 use Rattle.setup.proofs.SetupTwinLaws.{WidenedTo, widened-start, widened-next, widened-all}
 use borrow.Author.Needs.{needs}
 use Rattle.setup.proofs.blocks.widened.Statement.{statement}
@@ -10,7 +10,7 @@ abbrev Inv-loop : tie.InvT-loop
 Inv-loop columns r₀ k₀ r k = WidenedTo columns k r
 
 abbrev μ-loop : tie.MeasureT-loop
-μ-loop columns r₀ k₀ r k = aheadColumn - k
+μ-loop columns r₀ k₀ r k = parentColumn - k
 
 loop-holds : tie.Need-loop-holds Inv-loop μ-loop
 loop-holds c = widened-start _

@@ -8,10 +8,10 @@ use Rattle.setup.proofs.twins.nearest_twin.Statement.{statement}
 use Rattle.setup.proofs.twins.nearest_twin.Tie as tie
 
 abbrev Inv-loop : tie.InvT-loop
-Inv-loop blocks i ahead side limit trades found₀ edge₀ j₀ found edge j = (j ≤ i) × TwinOf blocks i ahead found
+Inv-loop blocks marks i ahead side limit trades found₀ edge₀ j₀ found edge j = (j ≤ i) × TwinOf blocks i ahead found
 
 abbrev μ-loop : tie.MeasureT-loop
-μ-loop blocks i ahead side limit trades found₀ edge₀ j₀ found edge j = i - j
+μ-loop blocks marks i ahead side limit trades found₀ edge₀ j₀ found edge j = i - j
 
 add-side : tie.Need-add-side Inv-loop μ-loop
 add-side c = search needs
@@ -55,8 +55,8 @@ mul-here c = search needs
 shared-slice-read-here : tie.Need-shared-slice-read-here Inv-loop μ-loop
 shared-slice-read-here c = search needs
 
-are-twins-requires : tie.Need-are-twins-requires Inv-loop μ-loop
-are-twins-requires c κs = search needs
+may-exchange-requires : tie.Need-may-exchange-requires Inv-loop μ-loop
+may-exchange-requires c κs = search needs
 
 is-no-worse-requires : tie.Need-is-no-worse-requires Inv-loop μ-loop
 is-no-worse-requires c κs = search needs
@@ -87,7 +87,7 @@ loop-again c =
     let w = c .before .before .before in
     let i = w .before .before .before in (
       omega (arith, i .loop-test .taken),
-      twin-next _ _ (i .before .loop .j) _ _ _ _ _ _ (i .before .loop .inv .1) (i .loop-test .taken) (w .before .are-twins .ensures)
+      twin-next _ _ (i .before .loop .j) _ _ _ _ _ _ (i .before .loop .inv .1) (i .loop-test .taken) (w .before .may-exchange .ensures)
           (w .is-no-worse .ensures) (c .before .choose2 .ensures),
     )
 
@@ -114,7 +114,7 @@ nearest-twin-spec =
     add-here
     mul-here
     shared-slice-read-here
-    are-twins-requires
+    may-exchange-requires
     is-no-worse-requires
     is-no-worse-requires-2
     add-choose

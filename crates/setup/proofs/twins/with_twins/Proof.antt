@@ -6,16 +6,25 @@ use Rattle.setup.proofs.twins.with_twins.Statement.{statement}
 use Rattle.setup.proofs.twins.with_twins.Tie as tie
 
 abbrev Inv-loop : tie.InvT-loop
-Inv-loop count blocks r₀ i₀ r i = TwinsTo blocks count i r
+Inv-loop count blocks marks r₀ i₀ r i = TwinsTo blocks count i r
 
 abbrev μ-loop : tie.MeasureT-loop
-μ-loop count blocks r₀ i₀ r i = count - i
+μ-loop count blocks marks r₀ i₀ r i = count - i
+
+slice-aggregate-parent-marks : tie.Need-slice-aggregate-parent-marks Inv-loop μ-loop
+slice-aggregate-parent-marks c = search needs
+
+parent-marks-requires : tie.Need-parent-marks-requires Inv-loop μ-loop
+parent-marks-requires c κs = search needs
 
 loop-holds : tie.Need-loop-holds Inv-loop μ-loop
-loop-holds c = twins-start _ _ (search needs) (c .pre .1)
+loop-holds c = twins-start _ _ (search needs) (c .before .before .pre .1)
 
 slice-aggregate-nearest-twin : tie.Need-slice-aggregate-nearest-twin Inv-loop μ-loop
 slice-aggregate-nearest-twin c = search needs
+
+slice-aggregate-nearest-twin-2 : tie.Need-slice-aggregate-nearest-twin-2 Inv-loop μ-loop
+slice-aggregate-nearest-twin-2 c = search needs
 
 nearest-twin-requires : tie.Need-nearest-twin-requires Inv-loop μ-loop
 nearest-twin-requires c κs = search needs
@@ -29,8 +38,11 @@ mul-r c = search needs
 array-write-r : tie.Need-array-write-r Inv-loop μ-loop
 array-write-r c = search needs
 
-slice-aggregate-nearest-twin-2 : tie.Need-slice-aggregate-nearest-twin-2 Inv-loop μ-loop
-slice-aggregate-nearest-twin-2 c = search needs
+slice-aggregate-nearest-twin-3 : tie.Need-slice-aggregate-nearest-twin-3 Inv-loop μ-loop
+slice-aggregate-nearest-twin-3 c = search needs
+
+slice-aggregate-nearest-twin-4 : tie.Need-slice-aggregate-nearest-twin-4 Inv-loop μ-loop
+slice-aggregate-nearest-twin-4 c = search needs
 
 nearest-twin-requires-2 : tie.Need-nearest-twin-requires-2 Inv-loop μ-loop
 nearest-twin-requires-2 c κs = search needs
@@ -52,9 +64,9 @@ loop-less c = search needs
 
 loop-again : tie.Need-loop-again Inv-loop μ-loop
 loop-again c =
-    let f = c .before .before in
-    let i = f .before .before in
-    let s = i .before .before in
+    let f = c .before .before .before in
+    let i = f .before .before .before in
+    let s = i .before .before .before .before in
     twins-next _ _ _ _ _ _ (i .before .loop .inv) (s .pre .0) (i .loop-test .taken) (f .nearest-twin .ensures) (c .nearest-twin2 .ensures)
 
 returns : tie.Need-returns Inv-loop μ-loop
@@ -66,13 +78,17 @@ with-twins-spec =
     (tie.spec
     Inv-loop
     μ-loop
+    slice-aggregate-parent-marks
+    parent-marks-requires
     loop-holds
     slice-aggregate-nearest-twin
+    slice-aggregate-nearest-twin-2
     nearest-twin-requires
     add-r
     mul-r
     array-write-r
-    slice-aggregate-nearest-twin-2
+    slice-aggregate-nearest-twin-3
+    slice-aggregate-nearest-twin-4
     nearest-twin-requires-2
     add-r-2
     mul-r-2

@@ -7,8 +7,10 @@ use crate::twin::by_value::book::bounds::PORTFOLIO_NUMBERS;
 use crate::twin::by_value::book::ranges::is_out_of_range;
 use crate::twin::by_value::book::ranges::is_uncounted;
 use crate::twin::by_value::records::BLOCK_KIND;
+use crate::twin::by_value::records::LINK_KIND;
 use crate::twin::by_value::records::STEP_KIND;
 use crate::twin::by_value::records::first_block;
+use crate::twin::by_value::records::first_link;
 use crate::twin::by_value::records::first_step;
 use crate::twin::by_value::records::kind_of;
 use crate::twin::by_value::records::next_of;
@@ -22,6 +24,7 @@ fn first_on(book: &[u8], chain: Chain) -> u16
     match chain {
         Chain::Steps => first_step(book),
         Chain::Blocks => first_block(book),
+        Chain::Links => first_link(book),
     }
 }
 
@@ -31,6 +34,7 @@ fn kind_on(chain: Chain) -> u8
     match chain {
         Chain::Steps => STEP_KIND,
         Chain::Blocks => BLOCK_KIND,
+        Chain::Links => LINK_KIND,
     }
 }
 
@@ -40,6 +44,7 @@ fn is_numbered(chain: Chain) -> bool
     match chain {
         Chain::Steps => true,
         Chain::Blocks => true,
+        Chain::Links => true,
     }
 }
 

@@ -19,6 +19,7 @@ use crate::twin::by_value::records::Record;
 use crate::twin::by_value::records::Step;
 use crate::twin::by_value::records::day_hours;
 use crate::twin::by_value::records::edition_of;
+use crate::twin::by_value::records::has_link_rest;
 use crate::twin::by_value::records::hour_byte;
 use crate::twin::by_value::records::hour_count;
 use crate::twin::by_value::records::record_at;
@@ -82,6 +83,12 @@ fn is_block_in_range(book: &[u8], i: u16, block: Block) -> bool
         & block_fits(edition_of(book), block)
 }
 
+// Whether record i, a link, has its bytes 1 and 8-15 at 0.
+fn is_link_in_range(book: &[u8], i: u16) -> bool
+{
+    (side_byte(book, i) == 0) & !has_link_rest(book, i)
+}
+
 // Whether record i has a field outside its range.
 pub fn is_out_of_range(book: &[u8], i: u16) -> bool
 {
@@ -89,6 +96,7 @@ pub fn is_out_of_range(book: &[u8], i: u16) -> bool
     match found {
         Record::Step(step) => !is_step_in_range(book, i, step),
         Record::Block(block) => !is_block_in_range(book, i, block),
+        Record::Link(_) => !is_link_in_range(book, i),
         Record::Other => false,
     }
 }
@@ -101,6 +109,6 @@ pub fn is_uncounted(book: &[u8], i: u16) -> bool
     match found {
         Record::Step(step) => !is_counted(day, step.hour as u32),
         Record::Block(block) => counted_hours(day, block.hours) < FEWEST_HOURS,
-        Record::Other => false,
+        Record::Link(_) | Record::Other => false,
     }
 }

@@ -1,11 +1,13 @@
 // Written by `twin_source` from crates/records/src/records.rt.
-// The fields of the head and of record k, and a record as a step or a block (document 01, "The book in bytes").
+// The fields of the head and of record k, and a record as a step, a block or a link (document 01, "The book in bytes").
 // Record k starts at byte 16 * k. Assumes nothing.
 use crate::twin::by_value::records::Block;
+use crate::twin::by_value::records::Link;
 use crate::twin::by_value::records::Record;
 use crate::twin::by_value::records::Side;
 use crate::twin::by_value::records::Step;
 use crate::twin::by_value::records::bytes::byte_at;
+use crate::twin::by_value::records::bytes::is_nonzero;
 use crate::twin::by_value::records::bytes::u16_at;
 use crate::twin::by_value::records::bytes::u24_at;
 use crate::twin::by_value::records::bytes::u32_at;
@@ -17,11 +19,16 @@ use crate::twin::by_value::records::layout::COUNT_OFFSET;
 use crate::twin::by_value::records::layout::DAY_HOURS_OFFSET;
 use crate::twin::by_value::records::layout::EDITION_OFFSET;
 use crate::twin::by_value::records::layout::FIRST_BLOCK_OFFSET;
+use crate::twin::by_value::records::layout::FIRST_LINK_OFFSET;
 use crate::twin::by_value::records::layout::FIRST_STEP_OFFSET;
 use crate::twin::by_value::records::layout::HOUR_OFFSET;
 use crate::twin::by_value::records::layout::LAST_HOUR;
+use crate::twin::by_value::records::layout::LINK_KIND;
+use crate::twin::by_value::records::layout::LINK_REST_OFFSET;
+use crate::twin::by_value::records::layout::LINK_REST_SIZE;
 use crate::twin::by_value::records::layout::NEXT_OFFSET;
 use crate::twin::by_value::records::layout::NUMBER_OFFSET;
+use crate::twin::by_value::records::layout::PARENT_OFFSET;
 use crate::twin::by_value::records::layout::PORTFOLIO_OFFSET;
 use crate::twin::by_value::records::layout::RECORD_SIZE;
 use crate::twin::by_value::records::layout::SIDE_OFFSET;
@@ -45,6 +52,11 @@ pub fn first_block(book: &[u8]) -> u16
     u16_at(book, FIRST_BLOCK_OFFSET)
 }
 
+pub fn first_link(book: &[u8]) -> u16
+{
+    u16_at(book, FIRST_LINK_OFFSET)
+}
+
 pub fn day_hours(book: &[u8]) -> u8
 {
     byte_at(book, DAY_HOURS_OFFSET)
@@ -55,7 +67,7 @@ pub fn edition_of(book: &[u8]) -> u8
     byte_at(book, EDITION_OFFSET)
 }
 
-// The fields that steps and blocks share.
+// The fields that steps and blocks share; a link has the first two bytes, the following record and, as its number, its child's.
 pub fn kind_of(book: &[u8], k: u16) -> u8
 {
     byte_at(book, RECORD_SIZE * (k as u32))
@@ -126,6 +138,25 @@ fn block_at(book: &[u8], k: u16) -> Block
     }
 }
 
+// Record k read as a link, whatever its kind.
+pub fn link_at(book: &[u8], k: u16) -> Link
+{
+    Link {
+        child: number_of(book, k),
+        parent: u16_at(book, RECORD_SIZE * (k as u32) + PARENT_OFFSET),
+    }
+}
+
+// Whether the bytes of a link behind its parent's number are not all 0.
+pub fn has_link_rest(book: &[u8], k: u16) -> bool
+{
+    is_nonzero(
+        book,
+        RECORD_SIZE * (k as u32) + LINK_REST_OFFSET,
+        LINK_REST_SIZE,
+    )
+}
+
 // Record k as its kind says, where it is whole.
 pub fn record_at(book: &[u8], k: u16) -> Record
 {
@@ -139,6 +170,9 @@ pub fn record_at(book: &[u8], k: u16) -> Record
     }
     if kind == BLOCK_KIND {
         return Record::Block(block_at(book, k));
+    }
+    if kind == LINK_KIND {
+        return Record::Link(link_at(book, k));
     }
     Record::Other
 }

@@ -1,22 +1,18 @@
 // Written by `twin_source` from crates/search/src/explore.rt.
-// Every way to decide the blocks that are left: a block taken, left out, and of twins only one way where the other is decided.
+// Every way to decide the blocks that are left: a block taken, left out; a child only with its parent, and of twins only one way where the other is decided.
 use crate::twin::by_value::search::Best;
 use crate::twin::by_value::search::Node;
 use crate::twin::by_value::search::decide::decide;
+use crate::twin::by_value::search::judge::bit;
 use crate::twin::by_value::search::judge::judge;
 use crate::twin::by_value::places::added::moved_where;
 use crate::twin::by_value::places::layout::AGAINST;
 use crate::twin::by_value::places::layout::AHEAD;
 use crate::twin::by_value::places::layout::BEHIND;
 use crate::twin::by_value::places::layout::GAIN;
+use crate::twin::by_value::places::layout::PARENT;
 use crate::twin::by_value::places::layout::SIDE;
 use crate::twin::by_value::places::reach::is_out;
-
-// The set that holds block number at alone.
-fn bit(at: u32) -> u32
-{
-    1u32 << at
-}
 
 // The node with block number at taken: a sell moves the places on in its hours.
 fn take(blocks: &[u32], at: u32, node: Node) -> Node
@@ -44,14 +40,19 @@ fn leave(blocks: &[u32], at: u32, node: Node) -> Node
     }
 }
 
-// Whether a twin that is taken before block i is left out.
-fn is_barred(blocks: &[u32], i: usize, set: u32) -> bool
+// Whether the block that is named, by its number and 1, is left out; where none is, by 0, it is not.
+fn is_left(name: u32, set: u32) -> bool
 {
-    let ahead = blocks[AHEAD + i];
-    if ahead == 0 {
+    if name == 0 {
         return false;
     }
-    (set >> (ahead - 1)) % 2 == 0
+    (set >> (name - 1)) % 2 == 0
+}
+
+// Whether the parent of block i is left out, or a twin that is taken before it.
+fn is_barred(blocks: &[u32], i: usize, set: u32) -> bool
+{
+    is_left(blocks[PARENT + i], set) | is_left(blocks[AHEAD + i], set)
 }
 
 // Whether a twin that is taken after block i is taken.
@@ -65,7 +66,7 @@ fn is_due(blocks: &[u32], i: usize, set: u32) -> bool
 }
 
 // Every way to decide the blocks that are left, each first taken and then left out; of twins, the one that is taken before the other first. A block that
-// is out is only left out. Each branch has its own node by value, so nothing is released.
+// is out, or whose parent is left out, is only left out. Each branch has its own node by value, so nothing is released.
 pub fn explore(
     unit_prices: &[u32],
     gap: &[u32],

@@ -8,19 +8,40 @@ use crate::twin::by_value::places::layout::AGAINST;
 use crate::twin::by_value::places::layout::CHANGE;
 use crate::twin::by_value::places::layout::GAIN;
 use crate::twin::by_value::places::layout::LIMIT;
+use crate::twin::by_value::places::layout::PARENT;
 use crate::twin::by_value::places::layout::RUNS;
 use crate::twin::by_value::places::layout::SIDE;
 use crate::twin::by_value::places::layout::TURN;
 use crate::twin::by_value::places::limits::keeps_limit;
 use crate::twin::by_value::places::limits::keeps_limits;
-use crate::twin::by_value::places::numbers::number_of;
+use crate::twin::by_value::places::numbers::choose;
 use crate::twin::by_value::places::reach::is_out;
 use crate::twin::by_value::places::reach::reach_at;
 
-// Whether undecided block i is out: it was before, or it misses its limit at the best prices within reach.
-fn is_ruled_out(blocks: &[u32], i: usize, was: bool, high: &[u32], low: &[u32]) -> bool
+// The set that holds block number at alone.
+pub fn bit(at: u32) -> u32
 {
-    if was {
+    1u32 << at
+}
+
+// Whether the block that is named, by its number and 1, is gone from a branch whose first blocks, at of them, are decided: left out, or out; where none is
+// named, by 0, it is not.
+fn is_gone(name: u32, at: usize, set: u32, out: u32) -> bool
+{
+    if name == 0 {
+        return false;
+    }
+    let i = (name - 1) as usize;
+    if i < at {
+        return (set >> (name - 1)) % 2 == 0;
+    }
+    is_out(out, i - at)
+}
+
+// Whether undecided block i is out: it was before, its parent is gone, or it misses its limit at the best prices within reach.
+fn is_ruled_out(blocks: &[u32], i: usize, was: bool, gone: bool, high: &[u32], low: &[u32]) -> bool
+{
+    if was | gone {
         return true;
     }
     !keeps_limit(
@@ -32,17 +53,36 @@ fn is_ruled_out(blocks: &[u32], i: usize, was: bool, high: &[u32], low: &[u32]) 
     )
 }
 
-// The undecided blocks that are out, from the last one on to the one at number at, whose bit is the lowest.
-fn ruled_out(blocks: &[u32], count: usize, at: usize, out: u32, high: &[u32], low: &[u32]) -> u32
+// The undecided blocks that are out, and what they would gain.
+#[derive(Clone, Copy)]
+pub struct Ruled {
+    pub out: u32,
+    pub gains: u64,
+}
+
+// The undecided blocks that are out, from the one at number at on, whose bit is the lowest; a parent before its children.
+fn ruled_out(
+    blocks: &[u32],
+    count: usize,
+    at: usize,
+    set: u32,
+    out: u32,
+    high: &[u32],
+    low: &[u32],
+) -> Ruled
 {
     let mut r: u32 = 0;
-    let mut i = count;
-    while at < i {
-        i -= 1;
-        let test = is_ruled_out(blocks, i, is_out(out, i - at), high, low);
-        r = 2 * r + number_of(test);
+    let mut gains: u64 = 0;
+    let mut i = at;
+    while i < count {
+        let k = i - at;
+        let gone = is_gone(blocks[PARENT + i], at, set, r);
+        let test = is_ruled_out(blocks, i, is_out(out, k), gone, high, low);
+        r = r + choose(test, bit(k as u32), 0);
+        gains = gains + (choose(test, blocks[GAIN + i], 0) as u64);
+        i += 1;
     }
-    r
+    Ruled { out: r, gains }
 }
 
 // Whether the other way to decide the block that was decided last loses the limit or more: then what a branch can reach is as it was before that block.
@@ -70,7 +110,8 @@ pub struct Judged {
 
 // A branch is dropped where no completion can be lawful and lose less than the limit: where the decided blocks lose as much already, where an hour can no
 // longer balance, where the least gaps within reach come to as much, or where a taken block misses its limit at the best prices within reach. An undecided
-// block that misses its limit there is out.
+// block that misses its limit there is out, and so is a child of one that is out or left out; the branch is dropped too where what they would gain and the
+// least gaps come to as much.
 pub fn judge(
     unit_prices: &[u32],
     gap: &[u32],
@@ -106,7 +147,8 @@ pub fn judge(
     let from = reach.from;
     let to = reach.to;
     let often = hours[CHANGE];
-    if limit <= node.loss + counted_least_gaps(gap, &hours[TURN..CHANGE], from, to, often) {
+    let least = node.loss + counted_least_gaps(gap, &hours[TURN..CHANGE], from, to, often);
+    if limit <= least {
         return drop;
     }
     let high = counted_prices(prices_at(unit_prices, from), often);
@@ -114,8 +156,10 @@ pub fn judge(
     if !keeps_limits(blocks, at, node.set, &high, &lowest) {
         return drop;
     }
+    let ruled = ruled_out(blocks, count as usize, at, node.set, out, &high, &lowest);
+    let with_gains = least + ruled.gains;
     Judged {
-        dropped: false,
-        out: ruled_out(blocks, count as usize, at, out, &high, &lowest),
+        dropped: limit <= with_gains,
+        out: ruled.out,
     }
 }

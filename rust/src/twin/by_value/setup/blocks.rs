@@ -1,15 +1,15 @@
 // Written by `twin_source` from crates/setup/src/blocks.rt.
-// The blocks for the search: what they trade in each hour, their six columns at the root prices, and a row of hours for each.
+// The blocks for the search: what they trade in each hour, their six columns at the root prices, their parents, and a row of hours for each.
 use crate::twin::by_value::book::hours::counted_hours;
 use crate::twin::by_value::places::added::moved;
 use crate::twin::by_value::places::layout::AGAINST;
-use crate::twin::by_value::places::layout::AHEAD;
 use crate::twin::by_value::places::layout::BLOCK_LIST;
 use crate::twin::by_value::places::layout::BLOCK_ROWS;
 use crate::twin::by_value::places::layout::GAIN;
 use crate::twin::by_value::places::layout::HOURS;
 use crate::twin::by_value::places::layout::LIMIT;
 use crate::twin::by_value::places::layout::MOST_BLOCKS;
+use crate::twin::by_value::places::layout::PARENT;
 use crate::twin::by_value::places::layout::QUANTITY;
 use crate::twin::by_value::places::layout::RUNS;
 use crate::twin::by_value::places::layout::SIDE;
@@ -19,8 +19,8 @@ use crate::twin::by_value::places::numbers::choose;
 use crate::twin::by_value::places::numbers::larger;
 use crate::twin::by_value::places::numbers::less;
 
-// How much the first six columns hold, those in front of the twins'.
-const SIX_COLUMNS: usize = AHEAD;
+// How much the first six columns hold, those in front of the parents'.
+const SIX_COLUMNS: usize = PARENT;
 
 // The largest number of a column of hours.
 pub fn largest(column: [u32; HOURS]) -> u32
@@ -108,7 +108,7 @@ pub fn block_columns(
     columns
 }
 
-// The blocks' six columns with room for their twins and rows.
+// The blocks' six columns with room for their parents, twins and rows.
 pub fn widened(columns: [u32; SIX_COLUMNS]) -> [u32; BLOCK_LIST]
 {
     let mut r = [0; BLOCK_LIST];
@@ -116,6 +116,18 @@ pub fn widened(columns: [u32; SIX_COLUMNS]) -> [u32; BLOCK_LIST]
     while k < SIX_COLUMNS {
         r[k] = columns[k];
         k += 1;
+    }
+    r
+}
+
+// The same with the parent of each block.
+pub fn with_parents(parents: [u32; MOST_BLOCKS], blocks: [u32; BLOCK_LIST]) -> [u32; BLOCK_LIST]
+{
+    let mut r = blocks;
+    let mut i: usize = 0;
+    while i < MOST_BLOCKS {
+        r[PARENT + i] = parents[i];
+        i += 1;
     }
     r
 }

@@ -1,12 +1,12 @@
--- `search::explore::bit` meets its contract. Assumes nothing.
+-- `search::judge::bit` meets its contract. Assumes nothing.
 use mathlib.Core.Path.{_∙_}
 use native.Mathlib.Omega.{arith}
 use native.Mathlib.Nat.{one-mul}
 use lib.Pow.{shl-exact}
 use lib.Dec.{lit<}
 use borrow.Author.Needs.{needs}
-use Rattle.search.proofs.explore.bit.Statement.{statement}
-use Rattle.search.proofs.explore.bit.Tie as tie
+use Rattle.search.proofs.judge.bit.Statement.{statement}
+use Rattle.search.proofs.judge.bit.Tie as tie
 
 shl-result : tie.Need-shl-result
 shl-result c = search needs

@@ -1,0 +1,2 @@
+-- What each block of a book gains. Definitions only.
+pub mod Gains
