@@ -40,8 +40,8 @@ returns c =
     λ day p rest same known turning.
     pass-is (start l .pre .0 .few) (blocks-fit l) (gaps-fit l) known turning same (found .explore .ensures) (c .if1 .taken)
 
-mul-limit : tie.Need-mul-limit Inv-loop μ-loop
-mul-limit c = search needs
+limit-after-requires : tie.Need-limit-after-requires Inv-loop μ-loop
+limit-after-requires c κs = ?
 
 loop-less : tie.Need-loop-less Inv-loop μ-loop
 loop-less c = omega (arith, c .before .before .before .before .loop .inv)
@@ -70,7 +70,7 @@ find-spec =
     loop-holds
     explore-requires
     returns
-    mul-limit
+    limit-after-requires
     loop-less
     loop-again
     explore-requires-2
