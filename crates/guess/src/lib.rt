@@ -52,13 +52,7 @@ fn guess_by(
 }
 
 // The least that a lawful set loses of those that the rules find, or no guess.
-pub fn guess(
-    unit_prices: &[u32],
-    gap: &[u32],
-    hours: &[u32],
-    blocks: &[u32],
-    count: usize,
-) -> u64
+pub fn guess(unit_prices: &[u32], gap: &[u32], hours: &[u32], blocks: &[u32], count: usize) -> u64
     requires { ⌜ TablesHeld (now «unit_prices») (now gap) (now hours) (now blocks) count ⌝ }
     ensures { λ r. ⌜ r ≤ mostGuess ⌝ }
 {

@@ -84,7 +84,12 @@ fn urgency_of(rule: u32, blocks: &[u32], i: usize, taken: bool, prices: &[u32]) 
     if !taken {
         return 0;
     }
-    let miss = miss_of(blocks[SIDE + i], blocks[RUNS + i], blocks[LIMIT + i], prices);
+    let miss = miss_of(
+        blocks[SIDE + i],
+        blocks[RUNS + i],
+        blocks[LIMIT + i],
+        prices,
+    );
     if miss == 0 {
         return 0;
     }
@@ -116,7 +121,10 @@ fn missing_in(
         most = larger(most, urgent);
         i += 1;
     }
-    Missing { any: 0 < most, worst }
+    Missing {
+        any: 0 < most,
+        worst,
+    }
 }
 
 // What the decisions of a set lose at the root prices.

@@ -65,7 +65,10 @@ fn limit_after(
         return doubled;
     }
     let guessed = guess(unit_prices, gap, hours, blocks, count as usize);
-    if (guessed < doubled) | (MOST_BELIEVED < guessed) {
+    if guessed < doubled {
+        return doubled;
+    }
+    if MOST_BELIEVED < guessed {
         return doubled;
     }
     guessed + 1

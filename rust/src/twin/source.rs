@@ -12,8 +12,8 @@ use std::path::{Path, PathBuf};
 use std::{fs, io};
 
 /// The proved crates that a clearing runs.
-pub const CRATES: [&str; 11] = [
-    "records", "book", "orders", "pricing", "places", "tables", "search", "roots", "setup",
+pub const CRATES: [&str; 12] = [
+    "records", "book", "orders", "pricing", "places", "tables", "guess", "search", "roots", "setup",
     "result", "clearing",
 ];
 

@@ -41,13 +41,15 @@ returns c =
     pass-is (start l .pre .0 .few) (blocks-fit l) (gaps-fit l) known turning same (found .explore .ensures) (c .if1 .taken)
 
 limit-after-requires : tie.Need-limit-after-requires Inv-loop μ-loop
-limit-after-requires c κs = ?
+limit-after-requires c κs =
+    let p = start (c .before .before .before .before) .pre in
+    (p .0, p .1, c .before .before .before .before .loop .inv .0, c .before .before .before .loop-test .taken)
 
 loop-less : tie.Need-loop-less Inv-loop μ-loop
-loop-less c = omega (arith, c .before .before .before .before .loop .inv)
+loop-less c = omega (arith, c .limit-after .ensures)
 
 loop-again : tie.Need-loop-again Inv-loop μ-loop
-loop-again c = (omega (arith, c .before .before .before .before .loop .inv), omega (arith, c .before .before .before .loop-test .taken))
+loop-again c = (omega (arith, c .limit-after .ensures), c .limit-after .ensures .1)
 
 explore-requires-2 : tie.Need-explore-requires-2 Inv-loop μ-loop
 explore-requires-2 c κs =

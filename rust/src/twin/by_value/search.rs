@@ -2,6 +2,7 @@
 // The search over the blocks: each first taken and then left out, by loss at fixed hourly prices. Its tables hold, for each hour, the hour's unit prices and
 // gaps at each place; a place is what the taken blocks sell and the left-out blocks would buy in the hour. Assumes nothing.
 use crate::twin::by_value::search::explore::explore;
+use crate::twin::by_value::guess::guess;
 use crate::twin::by_value::places::layout::HOURS;
 
 mod decide; // all blocks are decided
@@ -34,10 +35,40 @@ pub struct Node {
 // The threshold of the first pass: the published set seldom loses as much.
 const FIRST_LIMIT: u64 = 1024;
 
+// The threshold after which one is guessed: ordinary days are found below it, and pay nothing for the guess.
+const LAST_BEFORE_GUESS: u64 = 8192;
+
+// The most that a guess is believed: a larger one is often far off.
+const MOST_BELIEVED: u64 = 48 * LAST_BEFORE_GUESS;
+
 // The threshold of the last pass, 2 to the power of 39: more than 32 blocks and 24 hours can lose, each of them less than 2 to the power of 32.
 const LAST_LIMIT: u64 = 549755813888;
 
-// The published set: a pass with a small threshold first, doubled until a pass finds a set. A pass that finds one has found the published one.
+// The threshold of the pass after one that found nothing: twice as much; or once, where a set is guessed that loses no less, just above what it loses.
+fn limit_after(
+    unit_prices: &[u32],
+    gap: &[u32],
+    hours: &[u32],
+    blocks: &[u32],
+    count: u32,
+    limit: u64,
+) -> u64
+{
+    let doubled = limit * 2;
+    if limit != LAST_BEFORE_GUESS {
+        return doubled;
+    }
+    let guessed = guess(unit_prices, gap, hours, blocks, count as usize);
+    if guessed < doubled {
+        return doubled;
+    }
+    if MOST_BELIEVED < guessed {
+        return doubled;
+    }
+    guessed + 1
+}
+
+// The published set: a pass with a small threshold first, then with larger ones until a pass finds a set. A pass that finds one has found the published one.
 pub fn find(
     unit_prices: &[u32],
     gap: &[u32],
@@ -84,7 +115,7 @@ pub fn find(
         if found.limit < limit {
             return found;
         }
-        limit = limit * 2;
+        limit = limit_after(unit_prices, gap, hours, blocks, count, limit);
     }
     let start = Best {
         limit: limit,

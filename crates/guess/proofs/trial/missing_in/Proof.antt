@@ -54,8 +54,7 @@ loop-less c = search needs
 loop-again : tie.Need-loop-again Inv-loop μ-loop
 loop-again c =
     let loop = c .before .before .before .before in
-    let inside = c .before .before .before .loop-test .taken in
-    (
+    let inside = c .before .before .before .loop-test .taken in (
       omega (arith, inside),
       chosen-less (ltb (loop .loop .most) (c .before .before .urgency-of .result)) (loop .loop .i) (loop .loop .worst) mostBlocks _ (c .before .choose .ensures) (omega (arith, inside, loop .before .before .before .pre .1)) (loop .loop .inv .1),
     )

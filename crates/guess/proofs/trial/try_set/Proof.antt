@@ -96,11 +96,10 @@ cast-t16 c = omega (arith, c .before .before .before .missing-in .ensures)
 
 -- src/trial.rt:162:1
 returns-2 : tie.Need-returns-2
-returns-2 c =
-    (
-      omega (arith, c .before .before .losses-of .ensures, c .before .before .before .before .before .before .before .before .before .counted-gaps .ensures .fits),
-      c .before .before .before .missing-in .ensures,
-    )
+returns-2 c = (
+  omega (arith, c .before .before .losses-of .ensures, c .before .before .before .before .before .before .before .before .before .counted-gaps .ensures .fits),
+  c .before .before .before .missing-in .ensures,
+)
 
 pub try-set-spec : {M : Type 1} → statement M
 try-set-spec =
