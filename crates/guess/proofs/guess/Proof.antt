@@ -1,13 +1,10 @@
+-- `guess::guess` meets its contract: the least of the rules' guesses is one of them. Assumes nothing.
 use Prim.Native.Nat.{_-_, _≤_}
 use native.Mathlib.Omega.{arith}
 use Rattle.guess.specs.Guess.{mostGuess}
 use borrow.Author.Needs.{needs}
 use Rattle.guess.proofs.guess.Statement.{statement}
 use Rattle.guess.proofs.guess.Tie as tie
-use Rattle.guess.proofs.guess.Reads as reads
-use Rattle.guess.proofs.guess.Lts as lts
-use Rattle.guess.proofs.guess_by.Reads as guess-by-reads
-use Rattle.pricing.proofs.execution.lesser.Reads as lesser-reads
 
 abbrev Inv-loop : tie.InvT-loop
 Inv-loop unit-prices gap hours blocks count least₀ rule₀ least rule = (rule ≤ 4) × (least ≤ mostGuess)
@@ -15,33 +12,26 @@ Inv-loop unit-prices gap hours blocks count least₀ rule₀ least rule = (rule 
 abbrev μ-loop : tie.MeasureT-loop
 μ-loop unit-prices gap hours blocks count least₀ rule₀ least rule = 4 - rule
 
--- src/lib.rt:67:5
 loop-holds : tie.Need-loop-holds Inv-loop μ-loop
 loop-holds c = (omega arith, omega arith)
 
--- src/lib.rt:68:13
 guess-by-requires : tie.Need-guess-by-requires Inv-loop μ-loop
 guess-by-requires c κs = search needs
 
--- src/lib.rt:69:9
 lesser-requires : tie.Need-lesser-requires Inv-loop μ-loop
 lesser-requires c κs = search needs
 
--- src/lib.rt:70:9
 add-rule : tie.Need-add-rule Inv-loop μ-loop
 add-rule c = search needs
 
--- src/lib.rt:67:5
 loop-less : tie.Need-loop-less Inv-loop μ-loop
 loop-less c = search needs
 
--- src/lib.rt:67:5
 loop-again : tie.Need-loop-again Inv-loop μ-loop
 loop-again c =
     let loop = c .before .before .before in
     (omega (arith, c .before .before .loop-test .taken), omega (arith, c .lesser .ensures, loop .loop .inv .1))
 
--- src/lib.rt:55:1
 returns : tie.Need-returns Inv-loop μ-loop
 returns c = c .before .loop .inv .1
 

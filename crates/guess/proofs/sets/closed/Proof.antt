@@ -1,11 +1,10 @@
-use Rattle.places.specs.Layout.{parentColumn}
+-- `guess::sets::closed` is safe: a parent's number is that of an earlier block. Assumes nothing.
 use Prim.Native.Nat.{_+_, _-_, _≤_}
 use native.Mathlib.Omega.{arith}
+use Rattle.places.specs.Layout.{parentColumn}
 use borrow.Author.Needs.{needs}
 use Rattle.guess.proofs.sets.closed.Statement.{statement}
 use Rattle.guess.proofs.sets.closed.Tie as tie
-use Rattle.guess.proofs.sets.closed.Reads as reads
-use Rattle.guess.proofs.sets.closed.Lts as lts
 
 abbrev Inv-loop : tie.InvT-loop
 Inv-loop blocks count r₀ i₀ r i = i ≤ count
@@ -13,57 +12,44 @@ Inv-loop blocks count r₀ i₀ r i = i ≤ count
 abbrev μ-loop : tie.MeasureT-loop
 μ-loop blocks count r₀ i₀ r i = count - i
 
--- src/sets.rt:37:5
 loop-holds : tie.Need-loop-holds Inv-loop μ-loop
 loop-holds c = omega arith
 
--- src/sets.rt:38:29
 add-parent : tie.Need-add-parent Inv-loop μ-loop
 add-parent c = search needs
 
--- src/sets.rt:38:22
 mul-parent : tie.Need-mul-parent Inv-loop μ-loop
 mul-parent c = search needs
 
--- src/sets.rt:38:22
 shared-slice-read-parent : tie.Need-shared-slice-read-parent Inv-loop μ-loop
 shared-slice-read-parent c = search needs
 
--- src/sets.rt:38:22
 cast-parent : tie.Need-cast-parent Inv-loop μ-loop
 cast-parent c = omega (arith, c .shared-slice-known .given (parentColumn + c .before .before .loop .i))
 
--- src/sets.rt:40:26
 sub-held : tie.Need-sub-held Inv-loop μ-loop
 sub-held c = search needs
 
--- src/sets.rt:40:24
 array-read-held : tie.Need-array-read-held Inv-loop μ-loop
 array-read-held c =
     let loop = c .before .before .before in
     omega (arith, loop .before .pre .1, loop .before .pre .0 .parentsFit (loop .loop .i) (omega (arith, loop .before .pre .1)))
 
--- src/sets.rt:41:20
 array-read-r : tie.Need-array-read-r Inv-loop μ-loop
 array-read-r c = search needs
 
--- src/sets.rt:41:13
 array-write-r : tie.Need-array-write-r Inv-loop μ-loop
 array-write-r c = search needs
 
--- src/sets.rt:43:9
 add-i : tie.Need-add-i Inv-loop μ-loop
 add-i c = search needs
 
--- src/sets.rt:37:5
 loop-less : tie.Need-loop-less Inv-loop μ-loop
 loop-less c = search needs
 
--- src/sets.rt:37:5
 loop-again : tie.Need-loop-again Inv-loop μ-loop
 loop-again c = search needs
 
--- src/sets.rt:32:1
 returns : tie.Need-returns Inv-loop μ-loop
 returns c = tt
 

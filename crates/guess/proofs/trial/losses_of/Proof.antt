@@ -1,15 +1,13 @@
+-- `guess::trial::losses_of` meets its contract: each decision loses a number of 32 bits. Assumes nothing.
+use Prim.Native.Nat.{_+_, _-_, _*_, _^_, _≤_, _<_}
 use mathlib.Core.Bool.{false}
+use native.Mathlib.Omega.{arith}
 use lib.ListN.{getD}
 use Rattle.places.specs.Layout.{againstColumn, gainColumn}
-use Rattle.guess.proofs.GuessLaws.{chosen-less}
-use Prim.Native.Nat.{_+_, _-_, _*_, _^_, _≤_, _<_}
-use native.Mathlib.Omega.{arith}
 use borrow.Author.Needs.{needs}
+use Rattle.guess.proofs.GuessLaws.{chosen-less}
 use Rattle.guess.proofs.trial.losses_of.Statement.{statement}
 use Rattle.guess.proofs.trial.losses_of.Tie as tie
-use Rattle.guess.proofs.trial.losses_of.Reads as reads
-use Rattle.guess.proofs.trial.losses_of.Lts as lts
-use Rattle.places.proofs.numbers.choose.Reads as choose-reads
 
 abbrev Inv-loop : tie.InvT-loop
 Inv-loop blocks count set sum₀ i₀ sum i = (i ≤ count) × (sum ≤ i * 2 ^ 32)
@@ -29,63 +27,49 @@ lost-small c =
 loop-holds : tie.Need-loop-holds Inv-loop μ-loop
 loop-holds c = (omega arith, omega arith)
 
--- src/trial.rt:122:23
 array-read-choose : tie.Need-array-read-choose Inv-loop μ-loop
 array-read-choose c = search needs
 
--- src/trial.rt:122:38
 add-choose : tie.Need-add-choose Inv-loop μ-loop
 add-choose c = search needs
 
--- src/trial.rt:122:31
 mul-choose : tie.Need-mul-choose Inv-loop μ-loop
 mul-choose c = search needs
 
--- src/trial.rt:122:31
 shared-slice-read-choose : tie.Need-shared-slice-read-choose Inv-loop μ-loop
 shared-slice-read-choose c = search needs
 
--- src/trial.rt:122:59
 add-choose-2 : tie.Need-add-choose-2 Inv-loop μ-loop
 add-choose-2 c = search needs
 
--- src/trial.rt:122:52
 mul-choose-2 : tie.Need-mul-choose-2 Inv-loop μ-loop
 mul-choose-2 c = search needs
 
--- src/trial.rt:122:52
 shared-slice-read-choose-2 : tie.Need-shared-slice-read-choose-2 Inv-loop μ-loop
 shared-slice-read-choose-2 c = search needs
 
--- src/trial.rt:122:16
 choose-requires : tie.Need-choose-requires Inv-loop μ-loop
 choose-requires c κs = search needs
 
--- src/trial.rt:122:16
 cast-sum : tie.Need-cast-sum Inv-loop μ-loop
 cast-sum c = search needs
 
--- src/trial.rt:122:9
 add-sum : tie.Need-add-sum Inv-loop μ-loop
 add-sum c =
     let loop = c .before .before .before .before in
     omega (arith, loop .loop .inv .0, loop .loop .inv .1, loop .before .before .pre .1, lost-small c)
 
--- src/trial.rt:123:9
 add-i : tie.Need-add-i Inv-loop μ-loop
 add-i c = search needs
 
--- src/trial.rt:121:5
 loop-less : tie.Need-loop-less Inv-loop μ-loop
 loop-less c = search needs
 
--- src/trial.rt:121:5
 loop-again : tie.Need-loop-again Inv-loop μ-loop
 loop-again c =
     let loop = c .before .before .before .before in
     (omega (arith, c .before .before .before .loop-test .taken), omega (arith, loop .loop .inv .1, lost-small c))
 
--- src/trial.rt:115:1
 returns : tie.Need-returns Inv-loop μ-loop
 returns c = omega (arith, c .before .loop .inv .1, c .before .loop .inv .0, c .before .before .before .pre .1)
 

@@ -1,16 +1,12 @@
-use lib.Dec.{ltb}
-use Rattle.guess.proofs.GuessLaws.{chosen-less}
+-- `guess::trial::missing_in` meets its contract: the worst is one of the blocks. Assumes nothing.
 use Prim.Native.Nat.{_-_, _≤_, _<_}
 use native.Mathlib.Omega.{arith}
+use lib.Dec.{ltb}
 use Rattle.book.specs.Bounds.{mostBlocks}
 use borrow.Author.Needs.{needs}
+use Rattle.guess.proofs.GuessLaws.{chosen-less}
 use Rattle.guess.proofs.trial.missing_in.Statement.{statement}
 use Rattle.guess.proofs.trial.missing_in.Tie as tie
-use Rattle.guess.proofs.trial.missing_in.Reads as reads
-use Rattle.guess.proofs.trial.missing_in.Lts as lts
-use Rattle.guess.proofs.trial.urgency_of.Reads as urgency-of-reads
-use Rattle.places.proofs.numbers.choose.Reads as choose-reads
-use Rattle.places.proofs.numbers.larger.Reads as larger-reads
 
 abbrev Inv-loop : tie.InvT-loop
 Inv-loop rule blocks count prices set worst₀ most₀ i₀ worst most i = (i ≤ count) × (worst < mostBlocks)
@@ -18,39 +14,30 @@ Inv-loop rule blocks count prices set worst₀ most₀ i₀ worst most i = (i �
 abbrev μ-loop : tie.MeasureT-loop
 μ-loop rule blocks count prices set worst₀ most₀ i₀ worst most i = count - i
 
--- src/trial.rt:113:5
 loop-holds : tie.Need-loop-holds Inv-loop μ-loop
 loop-holds c = (omega arith, omega arith)
 
--- src/trial.rt:114:50
 array-read-urgency-of : tie.Need-array-read-urgency-of Inv-loop μ-loop
 array-read-urgency-of c = search needs
 
--- src/trial.rt:114:13
 urgency-of-requires : tie.Need-urgency-of-requires Inv-loop μ-loop
 urgency-of-requires c κs = search needs
 
--- src/trial.rt:115:39
 cast-choose : tie.Need-cast-choose Inv-loop μ-loop
 cast-choose c = search needs
 
--- src/trial.rt:115:9
 choose-requires : tie.Need-choose-requires Inv-loop μ-loop
 choose-requires c κs = search needs
 
--- src/trial.rt:116:9
 larger-requires : tie.Need-larger-requires Inv-loop μ-loop
 larger-requires c κs = search needs
 
--- src/trial.rt:117:9
 add-i : tie.Need-add-i Inv-loop μ-loop
 add-i c = search needs
 
--- src/trial.rt:113:5
 loop-less : tie.Need-loop-less Inv-loop μ-loop
 loop-less c = search needs
 
--- src/trial.rt:113:5
 loop-again : tie.Need-loop-again Inv-loop μ-loop
 loop-again c =
     let loop = c .before .before .before .before in
@@ -59,7 +46,6 @@ loop-again c =
       chosen-less (ltb (loop .loop .most) (c .before .before .urgency-of .result)) (loop .loop .i) (loop .loop .worst) mostBlocks _ (c .before .choose .ensures) (omega (arith, inside, loop .before .before .before .pre .1)) (loop .loop .inv .1),
     )
 
--- src/trial.rt:100:1
 returns : tie.Need-returns Inv-loop μ-loop
 returns c = c .before .loop .inv .1
 
