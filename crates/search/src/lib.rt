@@ -5,9 +5,11 @@ ghost use Prim.Native.Nat.{_+_, _*_, _≤_, _<_};
 ghost use lib.ListN.{length};
 ghost use Rattle.places.specs.Layout.{hourPlaces, hourListSize, lastLimit};
 ghost use Rattle.places.specs.Steps.{stepsAt, StepsSized};
+ghost use Rattle.guess.specs.Guess.{mostGuess};
 ghost use Rattle.search.specs.Meaning.{Sized, FoundIn};
 ghost use Rattle.search.specs.Tables.{tablesOf};
 use crate::explore::explore;
+use guess::NO_GUESS;
 use guess::guess;
 use places::layout::HOURS;
 
@@ -38,38 +40,43 @@ pub struct Node {
 // The threshold of the first pass: the published set seldom loses as much.
 const FIRST_LIMIT: u64 = 1024;
 
-// The threshold after which one is guessed: ordinary days are found below it, and pay nothing for the guess.
+// The threshold after which the published set's loss is guessed: ordinary days are found below it, and pay nothing for the guess.
 const LAST_BEFORE_GUESS: u64 = 8192;
-
-// The most that a guess is believed: a larger one is often far off.
-const MOST_BELIEVED: u64 = 48 * LAST_BEFORE_GUESS;
 
 // The threshold of the last pass, 2 to the power of 39: more than 32 blocks and 24 hours can lose, each of them less than 2 to the power of 32.
 const LAST_LIMIT: u64 = 549755813888;
 
-// The threshold of the pass after one that found nothing: twice as much; or once, where a set is guessed that loses no less, just above what it loses.
-fn limit_after(
+// A guess of what the published set loses, made once, after the pass of one threshold; before it there is none.
+fn guess_after(
     unit_prices: &[u32],
     gap: &[u32],
     hours: &[u32],
     blocks: &[u32],
     count: u32,
     limit: u64,
+    guessed: u64,
 ) -> u64
     requires { ⌜ Sized (tablesOf (now «unit_prices») (now gap) (now hours) (now blocks) count) × (length (now hours) ≡ hourListSize)
-        × (1 ≤ limit) × (limit < lastLimit) ⌝ }
+        × (guessed ≤ mostGuess) ⌝ }
+    ensures { λ r. ⌜ r ≤ mostGuess ⌝ }
+{
+    if limit == LAST_BEFORE_GUESS {
+        return guess(unit_prices, gap, hours, blocks, count as usize);
+    }
+    guessed
+}
+
+// The threshold of the pass after one that found nothing: twice as much; or just above the guess, where that is no more than about three times as much.
+// A guess that is further off is often too high by far.
+fn limit_after(limit: u64, guessed: u64) -> u64
+    requires { ⌜ (1 ≤ limit) × (limit < lastLimit) × (guessed ≤ mostGuess) ⌝ }
     ensures { λ r. ⌜ (limit < r) × (r ≤ 2 * lastLimit) ⌝ }
 {
-    let doubled = limit * 2;
-    if limit != LAST_BEFORE_GUESS {
-        return doubled;
+    if guessed < limit {
+        return limit * 2;
     }
-    let guessed = guess(unit_prices, gap, hours, blocks, count as usize);
-    if guessed < doubled {
-        return doubled;
-    }
-    if MOST_BELIEVED < guessed {
-        return doubled;
+    if limit * 3 + limit / 8 < guessed {
+        return limit * 2;
     }
     guessed + 1
 }
@@ -101,6 +108,7 @@ pub fn find(
         places: [0; HOURS],
     };
     let mut limit = FIRST_LIMIT;
+    let mut guessed = NO_GUESS;
     while limit < LAST_LIMIT {
         let start = Best {
             limit: limit,
@@ -125,7 +133,8 @@ pub fn find(
         if found.limit < limit {
             return found;
         }
-        limit = limit_after(unit_prices, gap, hours, blocks, count, limit);
+        guessed = guess_after(unit_prices, gap, hours, blocks, count, limit, guessed);
+        limit = limit_after(limit, guessed);
     }
     let start = Best {
         limit: limit,

@@ -34,7 +34,8 @@ impl<const ROOM: usize> Guess<'_, ROOM> {
     /// What the first lawful set loses, unless a set on the way does not clear.
     fn by(&self, urgency: Urgency) -> Option<u64> {
         let left = |i: &usize| self.choices[*i].left == 0;
-        let mut set = (0..self.choices.len()).filter(left).fold(self.all(), |set, i| self.without(set, i));
+        let mut set =
+            (0..self.choices.len()).filter(left).fold(self.all(), |set, i| self.without(set, i));
         loop {
             let places = self.places(set)?;
             match self.worst(set, &places, urgency) {

@@ -73,9 +73,8 @@ struct Search<'a, const ROOM: usize, const LINKED: bool> {
     state: State,
 }
 
-/// The limit after which one is guessed, and the most that a guess is believed.
+/// The limit after which the published set's loss is guessed.
 const LAST_BEFORE_GUESS: u64 = 8_192;
-const MOST_BELIEVED: u64 = 48 * LAST_BEFORE_GUESS;
 
 /// Passes with a growing limit until one finds a set.
 pub fn find<const ROOM: usize, const LINKED: bool>(
@@ -86,6 +85,7 @@ pub fn find<const ROOM: usize, const LINKED: bool>(
     let mut search = Search::<ROOM, LINKED>::new(orders, hours, root);
     let start = search.state;
     let mut limit = 1024;
+    let mut guessed = None;
     loop {
         search.limit = limit;
         search.state = start;
@@ -93,7 +93,12 @@ pub fn find<const ROOM: usize, const LINKED: bool>(
         if search.found || limit >= 549_755_813_888 {
             return search.best;
         }
-        limit = search.limit_after(limit);
+        if limit == LAST_BEFORE_GUESS {
+            guessed = search.guess();
+        }
+        // A guess that is further off is often too high by far.
+        let near = limit..=3 * limit + limit / 8;
+        limit = guessed.filter(|loss| near.contains(loss)).map_or(2 * limit, |loss| loss + 1);
     }
 }
 
@@ -122,12 +127,9 @@ impl<'a, const ROOM: usize, const LINKED: bool> Search<'a, ROOM, LINKED> {
         Search { hours, day, choices, order, sells, all, limit: 0, found: false, best, state }
     }
 
-    /// Twice the limit, or once just above what a guessed set loses.
-    fn limit_after(&self, limit: u64) -> u64 {
-        let believed = 2 * limit..=MOST_BELIEVED;
-        let guess = || Guess { choices: &self.choices, hours: self.hours, day: &self.day }.least();
-        let guessed = if limit == LAST_BEFORE_GUESS { guess() } else { None };
-        guessed.filter(|loss| believed.contains(loss)).map_or(2 * limit, |loss| loss + 1)
+    /// A guess of what the published set loses.
+    fn guess(&self) -> Option<u64> {
+        Guess { choices: &self.choices, hours: self.hours, day: &self.day }.least()
     }
 
     /// Every way to decide the blocks from `at` on, each first taken and then left out.
