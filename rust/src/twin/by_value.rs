@@ -9,6 +9,9 @@ pub mod book;
 pub mod clearing;
 #[allow(clippy::all, unused)]
 #[rustfmt::skip]
+pub mod guess;
+#[allow(clippy::all, unused)]
+#[rustfmt::skip]
 pub mod orders;
 #[allow(clippy::all, unused)]
 #[rustfmt::skip]

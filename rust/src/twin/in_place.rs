@@ -11,9 +11,11 @@
 //! - `orders`: bytes to columns, or the refusal;
 //! - `hours`: the tables of the hours, by sorting their steps;
 //! - `root`: the prices that losses are counted at;
+//! - `guess`: a limit for one of its passes;
 //! - `search`: the search;
 //! - `publish`: the result.
 
+mod guess;
 mod hours;
 mod orders;
 mod publish;

@@ -3,16 +3,17 @@ use Prim.Native.Nat.{ℕ, _-_, _*_, _^_, _≤_, _<_}
 use lib.ListN.{getD}
 use native.Mathlib.Omega.{arith}
 use Rattle.places.specs.Layout.{lastLimit}
+use Rattle.guess.specs.Guess.{mostGuess}
 use Rattle.search.proofs.PassLaws.{root-fits, pass-is, pass-found}
 use borrow.Author.Needs.{needs}
 use Rattle.search.proofs.find.Statement.{statement}
 use Rattle.search.proofs.find.Tie as tie
 
 abbrev Inv-loop : tie.InvT-loop
-Inv-loop low gap hours blocks sides prices quantities ends count day root limit₀ limit = (1 ≤ limit) × (limit ≤ (2 * lastLimit))
+Inv-loop low gap hours blocks sides prices quantities ends count day root limit₀ guessed₀ limit guessed = (1 ≤ limit) × (limit ≤ (2 * lastLimit)) × (guessed ≤ mostGuess)
 
 abbrev μ-loop : tie.MeasureT-loop
-μ-loop low gap hours blocks sides prices quantities ends count day root limit₀ limit = (2 * lastLimit) - limit
+μ-loop low gap hours blocks sides prices quantities ends count day root limit₀ guessed₀ limit guessed = (2 * lastLimit) - limit
 
 -- the start behind the loop
 abbrev start : tie.At-loop Inv-loop μ-loop → tie.Start Inv-loop μ-loop
@@ -26,7 +27,7 @@ gaps-fit : (c : tie.At-loop Inv-loop μ-loop) (i : ℕ) → getD (start c .args 
 gaps-fit c i = omega (arith, c .before .before .before .before .before .before .before .shared-slice-known2 .given i)
 
 loop-holds : tie.Need-loop-holds Inv-loop μ-loop
-loop-holds c = (omega arith, omega arith)
+loop-holds c = (omega arith, omega arith, omega arith)
 
 explore-requires : tie.Need-explore-requires Inv-loop μ-loop
 explore-requires c κs =
@@ -40,14 +41,21 @@ returns c =
     λ day p rest same known turning.
     pass-is (start l .pre .0 .few) (blocks-fit l) (gaps-fit l) known turning same (found .explore .ensures) (c .if1 .taken)
 
-mul-limit : tie.Need-mul-limit Inv-loop μ-loop
-mul-limit c = search needs
+guess-after-requires : tie.Need-guess-after-requires Inv-loop μ-loop
+guess-after-requires c κs =
+    let l = c .before .before .before .before in
+    (start l .pre .0, start l .pre .1, l .loop .inv .2)
+
+limit-after-requires : tie.Need-limit-after-requires Inv-loop μ-loop
+limit-after-requires c κs =
+    let l = c .before .before .before .before .before in
+    (l .loop .inv .0, c .before .before .before .before .loop-test .taken, c .guess-after .ensures)
 
 loop-less : tie.Need-loop-less Inv-loop μ-loop
-loop-less c = omega (arith, c .before .before .before .before .loop .inv)
+loop-less c = omega (arith, c .limit-after .ensures)
 
 loop-again : tie.Need-loop-again Inv-loop μ-loop
-loop-again c = (omega (arith, c .before .before .before .before .loop .inv), omega (arith, c .before .before .before .loop-test .taken))
+loop-again c = (omega (arith, c .limit-after .ensures), c .limit-after .ensures .1, c .before .guess-after .ensures)
 
 explore-requires-2 : tie.Need-explore-requires-2 Inv-loop μ-loop
 explore-requires-2 c κs =
@@ -70,7 +78,8 @@ find-spec =
     loop-holds
     explore-requires
     returns
-    mul-limit
+    guess-after-requires
+    limit-after-requires
     loop-less
     loop-again
     explore-requires-2

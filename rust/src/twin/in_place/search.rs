@@ -1,5 +1,6 @@
 //! The search: the proved code's tree, with one state changed and changed back.
 
+use super::guess::Guess;
 use super::hours::Hours;
 use super::orders::{Block, Day, Orders, CHANGED};
 use super::root::{prices_at, Mask};
@@ -14,14 +15,14 @@ pub struct Best {
 }
 
 /// A block as the search needs it.
-struct Choice {
-    sells: bool,
+pub struct Choice {
+    pub sells: bool,
     limit: u32,
     /// What is lost by taking it and by leaving it out; one of the two is 0.
-    taken: u64,
-    left: u64,
+    pub taken: u64,
+    pub left: u64,
     /// Its quantity at its hours.
-    row: ByHour<u16>,
+    pub row: ByHour<u16>,
     mask: Mask,
     /// The blocks that have an hour in common with it, itself among them.
     near: u32,
@@ -33,7 +34,7 @@ struct Choice {
     /// The bit of the twin that is taken next after it, of those with lower numbers.
     behind: u32,
     /// The blocks that are not taken without it: its children, theirs and so on.
-    below: u32,
+    pub below: u32,
 }
 
 /// What is known of a branch.
@@ -72,7 +73,10 @@ struct Search<'a, const ROOM: usize, const LINKED: bool> {
     state: State,
 }
 
-/// Passes with a doubled limit until one finds a set.
+/// The limit after which the published set's loss is guessed.
+const LAST_BEFORE_GUESS: u64 = 8_192;
+
+/// Passes with a growing limit until one finds a set.
 pub fn find<const ROOM: usize, const LINKED: bool>(
     orders: &Orders,
     hours: &Hours<ROOM>,
@@ -81,6 +85,7 @@ pub fn find<const ROOM: usize, const LINKED: bool>(
     let mut search = Search::<ROOM, LINKED>::new(orders, hours, root);
     let start = search.state;
     let mut limit = 1024;
+    let mut guessed = None;
     loop {
         search.limit = limit;
         search.state = start;
@@ -88,7 +93,12 @@ pub fn find<const ROOM: usize, const LINKED: bool>(
         if search.found || limit >= 549_755_813_888 {
             return search.best;
         }
-        limit *= 2;
+        if limit == LAST_BEFORE_GUESS {
+            guessed = search.guess();
+        }
+        // A guess that is further off is often too high by far.
+        let near = limit..=3 * limit + limit / 8;
+        limit = guessed.filter(|loss| near.contains(loss)).map_or(2 * limit, |loss| loss + 1);
     }
 }
 
@@ -115,6 +125,11 @@ impl<'a, const ROOM: usize, const LINKED: bool> Search<'a, ROOM, LINKED> {
         let best = Best::default();
         let day = orders.day;
         Search { hours, day, choices, order, sells, all, limit: 0, found: false, best, state }
+    }
+
+    /// A guess of what the published set loses.
+    fn guess(&self) -> Option<u64> {
+        Guess { choices: &self.choices, hours: self.hours, day: &self.day }.least()
     }
 
     /// Every way to decide the blocks from `at` on, each first taken and then left out.
@@ -294,17 +309,27 @@ impl<'a, const ROOM: usize, const LINKED: bool> Search<'a, ROOM, LINKED> {
 impl Choice {
     /// Whether the block misses its limit at prices.
     fn misses(&self, prices: &ByHour<u32>) -> bool {
+        self.miss(prices) != 0
+    }
+
+    /// By how much.
+    pub fn miss(&self, prices: &ByHour<u32>) -> u32 {
         let sum = self.mask.sum(prices);
         if self.sells {
-            sum < self.limit
+            self.limit.saturating_sub(sum)
         } else {
-            self.limit < sum
+            sum.saturating_sub(self.limit)
         }
+    }
+
+    /// What it trades in all its hours.
+    pub fn size(&self) -> u32 {
+        self.row.into_iter().map(u32::from).sum()
     }
 }
 
 /// The numbers of the bits that are set.
-fn bits_of(bits: u32) -> impl Iterator<Item = usize> {
+pub fn bits_of(bits: u32) -> impl Iterator<Item = usize> {
     let mut rest = bits;
     std::iter::from_fn(move || {
         let bit = (rest != 0).then(|| rest.trailing_zeros() as usize);

@@ -1,0 +1,2 @@
+-- A limit for a pass of the search: the laws of its safety.
+pub mod GuessLaws
