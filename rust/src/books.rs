@@ -40,7 +40,8 @@ pub use expected::Expected;
 pub use families::{full_day, linked_day, Family, FAMILIES};
 pub use links::{link_edges, Shape};
 pub use lists::{
-    damaged_list, list_edges, list_of, random_list, tiny_list, ListEdge, ListStep, BUY, SELL,
+    damaged_list, list_edges, list_of, random_list, tiny_list, ListEdge, ListFamily, ListStep, BUY,
+    LIST_FAMILIES, SELL,
 };
 pub use random::{
     pricing_case, pricing_case_of, small_book, small_book_of, small_orders, small_orders_of,

@@ -111,6 +111,35 @@ fn steps_with(
     (0..count).map(step).collect()
 }
 
+/// A kind of full lists for the benchmark.
+pub struct ListFamily {
+    pub name: &'static str,
+    /// The price of the step at a place.
+    price: fn(u32, &mut Dice) -> u32,
+}
+
+/// The families of the benchmark, by their prices.
+pub const LIST_FAMILIES: [ListFamily; 4] = [
+    ListFamily { name: "any prices", price: |_, dice| dice.between(1, 300_000) },
+    ListFamily { name: "rising prices", price: |at, _| 1_000 * (at + 1) },
+    ListFamily { name: "four prices", price: |_, dice| dice.pick(&[2_900, 3_000, 3_001, 5_000]) },
+    ListFamily { name: "one price", price: |_, _| 3_000 },
+];
+
+impl ListFamily {
+    /// As many steps as there may be, none of which may be nothing, so that a book can have
+    /// them at any choice of quantities.
+    pub fn steps(&self, seed: u64) -> Vec<ListStep> {
+        let mut dice = Dice::new(seed ^ 0x6675_6c6c_0000_0000);
+        let step = |at| {
+            let (side, price) = (dice.between(BUY, SELL), (self.price)(at, &mut dice));
+            let (one, other) = (dice.between(1, 999), dice.between(1, 999));
+            ListStep { side, price, low: one.min(other), high: one.max(other) }
+        };
+        (0..MOST_STEPS as u32).map(step).collect()
+    }
+}
+
 /// A list for a reader: right ones, one or two wrong fields, changed bytes, another length, and
 /// plain noise.
 pub fn damaged_list(seed: u64) -> Vec<u8> {
