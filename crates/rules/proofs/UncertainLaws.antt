@@ -126,7 +126,7 @@ one-greatest-price l p q a b =
     omega (arith, x, y, a .met .priced, b .met .priced)
 
 -- AN HOUR WITHOUT BLOCKS ALWAYS CLEARS
-prices-in-range : (l : List UncertainStep) (quantities : List ℕ) → FiguresInRange l → PricesInRange (stepsAt l quantities)
+pub prices-in-range : (l : List UncertainStep) (quantities : List ℕ) → FiguresInRange l → PricesInRange (stepsAt l quantities)
 unfolding stepsAt
 prices-in-range [] quantities r = tt
 prices-in-range (s ∷ l) [] r = tt

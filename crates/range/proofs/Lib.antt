@@ -1,0 +1,2 @@
+-- The laws that the functions' proofs cite; each function's own proof stands in its folder.
+pub mod RangeLaws
