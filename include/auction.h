@@ -26,8 +26,8 @@ extern "C" {
 #define AUCTION_RESULT_RECORD 4       /* what each record of the book adds, the head included */
 #define AUCTION_MOST_SHEET 781        /* a sheet */
 #define AUCTION_MOST_FAMILIES 587     /* a family report */
-#define AUCTION_LIST_STEP_SIZE 16     /* a step of a list */
-#define AUCTION_MOST_LIST_STEPS 256   /* steps of a list */
+#define AUCTION_ENTRY_SIZE 16         /* an entry of a list, a step */
+#define AUCTION_MOST_ENTRIES 256      /* entries of a list */
 #define AUCTION_MOST_LIST 4096        /* a list; a longer one is refused */
 #define AUCTION_STACK 2097152         /* the stack that a call needs at most */
 

@@ -49,7 +49,7 @@ def list_of(*steps: tuple) -> bytes:
 
 def full_list(book: bytes) -> bytes:
     """A list of as many steps as there may be; a book's length says which."""
-    steps = range(auction._NUMBERS["MOST_LIST_STEPS"])
+    steps = range(auction._NUMBERS["MOST_ENTRIES"])
     return list_of(*((at % 2, 1 + at * len(book) % 300_000, at, 99_999 - at) for at in steps))
 
 

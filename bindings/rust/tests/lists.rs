@@ -46,8 +46,8 @@ fn refusals() {
         other[at] = wrong;
         assert_eq!(auction::price_range(&list(&[step, other])), Err(Refusal::List), "{other:?}");
     }
-    let most = header::MOST_LIST_STEPS as usize;
-    assert_eq!(header::MOST_LIST, header::MOST_LIST_STEPS * header::LIST_STEP_SIZE);
+    let most = header::MOST_ENTRIES as usize;
+    assert_eq!(header::MOST_LIST, header::MOST_ENTRIES * header::ENTRY_SIZE);
     let full = list(&vec![step; most + 1]);
     for length in 0..=full.len() {
         let right = length % 16 == 0 && length <= header::MOST_LIST as usize;

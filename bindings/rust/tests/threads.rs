@@ -26,7 +26,7 @@ fn books() -> Vec<(String, Vec<u8>)> {
 /// A list of as many steps as there may be; a book's length says which.
 fn full_list(book: &[u8]) -> Vec<u8> {
     let step = |at: u32| [at % 2, 1 + at * book.len() as u32 % 300_000, at, 99_999 - at];
-    (0..header::MOST_LIST_STEPS).flat_map(step).flat_map(u32::to_be_bytes).collect()
+    (0..header::MOST_ENTRIES).flat_map(step).flat_map(u32::to_be_bytes).collect()
 }
 
 /// What every call says of a book, and of a list that goes with it.

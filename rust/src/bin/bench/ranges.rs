@@ -37,7 +37,7 @@ fn family(family: &ListFamily) -> bool {
     let right = all.iter().all(|one| one.right);
     let cells = [
         family.name.to_string(),
-        header::MOST_LIST_STEPS.to_string(),
+        header::MOST_ENTRIES.to_string(),
         micros(range),
         micros(prices),
         ratio(range, prices),
