@@ -199,8 +199,8 @@ const WRONG: [fn(ListStep, &mut Dice) -> ListStep; 6] = [
 ];
 
 /// Fields out of their range: next to it, and right in their last bytes alone.
-const WRONG_SIDES: [u32; 8] =
-    [2, 3, 255, 1 << 8, 1 << 16 | SELL, 1 << 24, 1 << 24 | SELL, u32::MAX];
+const WRONG_SIDES: [u32; 10] =
+    [2, 3, 255, 1 << 8, 1 << 8 | SELL, 1 << 16, 1 << 16 | SELL, 1 << 24, 1 << 24 | SELL, u32::MAX];
 const WRONG_PRICES: [u32; 6] = [0, 300_001, 1 << 24 | 3_000, 1 << 31 | 1, 1 << 19, u32::MAX];
 const WRONG_QUANTITIES: [u32; 6] = [100_000, 100_001, 1 << 17, 1 << 24 | 5, 1 << 31, u32::MAX];
 

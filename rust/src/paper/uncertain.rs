@@ -69,17 +69,14 @@ fn step_of(bytes: &[u8]) -> Option<UncertainStep> {
 pub fn price_range_by_choices(list: &[u8]) -> Result<PriceRange, u8> {
     let list = read_list(list)?;
     let mut chosen: Vec<u32> = list.iter().map(|step| step.low).collect();
-    let mut range = at_one(price_of(&list, &chosen));
+    let first = price_of(&list, &chosen);
+    let mut range = PriceRange { least: first, greatest: first };
     while next_choice(&list, &mut chosen) {
         let price = price_of(&list, &chosen);
         range.least = range.least.min(price);
         range.greatest = range.greatest.max(price);
     }
     Ok(range)
-}
-
-fn at_one(price: u32) -> PriceRange {
-    PriceRange { least: price, greatest: price }
 }
 
 /// Goes to the next choice of quantities, the first step's counting fastest; says whether
