@@ -33,6 +33,7 @@ use Rattle.range.specs.Corners.{sideNumber, leastQuantity, greatestQuant
 use Rattle.range.specs.declared.Entry.{Entry}
 use Rattle.range.specs.declared.PriceRange.{PriceRange}
 use Rattle.range.specs.declared.PriceRange.the-variants.{Prices, Refused}
+use Rattle.range.proofs.Cases
 
 -- ONE ENTRY MORE
 map-append : {A : Type 0} (f : ℕ → A) (l m : List ℕ) → map f (l ++ m) ≡ map f l ++ map f m
