@@ -32,9 +32,7 @@ const HIGH: u32 = 2;
 
 const PRICE: u32 = 3;
 
-// The parts of the answer of a price range: which it is; the least price and the greatest.
-const RANGE_ANSWER: u32 = 0;
-
+// .. and of a price range: which it is; the least price and the greatest.
 const LEAST: u32 = 1;
 
 const GREATEST: u32 = 2;
@@ -87,13 +85,7 @@ pub extern "C" fn auction_range(list: &[u8], part: u32) -> u32
 {
     let found = price_range(list);
     match found {
-        PriceRange::Refused(refusal) => {
-            if part == RANGE_ANSWER {
-                refusal as u32
-            } else {
-                0
-            }
-        }
+        PriceRange::Refused(number) => { if part == ANSWER { number as u32 } else { 0 } }
         PriceRange::Prices { least, greatest } => {
             if part == LEAST {
                 least
