@@ -18,6 +18,7 @@ use Rattle.rules.specs.Uncertain.{leastCorner, greatestCorner}
 use Rattle.rules.proofs.Tests.{by-test}
 use Rattle.rules.proofs.PricingLaws.{pricing-net}
 use Rattle.rules.proofs.UncertainLaws.{prices-in-range, least-price, greatest-price, least-price-corner, greatest-price-corner}
+use Rattle.records.specs.Layout.{lastSide}
 use Rattle.book.specs.Tests.{within, someBelow}
 use Rattle.book.proofs.Laws.{and-left, and-right, or-left, or-right}
 use Rattle.book.proofs.Members.{Each, each-append, none-below}
@@ -27,7 +28,7 @@ use Rattle.pricing.specs.Curves.{bias, hourWith, Columns}
 use Rattle.pricing.specs.Answers.{answerFor, AnswerOf}
 use Rattle.pricing.specs.declared.HourAnswer as hour
 use Rattle.pricing.specs.declared.HourAnswer.the-variants as answer-of
-use Rattle.range.specs.Layout.{entrySize, mostEntries}
+use Rattle.range.specs.Layout.{entrySize, mostEntries, mostFigure}
 use Rattle.range.specs.Range.{entryAt, entryFits, uncertainOf, entryCount, below, uncertainSteps, wrongSize, outOfRange, wrongList, rangeOf, numberOf}
 use Rattle.range.specs.Corners.{sideNumber, leastQuantity, greatestQuantity, InFront, Decoded, PriceOf}
 use Rattle.range.specs.declared.Entry.{Entry}
@@ -72,26 +73,33 @@ by-sell (suc n) forBuy forSell h = refl
 abbrev stepsOf : List ℕ → List ℕ → List UncertainStep
 stepsOf b = map (λ i. uncertainOf (entryAt b i))
 
-least-steps : (b l : List ℕ) → stepsFrom 1 (map (λ i. sideNumber (entryAt b i)) l) (map (λ i. entryAt b i .price) l) (map (λ i. leastQuantity (entryAt b i)) l)
-    ≡ stepsAt (stepsOf b l) (leastCorner (stepsOf b l))
-unfolding stepsFrom stepsAt leastCorner
-least-steps b [] = refl
-least-steps b (i ∷ l) = rw (side-same (entryAt b i .side), least-steps b l)
+-- the columns with any quantities f are the steps at these quantities ..
+columns-steps : (f : Entry → ℕ) (b l : List ℕ) →
+    stepsFrom 1 (map (λ i. sideNumber (entryAt b i)) l) (map (λ i. entryAt b i .price) l) (map (λ i. f (entryAt b i)) l)
+    ≡ stepsAt (stepsOf b l) (map (λ i. f (entryAt b i)) l)
+unfolding stepsFrom stepsAt
+columns-steps f b [] = refl
+columns-steps f b (i ∷ l) = rw (side-same (entryAt b i .side), columns-steps f b l)
 
-greatest-steps : (b l : List ℕ) → stepsFrom 1 (map (λ i. sideNumber (entryAt b i)) l) (map (λ i. entryAt b i .price) l) (map (λ i. greatestQuantity (entryAt b i)) l)
-    ≡ stepsAt (stepsOf b l) (greatestCorner (stepsOf b l))
-unfolding stepsFrom stepsAt greatestCorner
-greatest-steps b [] = refl
-greatest-steps b (i ∷ l) = rw (side-same (entryAt b i .side), greatest-steps b l)
+-- .. and a corner's quantities are its own
+least-corner : (b l : List ℕ) → map (λ i. leastQuantity (entryAt b i)) l ≡ leastCorner (stepsOf b l)
+unfolding leastCorner
+least-corner b [] = refl
+least-corner b (i ∷ l) = ap (λ (m : List ℕ). leastQuantity (entryAt b i) ∷ m) (least-corner b l)
+
+greatest-corner : (b l : List ℕ) → map (λ i. greatestQuantity (entryAt b i)) l ≡ greatestCorner (stepsOf b l)
+unfolding greatestCorner
+greatest-corner b [] = refl
+greatest-corner b (i ∷ l) = ap (λ (m : List ℕ). greatestQuantity (entryAt b i) ∷ m) (greatest-corner b l)
 
 -- AN ACCEPTED LIST has its figures in range
 figures-fit : (e : Entry) → entryFits e ≡ true → (1 ≤ e .price) × (e .price ≤ maxPrice) × (e .low ≤ e .high)
 unfolding entryFits
 figures-fit e t =
     let priced = within 1 (e .price) maxPrice in
-    let sided = leb (e .side) 1 in
-    let low = leb (e .low) 99999 in
-    let high = leb (e .high) 99999 in
+    let sided = leb (e .side) lastSide in
+    let low = leb (e .low) mostFigure in
+    let high = leb (e .high) mostFigure in
     let four = and-left (sided && priced && low && high) (leb (e .low) (e .high)) t in
     let p = bounds 1 (e .price) maxPrice (and-right sided priced (and-left (sided && priced) low (and-left (sided && priced && low) high four))) in
     (p .0, p .1, leb-true _ _ (and-right (sided && priced && low && high) (leb (e .low) (e .high)) t))
@@ -163,22 +171,26 @@ module _ (b sides prices low high : List ℕ) (right : wrongSize b ≡ false) (w
   unfolding uncertainSteps
   in-range = figures-in-range b all-fit
 
-  least-priced : (p : ℕ) → PriceOf (take (entryCount b) sides) (take (entryCount b) prices) (take (entryCount b) low) p → p ≡ leastPrice steps
+  -- a column's price is the middle price at its quantities
+  priced : (f : Entry → ℕ) (column : List ℕ) → InFront f b (entryCount b) column → (p : ℕ)
+      → PriceOf (take (entryCount b) sides) (take (entryCount b) prices) (take (entryCount b) column) p
+      → p ≡ middlePrice steps (map (λ i. f (entryAt b i)) (below (entryCount b)))
   unfolding middlePrice
-  least-priced p k =
-      let priced = rw (columns .sidesAre, columns .pricesAre, columns .leastAre, least-steps b (below (entryCount b))) at k in
-      priced (prices-in-range steps (leastCorner steps) in-range) ∙ sym (least-price-corner steps in-range)
-
-  greatest-priced : (p : ℕ) → PriceOf (take (entryCount b) sides) (take (entryCount b) prices) (take (entryCount b) high) p → p ≡ greatestPrice steps
-  unfolding middlePrice
-  greatest-priced p k =
-      let priced = rw (columns .sidesAre, columns .pricesAre, columns .greatestAre, greatest-steps b (below (entryCount b))) at k in
-      priced (prices-in-range steps (greatestCorner steps) in-range) ∙ sym (greatest-price-corner steps in-range)
+  priced f column front p k =
+      let at = rw (columns .sidesAre, columns .pricesAre, front, columns-steps f b (below (entryCount b))) at k in
+      at (prices-in-range steps (map (λ i. f (entryAt b i)) (below (entryCount b))) in-range)
 
   pub range-answered : (least greatest : ℕ) → PriceOf (take (entryCount b) sides) (take (entryCount b) prices) (take (entryCount b) low) least
       → PriceOf (take (entryCount b) sides) (take (entryCount b) prices) (take (entryCount b) high) greatest → Prices least greatest ≡ rangeOf b
   unfolding rangeOf wrongList uncertainSteps
-  range-answered least greatest l g = rw (right, all-fit, ← least-priced least l, ← greatest-priced greatest g)
+  range-answered least greatest l g =
+      let n = entryCount b in
+      let el : least ≡ leastPrice steps =
+      priced leastQuantity low (columns .leastAre) least l ∙ ap (middlePrice steps) (least-corner b (below n)) ∙ sym (least-price-corner steps in-range) in
+      let eg : greatest ≡ greatestPrice steps =
+      priced greatestQuantity high (columns .greatestAre) greatest g ∙ ap (middlePrice steps) (greatest-corner b (below n))
+      ∙ sym (greatest-price-corner steps in-range) in
+      rw (right, all-fit, ← el, ← eg)
 
 abbrev leastIn : PriceRange → ℕ
 leastIn (Prices least greatest) = least
