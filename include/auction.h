@@ -1,9 +1,9 @@
 /* The proved clearing of a day-ahead auction, for C and C++. `./build library` makes target/lib/libauction.a and libauction.so.
  *
- * A book is a string of bytes (docs/FORMATS.md). A call takes any bytes of any length: it always ends, answers as said below,
- * reads and writes within the lengths it is given, and keeps no pointer. Each pointer must be valid for its length, and what a
- * call writes to must not overlap its book. The calls share nothing: any number of threads may call at once, each with
- * AUCTION_STACK bytes of stack. A call has no heap.
+ * A book is a string of bytes, and so is a list (docs/FORMATS.md). A call takes any bytes of any length: it always ends, answers
+ * as said below, reads and writes within the lengths it is given, and keeps no pointer. Each pointer must be valid for its
+ * length, and what a call writes to must not overlap its book. The calls share nothing: any number of threads may call at once,
+ * each with AUCTION_STACK bytes of stack. A call has no heap.
  *
  * The bindings take the numbers from here, and the words of a refusal from the comment behind it.
  */
@@ -26,13 +26,16 @@ extern "C" {
 #define AUCTION_RESULT_RECORD 4       /* what each record of the book adds, the head included */
 #define AUCTION_MOST_SHEET 781        /* a sheet */
 #define AUCTION_MOST_FAMILIES 587     /* a family report */
+#define AUCTION_ENTRY_SIZE 16         /* an entry of a list, a step */
+#define AUCTION_MOST_ENTRIES 256      /* entries of a list */
+#define AUCTION_MOST_LIST 4096        /* a list; a longer one is refused */
 #define AUCTION_STACK 2097152         /* the stack that a call needs at most */
 
 /* The size of the result of a book with so many records, the head included. */
 #define AUCTION_RESULT_SIZE(records) (AUCTION_RESULT_HEAD + AUCTION_RESULT_RECORD * (size_t)(records))
 
 /* Answers. The first refusal whose cause holds is given, in the order 1 to 6, 9, 10, and then the call's own, 7 or 8; R is the
- * record count, the first two bytes of a book. A refusal is a byte. */
+ * record count, the first two bytes of a book. A list has no refusal but 17. A refusal is a byte. */
 #define AUCTION_DONE 0                /* accepted, cleared, or published */
 #define AUCTION_REFUSED_LENGTH 1      /* length not 16 x R, below 16 bytes, or R outside 1 to 2048 */
 #define AUCTION_REFUSED_HEAD 2        /* head: hours not 23, 24 or 25, edition not 1, 2 or 3, or bytes 8 to 15, in edition 3 bytes 10 to 15, not all 0 */
@@ -44,6 +47,7 @@ extern "C" {
 #define AUCTION_REFUSED_CALL 8        /* an hour outside 1 to 24, hour 3 of a 23-hour day, or a set that names a block position not there */
 #define AUCTION_REFUSED_HOURS 9       /* on a 23-hour day: a step for hour 3, or a block with fewer than two other hours */
 #define AUCTION_REFUSED_LINK 10       /* a link that names a block not in the book, or whose parent's number is not below the child's */
+#define AUCTION_REFUSED_LIST 17       /* a list longer than 4096 bytes or not a multiple of 16 bytes, a field of it out of range, or a low above its high */
 #define AUCTION_DOES_NOT_CLEAR 256    /* no price clears the hour under the set; no refusal */
 
 /* The parts of a price. */
@@ -51,6 +55,11 @@ extern "C" {
 #define AUCTION_PART_LOW 1            /* L, the least clearing price */
 #define AUCTION_PART_HIGH 2           /* H, the greatest clearing price */
 #define AUCTION_PART_PRICE 3          /* the price: (L + H) / 2, rounded down */
+
+/* The parts of a price range. */
+#define AUCTION_RANGE_ANSWER 0        /* whether there is a range */
+#define AUCTION_RANGE_LEAST 1         /* the least price */
+#define AUCTION_RANGE_GREATEST 2      /* the greatest price */
 
 /* Reads a book: AUCTION_DONE where it is accepted, or its refusal, 1 to 6, 9 or 10. */
 uint32_t auction_read(const uint8_t *book, size_t book_len);
@@ -72,6 +81,12 @@ uint32_t auction_sheet(const uint8_t *book, size_t book_len, uint8_t *out, size_
 /* Writes a book's family report, or the line `refused;` and the number, to the start of `out`, and answers its length, at most
  * AUCTION_MOST_FAMILIES. Where `out` is shorter than what there is to write it stays as it was. */
 uint32_t auction_families(const uint8_t *book, size_t book_len, uint8_t *out, size_t out_len);
+
+/* The least and the greatest price of an hour without blocks whose quantities are uncertain, over all choices of quantities that
+ * lie between the low and the high figure of each step. A step of the list is four numbers of 4 bytes, high byte first: side, 0
+ * buy or 1 sell, price, low, high. One part of the answer: AUCTION_RANGE_ANSWER gives AUCTION_DONE or AUCTION_REFUSED_LIST; the
+ * other parts give a price in cents per MWh, or 0 where there is none. */
+uint32_t auction_range(const uint8_t *list, size_t list_len, uint32_t part);
 
 #ifdef __cplusplus
 }

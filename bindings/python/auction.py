@@ -1,13 +1,14 @@
 """The proved clearing of a day-ahead auction: calls of libauction.so.
 
 `./build library` makes the library at the root of the repository; the environment variable
-AUCTION_LIBRARY names another file. A book is a `bytes` (docs/FORMATS.md) and nothing else; what
-is no book is refused, by an exception with the number and the words of the cause.
+AUCTION_LIBRARY names another file. A book is a `bytes`, and so is a list (docs/FORMATS.md), and
+nothing else; what is none is refused, by an exception with the number and the words of the cause.
 
     import auction
     outcome = auction.clear(book)
     outcome.hours[0].price, outcome.welfare, outcome.taken
     auction.families(book)[0].gain
+    auction.price_range(struct.pack(">8I", 0, 5000, 100, 100, 1, 3000, 60, 140)).greatest
 
     python3 -m auction day.book         prints the sheet of a book's file
 
@@ -33,7 +34,7 @@ class Missing(Exception):
 
 
 class Refused(Exception):
-    """A book or a call that is refused: `number`, 1 to 10, and the `words` of the cause."""
+    """A book, a call or a list that is refused: `number`, 1 to 10 or 17, and the `words` of the cause."""
 
     def __init__(self, number: int):
         self.number = number
@@ -67,6 +68,7 @@ _CALLS = {
     "auction_clear": (_BYTES, _SIZE, _BYTES, _SIZE),
     "auction_sheet": (_BYTES, _SIZE, _BYTES, _SIZE),
     "auction_families": (_BYTES, _SIZE, _BYTES, _SIZE),
+    "auction_range": (_BYTES, _SIZE, _NUMBER),
 }
 
 
@@ -159,6 +161,14 @@ class Family:
     gain: int
 
 
+@dataclass(frozen=True)
+class PriceRange:
+    """The least and the greatest price of an hour whose quantities are uncertain, in cents per MWh."""
+
+    least: int
+    greatest: int
+
+
 def read(book: bytes) -> None:
     """Reads a book, and raises Refused where it is not accepted."""
     _done(_library().auction_read(*_bytes(book)))
@@ -209,6 +219,18 @@ def family_report(book: bytes) -> str:
     return _text("auction_families", "MOST_FAMILIES", book)
 
 
+def price_range(list: bytes) -> PriceRange:
+    """The least and the greatest price of an hour without blocks, over all quantities between the low and the high
+    figure of each step of a list; no steps are a list too. Raises Refused."""
+    bytes_of_list = _bytes(list, "list")
+
+    def part(name: str) -> int:
+        return _library().auction_range(*bytes_of_list, _NUMBERS[name])
+
+    _done(part("RANGE_ANSWER"))
+    return PriceRange(part("RANGE_LEAST"), part("RANGE_GREATEST"))
+
+
 def _text(call: str, most: str, book: bytes) -> str:
     """What a call writes of a book."""
     out = ctypes.create_string_buffer(_NUMBERS[most])
@@ -216,10 +238,10 @@ def _text(call: str, most: str, book: bytes) -> str:
     return out.raw[:length].decode("ascii")
 
 
-def _bytes(book: bytes) -> Tuple[bytes, int]:
-    if not isinstance(book, bytes):
-        raise TypeError(f"a book is bytes, and not {type(book).__name__}")
-    return book, len(book)
+def _bytes(given: bytes, what: str = "book") -> Tuple[bytes, int]:
+    if not isinstance(given, bytes):
+        raise TypeError(f"a {what} is bytes, and not {type(given).__name__}")
+    return given, len(given)
 
 
 def _done(answer: int) -> None:

@@ -4,6 +4,7 @@ import copy
 import os
 import pickle
 import re
+import struct
 import subprocess
 import sys
 import tempfile
@@ -38,7 +39,18 @@ def said(book: bytes) -> tuple:
         prices = [auction.price(book, outcome.set, hour) for hour in hours_of(book)]
     except auction.Refused as refused:
         outcome, prices = refused.number, None
-    return outcome, prices, auction.sheet(book), auction.family_report(book)
+    return outcome, prices, auction.sheet(book), auction.family_report(book), auction.price_range(full_list(book))
+
+
+def list_of(*steps: tuple) -> bytes:
+    """A list of steps: side, price, low and high of each."""
+    return b"".join(struct.pack(">4I", *step) for step in steps)
+
+
+def full_list(book: bytes) -> bytes:
+    """A list of as many steps as there may be; a book's length says which."""
+    steps = range(auction._NUMBERS["MOST_ENTRIES"])
+    return list_of(*((at % 2, 1 + at * len(book) % 300_000, at, 99_999 - at) for at in steps))
 
 
 def hours_of(book: bytes) -> list:
@@ -104,6 +116,31 @@ class Calls(unittest.TestCase):
                 lines = [f"{family.block};{family.gain}" for family in auction.families(book)]
                 self.assertEqual(report.split("\n"), ["block;gain", *lines, ""], path.name)
 
+    def test_price_ranges(self):
+        self.assertEqual(auction.price_range(sample("wind.list")), auction.PriceRange(750, 2500))
+        self.assertEqual(auction.price_range(b""), auction.PriceRange(150_000, 150_000))
+        wind = list_of((0, 5000, 100, 100), (1, 3000, 60, 140))
+        self.assertEqual(auction.price_range(wind), auction.PriceRange(least=3000, greatest=5000))
+        for path in SAMPLES.glob("*.list"):
+            try:
+                found = auction.price_range(path.read_bytes())
+                told = f"least;{found.least}\ngreatest;{found.greatest}\n"
+            except auction.Refused as refused:
+                told = f"refused;{refused.number}\n"
+            self.assertEqual(told, path.with_suffix(".range").read_text(), path.name)
+
+    def test_what_is_no_list(self):
+        step = 1, 3000, 60, 140
+        for at, wrong in (0, 2), (0, 1 << 24), (1, 0), (1, 300_001), (2, 141), (3, 100_000):
+            other = [wrong if place == at else number for place, number in enumerate(step)]
+            self.assertEqual(refusal(auction.price_range, list_of(step, other)), 17, other)
+        full = list_of(*[step] * 257)
+        for length in [*range(81), 4080, 4095, 4096, 4097, 4112]:
+            expected = 0 if length % 16 == 0 and length <= 4096 else 17
+            self.assertEqual(refusal(auction.price_range, full[:length]), expected, length)
+        with self.assertRaisesRegex(auction.Refused, "^refused with 17: a list longer than 4096 bytes"):
+            auction.price_range(b"no list")
+
     def test_the_sheets_of_the_samples(self):
         for path in SAMPLES.glob("*.sheet"):
             book = path.with_suffix(".book").read_bytes()
@@ -111,7 +148,7 @@ class Calls(unittest.TestCase):
 
     def test_outcomes_and_prices_are_those_of_the_sheets(self):
         for name, book in books().items():
-            outcome, prices, sheet, _ = said(book)
+            outcome, prices, sheet, *_ = said(book)
             if prices is None:
                 self.assertEqual(sheet, f"refused;{outcome}\n", name)
                 continue
@@ -160,6 +197,8 @@ class Calls(unittest.TestCase):
             for call, *words in calls:
                 with self.assertRaisesRegex(TypeError, "a book is bytes, and not "):
                     call(other, *words)
+            with self.assertRaisesRegex(TypeError, "a list is bytes, and not "):
+                auction.price_range(other)
         for set_, hour in (-1, 1), (1 << 32, 1), (0, -1), (0, 1 << 32), (0.0, 1), (0, "1"):
             with self.assertRaisesRegex(ValueError, "expected a number of 32 bits"):
                 auction.price(book, set_, hour)

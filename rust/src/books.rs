@@ -7,6 +7,7 @@
 //! - `damage`: refused books, by cause or by accident;
 //! - `days`: both kinds for days of 23, 24 and 25 hours;
 //! - `links`: links among the blocks of edition 3, right and wrong;
+//! - `lists`: lists of steps whose quantities are uncertain, right and wrong;
 //! - `families`: large books for the benchmark;
 //! - `expected`: what is expected of the books in `bench-books`;
 //! - `worked`: the days of documents 01 and 02 that are checked by hand;
@@ -20,6 +21,7 @@ mod dice;
 mod expected;
 mod families;
 mod links;
+mod lists;
 mod random;
 mod worked;
 
@@ -37,6 +39,10 @@ pub use dice::Dice;
 pub use expected::Expected;
 pub use families::{full_day, linked_day, Family, FAMILIES};
 pub use links::{link_edges, Shape};
+pub use lists::{
+    damaged_list, list_edges, list_of, random_list, tiny_list, ListEdge, ListFamily, ListStep, BUY,
+    LIST_FAMILIES, SELL,
+};
 pub use random::{
     pricing_case, pricing_case_of, small_book, small_book_of, small_orders, small_orders_of,
     tiny_book, tiny_book_of,

@@ -7,7 +7,9 @@
 //!   refusal 7;
 //! - `contenders`: demand 3 taken literally, for tiny books;
 //! - `sheet`: what the program auction-print writes;
-//! - `families`: what the program family-print writes.
+//! - `families`: what the program family-print writes;
+//! - `uncertain`: the least and the greatest price of an hour whose quantities are uncertain, or
+//!   refusal 17.
 
 mod contenders;
 mod day;
@@ -15,6 +17,7 @@ mod families;
 mod hour;
 mod read;
 mod sheet;
+mod uncertain;
 
 pub use contenders::{contenders, for_each_contender, BestContender, Contender};
 pub use day::{
@@ -30,3 +33,6 @@ pub use read::{
     limits, passing_hours, read, Block, Book, Limits, Link, Side, Step, CHANGED_HOUR, HOURS,
 };
 pub use sheet::{sheet, sheet_of};
+pub use uncertain::{
+    price_of, price_range, price_range_by_choices, range_part, read_list, PriceRange, UncertainStep,
+};

@@ -1,10 +1,11 @@
-//! The library from C and C++: `examples/clear.c` compiled by `cc`, linked with the
-//! proved library and run on the samples and on what is no book; the header by itself.
+//! The library from C and C++: `examples/clear.c` and `examples/range.c` compiled by `cc`,
+//! linked with the proved library and run on the samples and on what is no book or no list;
+//! the header by itself.
 //! Compiled with the feature `proved` only.
 
 mod sample_files;
 
-use sample_files::{names, path, sample};
+use sample_files::{list_names, names, path, sample};
 use std::fs::{self, File};
 use std::path::{Path, PathBuf};
 use std::process::{Command, Output};
@@ -25,10 +26,10 @@ fn compiler(standard: &str) -> Command {
     cc
 }
 
-fn compiled() -> PathBuf {
-    let program = scratch("clear");
+fn compiled(name: &str) -> PathBuf {
+    let program = scratch(name);
     let mut cc = compiler("-std=c99");
-    cc.arg("-o").arg(&program).arg(repository().join("examples/clear.c"));
+    cc.arg("-o").arg(&program).arg(repository().join(format!("examples/{name}.c")));
     cc.arg(repository().join("target/lib/libauction.a"));
     assert!(cc.status().expect("cc starts").success(), "{cc:?}");
     program
@@ -40,7 +41,7 @@ fn cleared(program: &Path, book: &Path) -> Output {
 
 #[test]
 fn the_c_example_prints_the_sheets() {
-    let program = compiled();
+    let program = compiled("clear");
     for name in names() {
         let output = cleared(&program, &path(&name, "book"));
         assert_eq!(output.stdout, sample(&name, "sheet"), "{name}");
@@ -80,6 +81,24 @@ fn no_standard_output(program: &Path) {
         assert_eq!(output.status.code(), Some(2));
         assert!(told.contains("\nclear: cannot write standard output: "), "{told}");
     }
+}
+
+#[test]
+fn the_c_example_prints_price_ranges() {
+    let program = compiled("range");
+    for name in list_names() {
+        let output = cleared(&program, &path(&name, "list"));
+        assert_eq!(output.stdout, sample(&name, "range"), "{name}");
+        assert_eq!(output.status.code(), Some(name.starts_with("refused").into()), "{name}");
+    }
+    // A longer file is not cut.
+    let long = scratch("long.list");
+    for (bytes, code) in [(0, 0), (16, 0), (4_095, 1), (4_096, 0), (4_097, 1), (4_112, 1)] {
+        fs::write(&long, &[0, 0, 0, 1].repeat(1_028)[..bytes]).expect("a file");
+        assert_eq!(cleared(&program, &long).status.code(), Some(code), "{bytes} bytes");
+    }
+    let nowhere = cleared(&program, &path("no-such-sample", "list"));
+    assert_eq!((nowhere.status.code(), nowhere.stdout.len()), (Some(2), 0));
 }
 
 /// A program of the header alone, in C99 and in C++.

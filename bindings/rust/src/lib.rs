@@ -1,10 +1,10 @@
 //! The proved clearing of a day-ahead auction: safe calls of `libauction.a`, which
 //! `./build library` makes at the root of the repository.
 //!
-//! A book is a string of bytes (`docs/FORMATS.md`). Every call takes any bytes: what is no
-//! book is refused, with the number and the words of the cause. The calls share nothing, so
-//! that any number of threads may call at once; each needs a stack of at most [`STACK`]
-//! bytes, half of what a Rust thread has by itself.
+//! A book is a string of bytes, and so is a list (`docs/FORMATS.md`). Every call takes any
+//! bytes: what is no book, or no list, is refused, with the number and the words of the
+//! cause. The calls share nothing, so that any number of threads may call at once; each needs
+//! a stack of at most [`STACK`] bytes, half of what a Rust thread has by itself.
 //!
 //! ```
 //! let book = std::fs::read("../../samples/S5.book").expect("a sample");
@@ -16,6 +16,10 @@
 //!
 //! let book = std::fs::read("../../samples/linked-both.book").expect("a sample");
 //! assert_eq!(auction::families(&book)?, [auction::Family { block: 1, gain: 100_000 }]);
+//!
+//! let list = std::fs::read("../../samples/wind.list").expect("a sample");
+//! let range = auction::price_range(&list)?;
+//! assert_eq!((range.least, range.greatest), (750, 2500));
 //!
 //! let refused = auction::clear(b"no book").unwrap_err();
 //! assert_eq!((refused, refused.number()), (auction::Refusal::Length, 1));
@@ -47,6 +51,13 @@ pub enum Price {
     Clears { low: u32, high: u32, price: u32 },
     /// No price clears the hour under the set.
     DoesNotClear,
+}
+
+/// The least and the greatest price of an hour whose quantities are uncertain, in cents per MWh.
+#[derive(Clone, Copy, Debug, PartialEq, Eq, Hash)]
+pub struct PriceRange {
+    pub least: u32,
+    pub greatest: u32,
 }
 
 /// Reads a book: accepted, or refused.
@@ -129,4 +140,18 @@ pub fn families_into(book: &[u8], out: &mut [u8]) -> usize {
     let (bytes, length) = (out.as_mut_ptr(), out.len());
     // SAFETY: as in `clear_into`.
     unsafe { raw::auction_families(book.as_ptr(), book.len(), bytes, length) as usize }
+}
+
+/// The least and the greatest price of an hour without blocks, over all quantities between the
+/// low and the high figure of each step of a list; no steps are a list too. What is no list is
+/// refused with [`Refusal::List`].
+pub fn price_range(list: &[u8]) -> Result<PriceRange, Refusal> {
+    let part = |part| {
+        // SAFETY: as in `read`.
+        unsafe { raw::auction_range(list.as_ptr(), list.len(), part) }
+    };
+    Refusal::unless_done(part(header::RANGE_ANSWER)).map(|()| PriceRange {
+        least: part(header::RANGE_LEAST),
+        greatest: part(header::RANGE_GREATEST),
+    })
 }

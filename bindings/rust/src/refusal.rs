@@ -1,10 +1,10 @@
-//! Why a book or a call is refused.
+//! Why a book, a call or a list is refused.
 
 use crate::header;
 use std::fmt;
 
-/// The first cause that holds: 1 to 6, then 9, 10, then 7 or 8. Its number and words are those of
-/// `include/auction.h`.
+/// The first cause that holds: 1 to 6, then 9, 10, then 7 or 8; of a list 17. Its number and words
+/// are those of `include/auction.h`.
 #[derive(Clone, Copy, Debug, PartialEq, Eq, PartialOrd, Ord, Hash)]
 #[repr(u32)]
 pub enum Refusal {
@@ -18,11 +18,12 @@ pub enum Refusal {
     Call = header::REFUSED_CALL,
     Hours = header::REFUSED_HOURS,
     Link = header::REFUSED_LINK,
+    List = header::REFUSED_LIST,
 }
 
 impl Refusal {
     /// All of them, in rising number.
-    pub const ALL: [Refusal; 10] = [
+    pub const ALL: [Refusal; 11] = [
         Refusal::Length,
         Refusal::Head,
         Refusal::Chain,
@@ -33,9 +34,10 @@ impl Refusal {
         Refusal::Call,
         Refusal::Hours,
         Refusal::Link,
+        Refusal::List,
     ];
 
-    /// 1 to 10.
+    /// 1 to 10, or 17.
     pub fn number(self) -> u32 {
         self as u32
     }

@@ -1,6 +1,6 @@
 //! Many threads at once, and the stack that a call is said to need.
 
-use auction::{Family, Outcome, Price, Refusal};
+use auction::{header, Family, Outcome, Price, PriceRange, Refusal};
 use std::path::Path;
 use std::sync::Barrier;
 use std::thread;
@@ -23,7 +23,13 @@ fn books() -> Vec<(String, Vec<u8>)> {
     books
 }
 
-/// What every call says of a book.
+/// A list of as many steps as there may be; a book's length says which.
+fn full_list(book: &[u8]) -> Vec<u8> {
+    let step = |at: u32| [at % 2, 1 + at * book.len() as u32 % 300_000, at, 99_999 - at];
+    (0..header::MOST_ENTRIES).flat_map(step).flat_map(u32::to_be_bytes).collect()
+}
+
+/// What every call says of a book, and of a list that goes with it.
 #[derive(Debug, PartialEq)]
 struct Said {
     read: Result<(), Refusal>,
@@ -31,6 +37,7 @@ struct Said {
     sheet: String,
     families: Result<Vec<Family>, Refusal>,
     prices: Vec<Result<Price, Refusal>>,
+    range: Result<PriceRange, Refusal>,
 }
 
 fn said(book: &[u8]) -> Said {
@@ -38,7 +45,9 @@ fn said(book: &[u8]) -> Said {
     let set = clear.as_ref().map_or(0, Outcome::set);
     let prices = (0..=25).map(|hour| auction::price(book, set, hour)).collect();
     let (sheet, families) = (auction::sheet(book), auction::families(book));
-    Said { read: auction::read(book), clear, sheet, families, prices }
+    let range = auction::price_range(&full_list(book));
+    assert!(range.is_ok(), "a right list");
+    Said { read: auction::read(book), clear, sheet, families, prices, range }
 }
 
 /// Each thread has a book of its own and begins together with the others.

@@ -5,9 +5,10 @@ ghost use lib.ListN.{length};
 ghost use Rattle.book.specs.Refusals.{refusal};
 ghost use Rattle.result.specs.Promise.{clearRefusal, resultAfter, Demands};
 ghost use Rattle.pricing.specs.Answers.{hourAnswer};
+ghost use Rattle.range.specs.Range.{rangeOf};
 ghost use Rattle.sheet.specs.Sheet.{sheetOf};
 ghost use Rattle.family_sheet.specs.FamilySheet.{familySheetOf};
-ghost use Rattle.exports.specs.Parts.{answerPart, bufferAfter};
+ghost use Rattle.exports.specs.Parts.{answerPart, rangePart, bufferAfter};
 use book::Reading;
 use book::read;
 use clearing::clear;
@@ -15,6 +16,8 @@ use family_sheet::MOST_FAMILY_SHEET;
 use family_sheet::families;
 use pricing::HourAnswer;
 use pricing::price;
+use range::PriceRange;
+use range::price_range;
 use result::Clearing;
 use sheet::MOST_SHEET;
 use sheet::sheet;
@@ -28,6 +31,11 @@ const LOW: u32 = 1;
 const HIGH: u32 = 2;
 
 const PRICE: u32 = 3;
+
+// .. and of a price range: which it is; the least price and the greatest.
+const LEAST: u32 = 1;
+
+const GREATEST: u32 = 2;
 
 // What the first part says of an hour that does not clear: no refusal, since those are bytes.
 const NOT_CLEARING: u32 = 256;
@@ -65,6 +73,24 @@ pub extern "C" fn auction_price(book: &[u8], set: u32, hour: u32, part: u32) -> 
                 } else {
                     if part == PRICE { price } else { 0 }
                 }
+            }
+        }
+    }
+}
+
+// One part of the price range of a list of uncertain steps.
+#[no_mangle]
+pub extern "C" fn auction_range(list: &[u8], part: u32) -> u32
+    ensures { λ r. ⌜ r ≡ rangePart (rangeOf (now (list .entry))) part ⌝ }
+{
+    let found = price_range(list);
+    match found {
+        PriceRange::Refused(number) => { if part == ANSWER { number as u32 } else { 0 } }
+        PriceRange::Prices { least, greatest } => {
+            if part == LEAST {
+                least
+            } else {
+                if part == GREATEST { greatest } else { 0 }
             }
         }
     }

@@ -4,6 +4,8 @@ pub mod Tests
 pub mod CurveLaws
 pub mod PricingLaws
 pub mod CertifiedHours
+pub mod UncertainCases
+pub mod UncertainLaws
 pub mod HourSums
 pub mod ContenderCases
 pub mod NotBest

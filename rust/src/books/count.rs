@@ -15,7 +15,7 @@ pub fn raised(asked: Option<&str>, least: u64) -> u64 {
 
 /// How often each answer was met: 0 where nothing is refused, else the refusal.
 #[derive(Clone, Debug, Default, PartialEq, Eq)]
-pub struct Met([u64; 11]);
+pub struct Met([u64; 18]);
 
 impl Met {
     /// One more of an answer.
@@ -30,7 +30,7 @@ impl Met {
 
     /// Tells the counts, and panics where one of these answers was met less often.
     pub fn has_each(&self, answers: impl IntoIterator<Item = u8>, least: u64) {
-        println!("done, then refusals 1 to 10: {:?}", self.0);
+        println!("done, then refusals 1 to 17: {:?}", self.0);
         for answer in answers {
             assert!(self.0[usize::from(answer)] >= least, "answer {answer}: {:?}", self.0);
         }

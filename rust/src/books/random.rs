@@ -235,7 +235,7 @@ fn used_hours(dice: &mut Dice) -> Vec<u32> {
     }
 }
 
-fn price_levels(dice: &mut Dice) -> Vec<u32> {
+pub(super) fn price_levels(dice: &mut Dice) -> Vec<u32> {
     match dice.below(8) {
         0 => vec![2_900, 3_000, 3_001, 5_000],
         1 => vec![1_000, 2_000, 3_000, 4_000, 5_000, 6_000],

@@ -1,5 +1,8 @@
 //! The sample files.
 
+// Not every test asks for all of them.
+#![allow(dead_code)]
+
 use std::fs;
 use std::path::{Path, PathBuf};
 
@@ -9,11 +12,20 @@ fn directory() -> PathBuf {
 
 /// The names of all books, without their ending.
 pub fn names() -> Vec<String> {
+    names_ending("book")
+}
+
+/// The names of all lists, without their ending.
+pub fn list_names() -> Vec<String> {
+    names_ending("list")
+}
+
+fn names_ending(ending: &str) -> Vec<String> {
     let entries = fs::read_dir(directory()).expect("the samples");
     let paths = entries.map(|entry| entry.expect("an entry").path());
-    let books = paths.filter(|path| path.extension().is_some_and(|ending| ending == "book"));
+    let files = paths.filter(|path| path.extension().is_some_and(|other| other == ending));
     let mut names: Vec<String> =
-        books.map(|path| path.file_stem().unwrap().to_str().unwrap().to_string()).collect();
+        files.map(|path| path.file_stem().unwrap().to_str().unwrap().to_string()).collect();
     names.sort();
     names
 }

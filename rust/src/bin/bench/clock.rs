@@ -22,3 +22,11 @@ pub fn seconds() -> f64 {
     assert_eq!(failed, 0, "this system has no clock for a thread");
     time.seconds as f64 + time.nanoseconds as f64 * 1e-9
 }
+
+/// Keeps the time of a call if it is the shortest so far.
+pub fn keep(shortest: &mut Option<f64>, call: impl FnOnce()) {
+    let start = seconds();
+    call();
+    let seconds = seconds() - start;
+    *shortest = Some(shortest.map_or(seconds, |before| before.min(seconds)));
+}

@@ -6,12 +6,14 @@
 //! - `subject`: a book, with what is expected of it where that is known;
 //! - `measure`: times and nodes on one book;
 //! - `report`: the tables;
-//! - `growth`: generated books: families, and by number of blocks and steps.
+//! - `growth`: generated books: families, and by number of blocks and steps;
+//! - `ranges`: price ranges of full lists, beside prices.
 
 mod clearers;
 mod clock;
 mod growth;
 mod measure;
+mod ranges;
 mod report;
 mod subject;
 
@@ -45,6 +47,7 @@ fn work() -> ExitCode {
         Some("--once") => once(&words[1]),
         Some("--time") => words[1..].iter().for_each(|file| time(file)),
         Some("--nodes") => words[2..].iter().for_each(|file| nodes(&words[1], file)),
+        Some("--ranges") => return verdict(ranges::table()),
         _ => return tables(&options(words)),
     }
     ExitCode::SUCCESS
@@ -101,7 +104,12 @@ fn tables(options: &Options) -> ExitCode {
         right &= growth::families(options);
         right &= growth::by_blocks(options);
         right &= growth::by_steps(options);
+        right &= ranges::table();
     }
+    verdict(right)
+}
+
+fn verdict(right: bool) -> ExitCode {
     if !right {
         println!("\nWRONG: see the last column of the tables.");
     }

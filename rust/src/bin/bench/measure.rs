@@ -1,7 +1,7 @@
 //! Times and nodes on one book.
 
 use crate::clearers::{Clearer, Kind, KINDS};
-use crate::clock;
+use crate::clock::keep;
 use crate::subject::{result_length, Subject};
 use auction_listing::paper::Published;
 use auction_listing::twin::count::{self, Nodes};
@@ -126,14 +126,6 @@ fn shortest(runs: &[Kind], book: &[u8], priced_out: &[u8]) -> (ByKind, ByKind) {
         }
     }
     (seconds, outside)
-}
-
-/// Keeps the time of a call if it is the shortest so far.
-fn keep(shortest: &mut Option<f64>, call: impl FnOnce()) {
-    let start = clock::seconds();
-    call();
-    let seconds = clock::seconds() - start;
-    *shortest = Some(shortest.map_or(seconds, |before| before.min(seconds)));
 }
 
 /// Seconds of the proved clearing by itself, and the published welfare.
