@@ -7,6 +7,7 @@
 //! - `damage`: refused books, by cause or by accident;
 //! - `days`: both kinds for days of 23, 24 and 25 hours;
 //! - `links`: links among the blocks of edition 3, right and wrong;
+//! - `portfolios`: books for the cash sheet, with few portfolios or all of them;
 //! - `families`: large books for the benchmark;
 //! - `expected`: what is expected of the books in `bench-books`;
 //! - `worked`: the days of documents 01 and 02 that are checked by hand;
@@ -20,6 +21,7 @@ mod dice;
 mod expected;
 mod families;
 mod links;
+mod portfolios;
 mod random;
 mod worked;
 
@@ -37,12 +39,13 @@ pub use dice::Dice;
 pub use expected::Expected;
 pub use families::{full_day, linked_day, Family, FAMILIES};
 pub use links::{link_edges, Shape};
+pub use portfolios::{cash_book_on, cash_orders_on, crowded_book_on};
 pub use random::{
     pricing_case, pricing_case_of, small_book, small_book_of, small_orders, small_orders_of,
     tiny_book, tiny_book_of,
 };
 pub use worked::{
-    block_beside_the_day, day_of_23_hours, day_of_25_hours, edition_2_day, head_alone,
+    block_beside_the_day, cash_days, day_of_23_hours, day_of_25_hours, edition_2_day, head_alone,
     link_upwards, link_without_parent, linked_days, opposite_blocks, step_beside_the_day,
     thirty_two_blocks, worked_days, CHAIN_OF_32_TAKEN, EDITION_2_BLOCKS, THIRTY_TWO_BLOCKS_TAKEN,
 };
