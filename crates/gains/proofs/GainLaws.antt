@@ -200,10 +200,10 @@ module _ (b : List ℕ) (a : Accepted b) where
     here : i < length (blockRecords b)
     here = omega (arith, bc .counted)
 
-    record-is : getD records i 0 ≡ getD (blockRecords b) i 0
+    pub record-is : getD records i 0 ≡ getD (blockRecords b) i 0
     record-is = sym (getD-take count records i 0 inside) ∙ rw (block-records-front bc)
 
-    hours-are : getD hours i 0 ≡ blockHoursAt b (getD (blockRecords b) i 0)
+    pub hours-are : getD hours i 0 ≡ blockHoursAt b (getD (blockRecords b) i 0)
     hours-are = rw (bc .hoursAre) (column-at 32 (blockHoursAt b) (blockRecords b) i here)
 
     price-is : getD prices i 0 ≡ blockPriceAt b (getD (blockRecords b) i 0)
