@@ -26,6 +26,7 @@ extern "C" {
 #define AUCTION_RESULT_RECORD 4       /* what each record of the book adds, the head included */
 #define AUCTION_MOST_SHEET 781        /* a sheet */
 #define AUCTION_MOST_FAMILIES 587     /* a family report */
+#define AUCTION_MOST_CASH 22564       /* a cash sheet */
 #define AUCTION_STACK 2097152         /* the stack that a call needs at most */
 
 /* The size of the result of a book with so many records, the head included. */
@@ -72,6 +73,10 @@ uint32_t auction_sheet(const uint8_t *book, size_t book_len, uint8_t *out, size_
 /* Writes a book's family report, or the line `refused;` and the number, to the start of `out`, and answers its length, at most
  * AUCTION_MOST_FAMILIES. Where `out` is shorter than what there is to write it stays as it was. */
 uint32_t auction_families(const uint8_t *book, size_t book_len, uint8_t *out, size_t out_len);
+
+/* Writes a book's cash sheet, or the line `refused;` and the number, to the start of `out`, and answers its length, at most
+ * AUCTION_MOST_CASH. Where `out` is shorter than what there is to write it stays as it was. */
+uint32_t auction_cash(const uint8_t *book, size_t book_len, uint8_t *out, size_t out_len);
 
 #ifdef __cplusplus
 }

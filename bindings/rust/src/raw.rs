@@ -11,4 +11,5 @@ extern "C" {
     ) -> u32;
     pub fn auction_sheet(book: *const u8, book_len: usize, out: *mut u8, out_len: usize) -> u32;
     pub fn auction_families(book: *const u8, book_len: usize, out: *mut u8, out_len: usize) -> u32;
+    pub fn auction_cash(book: *const u8, book_len: usize, out: *mut u8, out_len: usize) -> u32;
 }

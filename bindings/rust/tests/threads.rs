@@ -1,6 +1,6 @@
 //! Many threads at once, and the stack that a call is said to need.
 
-use auction::{Family, Outcome, Price, Refusal};
+use auction::{Cash, Family, Outcome, Price, Refusal};
 use std::path::Path;
 use std::sync::Barrier;
 use std::thread;
@@ -30,6 +30,7 @@ struct Said {
     clear: Result<Outcome, Refusal>,
     sheet: String,
     families: Result<Vec<Family>, Refusal>,
+    cash: Result<Cash, Refusal>,
     prices: Vec<Result<Price, Refusal>>,
 }
 
@@ -37,8 +38,8 @@ fn said(book: &[u8]) -> Said {
     let clear = auction::clear(book);
     let set = clear.as_ref().map_or(0, Outcome::set);
     let prices = (0..=25).map(|hour| auction::price(book, set, hour)).collect();
-    let (sheet, families) = (auction::sheet(book), auction::families(book));
-    Said { read: auction::read(book), clear, sheet, families, prices }
+    let (families, cash) = (auction::families(book), auction::cash(book));
+    Said { read: auction::read(book), clear, sheet: auction::sheet(book), families, cash, prices }
 }
 
 /// Each thread has a book of its own and begins together with the others.
