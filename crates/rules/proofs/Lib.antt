@@ -32,3 +32,4 @@ pub mod BoundsLaws
 pub mod TradeBounds
 pub mod FamilyLaws
 pub mod FamilyBounds
+pub mod CashBounds
