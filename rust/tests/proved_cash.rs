@@ -4,7 +4,7 @@
 //! cash sheets of their books too, `proved_large` those of large ones. Compiled with the
 //! feature `proved` only.
 //!
-//! The environment variable BOOKS raises the counts (at least 9000 books, 90 with all
+//! The environment variable BOOKS raises the counts (at least 6000 books, 90 with all
 //! portfolios, 3000 damaged ones).
 
 mod compared;
@@ -46,7 +46,7 @@ fn the_worked_days_have_their_cash_sheets() {
 
 #[test]
 fn books_have_the_cash_sheets_of_the_listing() {
-    compare_accepted(made(count("BOOKS", 9_000), "cash_book_on", cash_book_on));
+    compare_accepted(made(count("BOOKS", 6_000), "cash_book_on", cash_book_on));
 }
 
 #[test]

@@ -8,7 +8,7 @@ use crate::Options;
 use auction_listing::books::{full_day, FAMILIES};
 
 /// Books of each kind.
-const SEEDS: std::ops::Range<u64> = 1..6;
+pub const SEEDS: std::ops::Range<u64> = 1..6;
 
 pub fn families(options: &Options) -> bool {
     titles("family of 5 (medians)");
@@ -72,7 +72,7 @@ fn group(name: &str, book: impl Fn(u64) -> Vec<u8>, options: &Options) -> bool {
 
 /// The middle one of the values, where more than half of them are known; one that is
 /// not known counts as more than any other.
-fn median(mut values: Vec<Option<f64>>) -> Option<f64> {
+pub fn median(mut values: Vec<Option<f64>>) -> Option<f64> {
     values.sort_by(|one, other| one.unwrap_or(f64::MAX).total_cmp(&other.unwrap_or(f64::MAX)));
     values[values.len() / 2]
 }

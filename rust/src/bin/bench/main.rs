@@ -6,7 +6,8 @@
 //! - `subject`: a book, with what is expected of it where that is known;
 //! - `measure`: times and nodes on one book;
 //! - `report`: the tables;
-//! - `growth`: generated books: families, and by number of blocks and steps.
+//! - `growth`: generated books: families, and by number of blocks and steps;
+//! - `texts`: the calls that write a text, beside the clearing.
 
 mod clearers;
 mod clock;
@@ -14,6 +15,7 @@ mod growth;
 mod measure;
 mod report;
 mod subject;
+mod texts;
 
 use auction_listing::twin::source;
 use clearers::{Clearer, Kind};
@@ -44,6 +46,7 @@ fn work() -> ExitCode {
     match words.first().map(String::as_str) {
         Some("--once") => once(&words[1]),
         Some("--time") => words[1..].iter().for_each(|file| time(file)),
+        Some("--texts") => texts::texts(),
         Some("--nodes") => words[2..].iter().for_each(|file| nodes(&words[1], file)),
         _ => return tables(&options(words)),
     }
@@ -101,6 +104,7 @@ fn tables(options: &Options) -> ExitCode {
         right &= growth::families(options);
         right &= growth::by_blocks(options);
         right &= growth::by_steps(options);
+        texts::texts();
     }
     if !right {
         println!("\nWRONG: see the last column of the tables.");
