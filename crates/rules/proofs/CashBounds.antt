@@ -1,21 +1,37 @@
 -- HOW LARGE CASH GETS, for the code's number widths: on a day of at most 25 hours, at prices up to 300000, an order executed for at most 99,999 trades at
 -- most 2,499,975 and its cash is at most 749,992,500,000; of at most 2,047 orders each quantity is at most 5,117,448,825 and each cash at most
 -- 1,535,234,647,500,000, below 2 ^ 51, in all, of any portfolio, and of any first part of them. Assumes nothing.
-use Prim.Native.Nat.{ℕ, zero, suc, _+_, _*_, _^_, _≤_, _<_}
+use Prim.Native.Nat.{ℕ, zero, suc, _+_, _-_, _*_, _^_, _≤_, _<_}
 use mathlib.Core.Bool.{Bool, true, false}
-use mathlib.Core.Path.{_≡_}
 use mathlib.Core.List.{List, [], _∷_, _++_}
 use native.Mathlib.Omega.{arith}
 use native.Mathlib.Nat.{le-trans, mul-le-mul-left}
 use lib.Dec.{eqb, lit<}
-use lib.ListN.{length, take}
-use Rattle.rules.specs.Orders.{Side, buy, sell, maxPrice}
+use lib.ListN.{length, take, getD}
+use Rattle.rules.specs.Orders.{Side, buy, sell, Order, Block, Orders, maxPrice, stepsOf, canonical, executedOf}
 use Rattle.rules.specs.Hour.{bySide, when}
-use Rattle.rules.specs.Day.{autumnHours, daySum, keep}
-use Rattle.rules.specs.Cash.{Executed, tradedBy, cashBy, overExecuted, cashOf, ownedBy}
+use Rattle.rules.specs.Day.{Day, autumnHours, isCounted, dayOf, daySum, keep, taken, hourOf, setPrices, executed}
+use Rattle.rules.specs.Outcome.{outcome, forHours, published}
+use Rattle.rules.specs.Contender.{Each, Within, PricesInRange}
+use Rattle.rules.specs.OutcomeRules.{EachBlock}
+use Rattle.rules.specs.Cash.{
+  Executed,
+  tradedBy,
+  cashBy,
+  overExecuted,
+  cashOf,
+  ownedBy,
+  executedSteps,
+  executedBlocks,
+  executedOrders,
+  publishedPrice,
+}
+use Rattle.rules.proofs.CashCases
 use Rattle.rules.proofs.CurveLaws.{when-le}
 use Rattle.rules.proofs.HourSums.{daySum-le, daySum-times}
-use Rattle.rules.proofs.BoundsLaws.{product-le}
+use Rattle.rules.proofs.ExecutionLaws.{execution-within}
+use Rattle.rules.proofs.ChainLaws.{each-in-order}
+use Rattle.rules.proofs.BoundsLaws.{SmallSteps, SmallBlock, SmallDay, product-le, price-small}
 use Rattle.rules.proofs.FamilyBounds.{counted-few}
 
 -- The most that an order is executed for; so the most that it trades on a day, and the most of its cash.
@@ -52,11 +68,6 @@ SmallExecuted o = o .quantity ≤ mostExecuted
 pub over-most : (f : Executed → ℕ) (most : ℕ) (l : List Executed) → EachExecuted (λ o. f o ≤ most) l → overExecuted f l ≤ most * length l
 over-most f most [] e = omega arith
 over-most f most (o ∷ l) e = omega (arith, e .0, over-most f most l (e .1))
-
--- of some orders, and of more
-pub over-append : (f : Executed → ℕ) (l m : List Executed) → overExecuted f (l ++ m) ≡ overExecuted f l + overExecuted f m
-over-append f [] m = omega arith
-over-append f (o ∷ l) m = omega (arith, over-append f l m)
 
 -- of the first n orders
 pub over-first : (f : Executed → ℕ) (n : ℕ) (l : List Executed) → overExecuted f (take n l) ≤ overExecuted f l
@@ -142,6 +153,60 @@ module _ (hours : ℕ) (few : hours ≤ autumnHours) where
       pub received-small : cashOf hours price l .received ≤ mostAmount
       unfolding cashOf
       received-small = all-small _ mostCash (λ o s. side-small (o .side) _ _ (cash-small o s) .1)
+
+-- THE ORDERS OF A SMALL DAY
+each-append : (P : Executed → Type 0) (l m : List Executed) → EachExecuted P l → EachExecuted P m → EachExecuted P (l ++ m)
+each-append P [] m a b = b
+each-append P (o ∷ l) m a b = (a .0, each-append P l m (a .1) b)
+
+steps-small : (l : List Order) (qs : List ℕ) → SmallSteps (stepsOf l) → Each Within (stepsOf l) qs → EachExecuted SmallExecuted (executedSteps l qs)
+unfolding executedSteps stepsOf
+steps-small [] qs s w = tt
+steps-small (o ∷ l) [] s w = tt
+steps-small (o ∷ l) (q ∷ qs) s w = (le-trans (w .0) (s .1), steps-small l qs (s .2) (w .1))
+
+blocks-small : (l : List Block) (chosen : List Bool) → EachBlock SmallBlock l → EachExecuted SmallExecuted (executedBlocks l chosen)
+unfolding executedBlocks
+blocks-small [] chosen s = tt
+blocks-small (b ∷ l) [] s = tt
+blocks-small (b ∷ l) (t ∷ chosen) s = (omega (arith, when-le t (b .quantity), s .0 .quantity), blocks-small l chosen (s .1))
+
+within : (day : Day) (set : List Block) → Each Within (day .steps) (executed day set)
+unfolding executed
+within day set = each-in-order Within (day .steps) _ (λ h. execution-within (hourOf day set h) (setPrices day set h))
+
+pub orders-small : (orders : Orders) → SmallDay (dayOf orders) → EachExecuted SmallExecuted (executedOrders orders)
+unfolding dayOf executedOrders published executedOf
+orders-small orders s =
+    let day = dayOf orders in
+    let set = taken (day .blocks) (outcome day) in
+    let steps = executedSteps (canonical orders .steps) (executed day set) in
+    let blocks = executedBlocks (day .blocks) (outcome day) in
+    each-append SmallExecuted steps blocks (steps-small (canonical orders .steps) (executed day set) (s .smallSteps) (within day set))
+    (blocks-small (day .blocks) (outcome day) (s .smallBlocks))
+
+-- THE PUBLISHED PRICES
+place-most : (most : ℕ) (l m : List ℕ) → ((i : ℕ) → getD l i 0 ≤ most) → ((i : ℕ) → getD m i 0 ≤ most) → (i : ℕ) → getD (l ++ m) i 0 ≤ most
+place-most most [] m a b i = b i
+place-most most (n ∷ l) m a b zero = a 0
+place-most most (n ∷ l) m a b (suc i) = place-most most l m (λ j. a (suc j)) b i
+
+hours-most : (most n : ℕ) (f : ℕ → ℕ) → ((h : ℕ) → f h ≤ most) → (i : ℕ) → getD (forHours n f) i 0 ≤ most
+unfolding forHours
+hours-most most zero f le i = omega arith
+hours-most most (suc n) f le i = place-most most (forHours n f) (f (suc n) ∷ []) (hours-most most n f le) last i
+  where
+    last : (i : ℕ) → getD (f (suc n) ∷ []) i 0 ≤ most
+    last zero = le (suc n)
+    last (suc i) = omega arith
+
+pub published-price-small : (orders : Orders) → PricesInRange (dayOf orders .steps) → (h : ℕ) → publishedPrice orders h ≤ maxPrice
+unfolding publishedPrice published
+published-price-small orders prices h =
+    let day = dayOf orders in
+    let set = taken (day .blocks) (outcome day) in
+    hours-most maxPrice 24 (λ h. when (isCounted (day .hours) h) (setPrices day set h))
+    (λ h. le-trans (when-le (isCounted (day .hours) h) (setPrices day set h)) (price-small day prices set h)) (h - 1)
 
 -- all of it has room in 8 bytes, many times over
 pub amounts-fit : mostAmount < 2 ^ 51

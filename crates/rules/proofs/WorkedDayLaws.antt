@@ -10,7 +10,7 @@ use Rattle.rules.specs.WorkedDays.{PriceFact, WorkedDay, workedDays, fur
 use Rattle.rules.proofs.CertifiedHours.{tested, tested-is, clears-tested, price-tested, prices-tested, computed}
 
 -- A VALUE THAT COMPUTES, with the proof that it is the one asked for
-abbrev ValueOf : {A : Type 0} → A → Type 0
+abbrev pub ValueOf : {A : Type 0} → A → Type 0
 ValueOf {A} asked = (value : A) × (asked ≡ value)
 
 -- Each definition with the tested prices in it. The value asked for has a name of its own, so that only its definition is rewritten.
@@ -37,12 +37,12 @@ best-as day (set ∷ l) asked e =
     let later = best-as day l _ refl in
     (_, rw (later .1, lawful-as day set _ refl .1, welfare-as day (later .0) _ refl .1, welfare-as day set _ refl .1) at e)
 
-outcome-as : (day : Day) (asked : List Bool) → asked ≡ outcome day → ValueOf asked
+pub outcome-as : (day : Day) (asked : List Bool) → asked ≡ outcome day → ValueOf asked
 unfolding outcome
 outcome-as day asked e = best-as day _ asked e
 
 -- what is published, once the outcome is known
-published-as : (orders : Orders) (chosen : List Bool) → outcome (dayOf orders) ≡ chosen →
+pub published-as : (orders : Orders) (chosen : List Bool) → outcome (dayOf orders) ≡ chosen →
     (asked : PublishedOutcome) → asked ≡ published orders → ValueOf asked
 unfolding published
 published-as orders chosen best asked e =
@@ -72,7 +72,7 @@ hold [] h = tt
 hold (d ∷ l) h = (published-as (d .orders) _ _ _ refl .1 ∙ h .1, answered (d .orders) (d .prices) (h .2), hold l (h .3))
 
 -- all that a row computes through
-unfoldable rowsCompute : Unit {0}
+unfoldable pub rowsCompute : Unit {0}
 unfolding computed executedOf allSets forHours lawful-as executed-as traded-as welfare-as best-as outcome-as published-as
 rowsCompute = tt
 

@@ -10,4 +10,5 @@ pub mod Families
 pub mod Cash
 pub mod WorkedDays
 pub mod WorkedFamilies
+pub mod WorkedCash
 pub mod Cases
