@@ -9,7 +9,7 @@ use native.Mathlib.Nat.{zero-mul}
 use lib.Dec.{eqb}
 use lib.ListN.{length}
 use borrow.Author.Tests.{eq-eqb, ne-eqb}
-use Rattle.rules.specs.Orders.{Side, buy, sell, Orders, maxPortfolio}
+use Rattle.rules.specs.Orders.{Side, buy, sell, Order, Block, Orders, maxPortfolio, canonical}
 use Rattle.rules.specs.Hour.{bySide, when}
 use Rattle.rules.specs.Day.{dayOf, sumTo, daySum, keep}
 use Rattle.rules.specs.Outcome.{published}
@@ -24,6 +24,8 @@ use Rattle.rules.specs.Cash.{
   CashLine,
   lineOf,
   linesTo,
+  executedSteps,
+  executedBlocks,
   executedOrders,
   publishedPrice,
   cashSheet,
@@ -42,7 +44,14 @@ over-lines : (f : CashLine → ℕ) (l m : List CashLine) → overLines f (l ++ 
 over-lines f [] m = omega arith
 over-lines f (line ∷ l) m = omega (arith, over-lines f l m)
 
--- A portfolio of a book: from 1 to 255.
+-- Each of the four totals is the sum over the lines.
+pub record SumsOfLines (lines : List CashLine) (totals : Cash) : Type 0 where
+  pub bought : overLines (λ line. line .cash .bought) lines ≡ totals .bought
+  pub sold : overLines (λ line. line .cash .sold) lines ≡ totals .sold
+  pub paid : overLines (λ line. line .cash .paid) lines ≡ totals .paid
+  pub received : overLines (λ line. line .cash .received) lines ≡ totals .received
+
+-- The portfolios of orders are those of a book: from 1 to 255.
 abbrev pub PortfoliosInRange : List Executed → Type 0
 PortfoliosInRange [] = Unit {0}
 PortfoliosInRange (o ∷ l) = (1 ≤ o .portfolio) × (o .portfolio ≤ maxPortfolio) × PortfoliosInRange l
@@ -93,13 +102,7 @@ module _ (hours : ℕ) (price : ℕ → ℕ) where
         overLines (λ line. part (line .cash)) (linesTo maxPortfolio hours price l) ≡ part (cashOf hours price l)
     part-of-lines l r = lines-part maxPortfolio l ∙ owned-together f l r ∙ sym (is l)
 
-  -- THE TOTALS ARE THE SUMS OVER THE LINES, each of the four
-  pub record SumsOfLines (lines : List CashLine) (totals : Cash) : Type 0 where
-    pub bought : overLines (λ line. line .cash .bought) lines ≡ totals .bought
-    pub sold : overLines (λ line. line .cash .sold) lines ≡ totals .sold
-    pub paid : overLines (λ line. line .cash .paid) lines ≡ totals .paid
-    pub received : overLines (λ line. line .cash .received) lines ≡ totals .received
-
+  -- THE TOTALS ARE THE SUMS OVER THE LINES
   pub totals-of-lines : (l : List Executed) → PortfoliosInRange l → SumsOfLines (linesTo maxPortfolio hours price l) (cashOf hours price l)
   unfolding cashOf
   totals-of-lines l r =
@@ -109,6 +112,35 @@ module _ (hours : ℕ) (price : ℕ → ℕ) where
         paid = part-of-lines (λ c. c .paid) _ (λ l. refl) l r;
         received = part-of-lines (λ c. c .received) _ (λ l. refl) l r;
       }
+
+-- so it is with the sheet of orders whose portfolios are in range
+abbrev pub OwnersInRange : List Order → Type 0
+OwnersInRange [] = Unit {0}
+OwnersInRange (o ∷ l) = (1 ≤ o .portfolio) × (o .portfolio ≤ maxPortfolio) × OwnersInRange l
+
+abbrev pub BlockOwnersInRange : List Block → Type 0
+BlockOwnersInRange [] = Unit {0}
+BlockOwnersInRange (b ∷ l) = (1 ≤ b .portfolio) × (b .portfolio ≤ maxPortfolio) × BlockOwnersInRange l
+
+steps-owned : (l : List Order) (qs : List ℕ) (m : List Executed) → OwnersInRange l → PortfoliosInRange m → PortfoliosInRange (executedSteps l qs ++ m)
+unfolding executedSteps
+steps-owned [] qs m r s = s
+steps-owned (o ∷ l) [] m r s = s
+steps-owned (o ∷ l) (q ∷ qs) m r s = (r .0, r .1, steps-owned l qs m (r .2) s)
+
+blocks-owned : (l : List Block) (chosen : List Bool) → BlockOwnersInRange l → PortfoliosInRange (executedBlocks l chosen)
+unfolding executedBlocks
+blocks-owned [] chosen r = tt
+blocks-owned (b ∷ l) [] r = tt
+blocks-owned (b ∷ l) (t ∷ chosen) r = (r .0, r .1, blocks-owned l chosen (r .2))
+
+pub sheet-totals-of-lines : (orders : Orders) → OwnersInRange (canonical orders .steps) → BlockOwnersInRange (dayOf orders .blocks) →
+    SumsOfLines (cashSheet orders .lines) (cashSheet orders .totals)
+unfolding cashSheet executedOrders
+sheet-totals-of-lines orders steps blocks =
+    totals-of-lines (dayOf orders .hours) (publishedPrice orders) (executedOrders orders)
+    (steps-owned (canonical orders .steps) (published orders .executed) (executedBlocks (dayOf orders .blocks) (published orders .chosen)) steps
+    (blocks-owned (dayOf orders .blocks) (published orders .chosen) blocks))
 
 -- WHO HAS A LINE
 -- The lines of a portfolio among lines.
