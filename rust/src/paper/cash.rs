@@ -11,8 +11,9 @@ pub fn cash(book: &[u8]) -> Vec<u8> {
     published(book).map_or_else(refusal_line, |(book, result)| cash_of(&book, &result))
 }
 
-/// The cash sheet of a book and the bytes of its result. Each portfolio's line is added up
-/// along the hours of the day, the totals along the order records.
+/// The cash sheet of a book and the bytes of its result: "Portfolios with an order stand in
+/// rising order", each with a line that is added up along the hours of the day; "Each total
+/// equals the sum over the order records, not over the printed lines."
 pub fn cash_of(book: &Book, result: &[u8]) -> Vec<u8> {
     let published = Published::from_bytes(result);
     let orders = order_records(book);
@@ -81,7 +82,8 @@ impl Account {
     }
 }
 
-/// What some orders trade in each hour of the day as it passes, at the hour's price.
+/// What some orders trade in each hour of the day as it passes: "Cash is executed quantity
+/// times the hour's price; quantity and cash both count hour 3 as the day counts it."
 fn account_by_hours(book: &Book, published: &Published, orders: &[&Order]) -> Account {
     let mut account = Account::default();
     for &hour in &book.hours {
