@@ -1,46 +1,46 @@
 -- THE WORKED CASH SHEETS HOLD, from the rules alone, S5's of document 02 first. What is published is put in as it computes; what is left computes.
 -- Assumes nothing. (The laws of cash import it, so that a wrong rule is met here first.)
-use Prim.Native.Nat.{ℕ, _-_}
-use mathlib.Core.Path.{_≡_, refl, ap, _∙_}
-use mathlib.Core.List.{List, [], _∷_, _++_}
-use lib.ListN.{getD}
-use Rattle.rules.specs.Orders.{Orders, maxPortfolio, canonical}
-use Rattle.rules.specs.Day.{dayOf}
+use mathlib.Core.Path.{_≡_, refl, _∙_}
+use mathlib.Core.List.{List, [], _∷_, map}
+use Rattle.rules.specs.Orders.{Orders, canonical}
+use Rattle.rules.specs.Day.{weight, isCounted, eachOnDay, dayOf, sumTo, daySum}
 use Rattle.rules.specs.Outcome.{PublishedOutcome, published}
-use Rattle.rules.specs.Cash.{Executed, tradedBy, cashBy, cashOf, ownedBy, lineOf, linesTo, executedSteps, executedBlocks, executedOrders, publishedPrice, CashSheet, cashSheet}
+use Rattle.rules.specs.WorkedDays.{Hold}
+use Rattle.rules.specs.Cash.{
+  tradedBy,
+  cashBy,
+  cashOf,
+  ownedBy,
+  lineOf,
+  linesTo,
+  executedSteps,
+  executedBlocks,
+  executedOrders,
+  publishedPrice,
+  CashSheet,
+  cashSheet,
+}
 use Rattle.rules.specs.WorkedCash.{CashCase, cashCases, SheetsHold}
-use Rattle.rules.proofs.WorkedDayLaws.{outcome-as, published-as, rowsCompute}
+use Rattle.rules.proofs.WorkedDayLaws.{ValueOf, cash-days-hold}
 
--- THE SHEET IS OF THE ORDERS AND WHAT IS PUBLISHED OF THEM, and of nothing else
--- the orders as an outcome has them executed
-unfoldable pub executedUnder : Orders → PublishedOutcome → List Executed
-executedUnder orders outcome =
-    executedSteps (canonical orders .steps) (outcome .executed) ++ executedBlocks (dayOf orders .blocks) (outcome .chosen)
+-- the sheet with what is published in it, with the proof that it is the one asked for
+sheet-as : (orders : Orders) (outcome : PublishedOutcome) → published orders ≡ outcome → (asked : CashSheet) → asked ≡ cashSheet orders → ValueOf asked
+unfolding cashSheet executedOrders publishedPrice
+sheet-as orders outcome same asked e = (_, simp (cashSheet, executedOrders, publishedPrice, same) at e)
 
--- the sheet under an outcome
-unfoldable pub sheetUnder : Orders → PublishedOutcome → CashSheet
-sheetUnder orders outcome =
-    record {
-      lines = linesTo maxPortfolio (dayOf orders .hours) (λ h. getD (outcome .prices) (h - 1) 0) (executedUnder orders outcome);
-      totals = cashOf (dayOf orders .hours) (λ h. getD (outcome .prices) (h - 1) 0) (executedUnder orders outcome);
-    }
-
-pub sheet-under : (orders : Orders) → cashSheet orders ≡ sheetUnder orders (published orders)
-unfolding cashSheet sheetUnder executedUnder executedOrders publishedPrice
-sheet-under orders = refl
-
--- THE TABLE, as it computes
-abbrev publishedAs : (orders : Orders) → (value : PublishedOutcome) × (published orders ≡ value)
-publishedAs orders = published-as orders _ (outcome-as (dayOf orders) _ refl .1) _ refl
-
+-- THE TABLE, as it computes: the sheet of each day, once what is published of it is known
 abbrev SheetsTested : List CashCase → Type 0
 SheetsTested [] = Unit {0}
-SheetsTested (c ∷ l) = (sheetUnder (c .orders) (publishedAs (c .orders) .0) ≡ c .sheet) × SheetsTested l
+SheetsTested (c ∷ l) =
+    ((same : published (c .day .orders) ≡ c .day .publishes) → sheet-as (c .day .orders) (c .day .publishes) same _ refl .0 ≡ c .sheet) × SheetsTested l
 
-hold : (l : List CashCase) → SheetsTested l → SheetsHold l
-hold [] h = tt
-hold (c ∷ l) h = (sheet-under (c .orders) ∙ ap (sheetUnder (c .orders)) (publishedAs (c .orders) .1) ∙ h .0, hold l (h .1))
+sheets-hold : (l : List CashCase) → Hold (map (λ c. c .day) l) → SheetsTested l → SheetsHold l
+sheets-hold [] days sheets = tt
+sheets-hold (c ∷ l) days sheets =
+    (sheet-as (c .day .orders) (c .day .publishes) (days .0) _ refl .1 ∙ sheets .0 (days .0), sheets-hold l (days .2) (sheets .1))
 
 pub cash-sheets-hold : SheetsHold cashCases
-unfolding rowsCompute cashCases sheetUnder executedUnder tradedBy cashBy cashOf ownedBy lineOf linesTo executedSteps executedBlocks
-cash-sheets-hold = hold cashCases (refl, (refl, (refl, (refl, (refl, (refl, (refl, tt)))))))
+unfolding cashCases dayOf eachOnDay canonical weight isCounted sumTo daySum tradedBy cashBy cashOf ownedBy lineOf linesTo executedSteps executedBlocks sheet-as
+cash-sheets-hold =
+    sheets-hold cashCases cash-days-hold
+    (λ same. refl, (λ same. refl, (λ same. refl, (λ same. refl, (λ same. refl, (λ same. refl, (λ same. refl, tt)))))))

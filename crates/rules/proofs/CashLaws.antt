@@ -27,7 +27,8 @@ use Rattle.rules.specs.Cash.{
 }
 use Rattle.rules.proofs.CashCases
 use Rattle.rules.proofs.HourSums.{daySum-counted, daySum-same, daySum-add, daySum-zero}
-use Rattle.rules.proofs.DayLaws.{outcome-beats-all}
+use Rattle.rules.proofs.BestLaws.{outcome-first}
+use Rattle.rules.proofs.DayLaws.{lawful-contends, empty-lawful}
 
 -- SUMS OVER ORDERS
 pub over-same : (f g : Executed → ℕ) → ((o : Executed) → f o ≡ g o) → (l : List Executed) → overExecuted f l ≡ overExecuted g l
@@ -203,8 +204,9 @@ module _ (orders : Orders) (prices : PricesInRange (dayOf orders .steps)) (hours
   unfolding executedOrders published executedOf
   all-balanced h c =
       let day = dayOf orders in
+      let first = outcome-first day (empty-lawful day prices hours) in
       orders-balance orders (outcome day) (executed day (taken (day .blocks) (outcome day))) h
-      (outcome-beats-all day prices hours .contends .balanced h c)
+      (lawful-contends day prices hours (outcome day) (first .isLawful) (first .ofBlocks) .balanced h c)
 
   -- cash paid in all is cash received
   pub cash-balances : cashSheet orders .totals .paid ≡ cashSheet orders .totals .received

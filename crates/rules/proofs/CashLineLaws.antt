@@ -249,6 +249,30 @@ module _ (hours : ℕ) (price : ℕ → ℕ) where
       no-cash : (o : Executed) → o .quantity ≡ 0 → cashBy hours price o ≡ 0
       no-cash o z = unfold cashBy in (rw z (daySum-same hours _ (λ h. when (o .runs h) 0) (λ h. rw (zero-mul (price h))) ∙ none-traded (o .runs)))
 
+  -- so a portfolio whose orders got nothing has its line, of four zeros ..
+  line-some : (p : ℕ) (own : List Executed) → length (lineOf hours price p own) ≡ 1 →
+      lineOf hours price p own ≡ record { portfolio = p; cash = cashOf hours price own } ∷ []
+  unfolding lineOf
+  line-some p [] e = absurd (omega arith)
+  line-some p (o ∷ own) e = refl
+
+  pub line-of-nothing-got : (p : ℕ) (l : List Executed) → 1 ≤ p → p ≤ maxPortfolio → hasOrder p l ≡ true → GotNothing (ownedBy p l) →
+      linesFor p (linesTo maxPortfolio hours price l)
+      ≡ record { portfolio = p; cash = record { bought = 0; sold = 0; paid = 0; received = 0 } } ∷ []
+  line-of-nothing-got p l first last some nothing =
+      line-stands maxPortfolio p l first last ∙ line-some p (ownedBy p l) (owned-some p l ∙ rw some) ∙ rw (nothing-got (ownedBy p l) nothing)
+
+  -- .. and one without an order none
+  line-none : (p : ℕ) (own : List Executed) → length (lineOf hours price p own) ≡ 0 → lineOf hours price p own ≡ []
+  unfolding lineOf
+  line-none p [] e = refl
+  line-none p (o ∷ own) e = absurd (omega arith)
+
+  pub no-line-without-order : (p : ℕ) (l : List Executed) → 1 ≤ p → p ≤ maxPortfolio → hasOrder p l ≡ false →
+      linesFor p (linesTo maxPortfolio hours price l) ≡ []
+  no-line-without-order p l first last none =
+      line-stands maxPortfolio p l first last ∙ line-none p (ownedBy p l) (owned-some p l ∙ rw none)
+
   -- IN RISING ORDER
   rise-append : (last n : ℕ) (l m : List CashLine) → LinesRise last n l → LinesRise n (suc n) m → LinesRise last (suc n) (l ++ m)
   rise-append last n [] [] a b = omega arith

@@ -2,11 +2,12 @@
 use Prim.Native.Nat.{ℕ}
 use mathlib.Core.Bool.{Bool}
 use mathlib.Core.Path.{_≡_, refl, _∙_, fun-ext}
-use mathlib.Core.List.{List, [], _∷_}
+use mathlib.Core.List.{List, [], _∷_, map}
 use Rattle.rules.specs.Orders.{Block, Orders, executedOf}
 use Rattle.rules.specs.Day.{Day, dayOf, taken, hourOf, keepsLimits, lawful, executed, welfare, traded}
 use Rattle.rules.specs.Outcome.{allSets, bestOf, outcome, forHours, PublishedOutcome, published}
 use Rattle.rules.specs.WorkedDays.{PriceFact, WorkedDay, workedDays, furtherDays, changeDays, linkedDays, Answered, Hold}
+use Rattle.rules.specs.WorkedCash.{cashCases}
 use Rattle.rules.proofs.CertifiedHours.{tested, tested-is, clears-tested, price-tested, prices-tested, computed}
 
 -- A VALUE THAT COMPUTES, with the proof that it is the one asked for
@@ -37,12 +38,12 @@ best-as day (set ∷ l) asked e =
     let later = best-as day l _ refl in
     (_, rw (later .1, lawful-as day set _ refl .1, welfare-as day (later .0) _ refl .1, welfare-as day set _ refl .1) at e)
 
-pub outcome-as : (day : Day) (asked : List Bool) → asked ≡ outcome day → ValueOf asked
+outcome-as : (day : Day) (asked : List Bool) → asked ≡ outcome day → ValueOf asked
 unfolding outcome
 outcome-as day asked e = best-as day _ asked e
 
 -- what is published, once the outcome is known
-pub published-as : (orders : Orders) (chosen : List Bool) → outcome (dayOf orders) ≡ chosen →
+published-as : (orders : Orders) (chosen : List Bool) → outcome (dayOf orders) ≡ chosen →
     (asked : PublishedOutcome) → asked ≡ published orders → ValueOf asked
 unfolding published
 published-as orders chosen best asked e =
@@ -72,7 +73,7 @@ hold [] h = tt
 hold (d ∷ l) h = (published-as (d .orders) _ _ _ refl .1 ∙ h .1, answered (d .orders) (d .prices) (h .2), hold l (h .3))
 
 -- all that a row computes through
-unfoldable pub rowsCompute : Unit {0}
+unfoldable rowsCompute : Unit {0}
 unfolding computed executedOf allSets forHours lawful-as executed-as traded-as welfare-as best-as outcome-as published-as
 rowsCompute = tt
 
@@ -143,4 +144,20 @@ linked-days-hold =
       refl,
       (refl, (refl, tt)),
       (refl, refl, (refl, tt), (refl, refl, (refl, tt), (refl, refl, tt, (refl, refl, tt, tt)))),
+    )
+
+-- THE DAYS OF THE WORKED CASH SHEETS
+pub cash-days-hold : Hold (map (λ c. c .day) cashCases)
+unfolding rowsCompute cashCases
+cash-days-hold =
+    hold (map (λ c. c .day) cashCases) (
+      refl,
+      refl,
+      tt,
+      (
+        refl,
+        refl,
+        tt,
+        (refl, refl, tt, (refl, refl, tt, (refl, refl, (refl, (refl, tt)), (refl, refl, tt, (refl, refl, tt, tt))))),
+      ),
     )
