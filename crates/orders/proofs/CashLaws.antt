@@ -1,6 +1,6 @@
 -- THE CASH SHEET OF AN ACCEPTED BOOK (document 02, P3): "cash paid in all equals cash received", and bought equals sold; the totals are the sums over the lines
 -- too; and its numbers have room. Assumes nothing.
-use Prim.Native.Nat.{ℕ, _+_, _≤_}
+use Prim.Native.Nat.{ℕ, _≤_}
 use mathlib.Core.Bool.{Bool}
 use mathlib.Core.Path.{_≡_}
 use mathlib.Core.List.{List, [], _∷_, map}

@@ -10,7 +10,7 @@ use lib.Dec.{eqb, lit<}
 use lib.ListN.{length, take, getD}
 use Rattle.rules.specs.Orders.{Side, buy, sell, Order, Block, Orders, maxPrice, stepsOf, canonical, executedOf}
 use Rattle.rules.specs.Hour.{bySide, when}
-use Rattle.rules.specs.Day.{Day, autumnHours, isCounted, dayOf, daySum, keep, taken, hourOf, setPrices, executed}
+use Rattle.rules.specs.Day.{Day, autumnHours, isCounted, dayOf, keep, taken, hourOf, setPrices, executed}
 use Rattle.rules.specs.Outcome.{outcome, forHours, published}
 use Rattle.rules.specs.Contender.{Each, Within, PricesInRange}
 use Rattle.rules.specs.OutcomeRules.{EachBlock}

@@ -8,7 +8,7 @@ use lib.ListN.{getD}
 use Rattle.rules.specs.Orders.{Side, Order, Block, Orders, maxPortfolio, canonical}
 use Rattle.rules.specs.Hour.{bySide, when}
 use Rattle.rules.specs.Day.{daySum, keep, dayOf}
-use Rattle.rules.specs.Outcome.{PublishedOutcome, published}
+use Rattle.rules.specs.Outcome.{published}
 
 -- EXECUTED ORDERS
 -- An order as it was executed: whose it is, its side, the hours that it runs in, and its executed quantity in each of them.
