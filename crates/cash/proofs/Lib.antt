@@ -1,0 +1,3 @@
+-- The laws of the cash sheet of a book.
+pub mod LineLaws
+pub mod CashSheetLaws
