@@ -17,6 +17,7 @@ static uint8_t book[AUCTION_MOST_BOOK + 1];
 static uint8_t result[AUCTION_RESULT_SIZE(AUCTION_MOST_RECORDS)];
 static uint8_t sheet[AUCTION_MOST_SHEET];
 static uint8_t families[AUCTION_MOST_FAMILIES];
+static uint8_t cash[AUCTION_MOST_CASH];
 
 /* The number in 4 bytes, high byte first. */
 static uint32_t number_at(const uint8_t *bytes)
@@ -65,6 +66,8 @@ int main(int count, char **words)
         tell_hour_1(length);
         /* What each family of linked blocks gains. */
         fwrite(families, 1, auction_families(book, length, families, sizeof families), stderr);
+        /* What each portfolio buys and sells, pays and receives. */
+        fwrite(cash, 1, auction_cash(book, length, cash, sizeof cash), stderr);
     }
     /* Of a refused book the sheet is `refused;` and the number. */
     fwrite(sheet, 1, auction_sheet(book, length, sheet, sizeof sheet), stdout);

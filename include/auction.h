@@ -26,6 +26,7 @@ extern "C" {
 #define AUCTION_RESULT_RECORD 4       /* what each record of the book adds, the head included */
 #define AUCTION_MOST_SHEET 781        /* a sheet */
 #define AUCTION_MOST_FAMILIES 587     /* a family report */
+#define AUCTION_MOST_CASH 22564       /* a cash sheet */
 #define AUCTION_ENTRY_SIZE 16         /* an entry of a list, a step */
 #define AUCTION_MOST_ENTRIES 256      /* entries of a list */
 #define AUCTION_MOST_LIST 4096        /* a list; a longer one is refused */
@@ -81,6 +82,10 @@ uint32_t auction_sheet(const uint8_t *book, size_t book_len, uint8_t *out, size_
 /* Writes a book's family report, or the line `refused;` and the number, to the start of `out`, and answers its length, at most
  * AUCTION_MOST_FAMILIES. Where `out` is shorter than what there is to write it stays as it was. */
 uint32_t auction_families(const uint8_t *book, size_t book_len, uint8_t *out, size_t out_len);
+
+/* Writes a book's cash sheet, or the line `refused;` and the number, to the start of `out`, and answers its length, at most
+ * AUCTION_MOST_CASH. Where `out` is shorter than what there is to write it stays as it was. */
+uint32_t auction_cash(const uint8_t *book, size_t book_len, uint8_t *out, size_t out_len);
 
 /* The least and the greatest price of an hour without blocks whose quantities are uncertain, over all choices of quantities that
  * lie between the low and the high figure of each step. A step of the list is four numbers of 4 bytes, high byte first: side, 0

@@ -8,6 +8,7 @@ nothing else; what is none is refused, by an exception with the number and the w
     outcome = auction.clear(book)
     outcome.hours[0].price, outcome.welfare, outcome.taken
     auction.families(book)[0].gain
+    auction.cash(book).portfolio(1).paid
     auction.price_range(struct.pack(">8I", 0, 5000, 100, 100, 1, 3000, 60, 140)).greatest
 
     python3 -m auction day.book         prints the sheet of a book's file
@@ -22,7 +23,7 @@ import re
 import sys
 from dataclasses import dataclass
 from pathlib import Path
-from typing import Dict, Optional, Tuple
+from typing import Dict, List, Optional, Tuple
 
 _ROOT = Path(__file__).resolve().parents[2]
 _HEADER = _ROOT / "include" / "auction.h"
@@ -68,6 +69,7 @@ _CALLS = {
     "auction_clear": (_BYTES, _SIZE, _BYTES, _SIZE),
     "auction_sheet": (_BYTES, _SIZE, _BYTES, _SIZE),
     "auction_families": (_BYTES, _SIZE, _BYTES, _SIZE),
+    "auction_cash": (_BYTES, _SIZE, _BYTES, _SIZE),
     "auction_range": (_BYTES, _SIZE, _NUMBER),
 }
 
@@ -162,6 +164,33 @@ class Family:
 
 
 @dataclass(frozen=True)
+class Account:
+    """What a portfolio, or all of them together, trades over the day: quantities in tenths of a MWh and cash in
+    tenths of a cent, hour 3 as the day counts it."""
+
+    bought: int
+    sold: int
+    paid: int
+    received: int
+
+
+@dataclass(frozen=True)
+class Cash:
+    """The accounts of an accepted book: each portfolio with an order, executed or not, in rising number, and all
+    orders together. As much is bought as sold, and as much paid as received."""
+
+    portfolios: Tuple[Tuple[int, Account], ...]
+    all: Account
+
+    def portfolio(self, number: int) -> Account:
+        """The account of the portfolio of this number; KeyError where it has no order."""
+        for other, account in self.portfolios:
+            if other == number:
+                return account
+        raise KeyError(f"no order of portfolio {number}")
+
+
+@dataclass(frozen=True)
 class PriceRange:
     """The least and the greatest price of an hour whose quantities are uncertain, in cents per MWh."""
 
@@ -208,15 +237,32 @@ def sheet(book: bytes) -> str:
 def families(book: bytes) -> Tuple[Family, ...]:
     """The gain of each family at the published prices, in rising number of the block without a parent; a block
     without links is its own family. Raises Refused."""
-    first, *lines = (line.split(";") for line in family_report(book).splitlines())
-    if first[0] == "refused":
-        raise Refused(int(first[1]))
-    return tuple(Family(int(block), int(gain)) for block, gain in lines)
+    return tuple(Family(int(block), int(gain)) for block, gain in _fields(family_report(book)))
 
 
 def family_report(book: bytes) -> str:
     """The family report of a book, or the line `refused;` and the number."""
     return _text("auction_families", "MOST_FAMILIES", book)
+
+
+def cash(book: bytes) -> Cash:
+    """What each portfolio buys and sells, pays and receives at the published prices, and all orders together. Raises
+    Refused."""
+    *lines, totals = ((name, Account(*map(int, numbers))) for name, *numbers in _fields(cash_sheet(book)))
+    return Cash(tuple((int(name), account) for name, account in lines), totals[1])
+
+
+def cash_sheet(book: bytes) -> str:
+    """The cash sheet of a book, or the line `refused;` and the number."""
+    return _text("auction_cash", "MOST_CASH", book)
+
+
+def _fields(report: str) -> List[List[str]]:
+    """The fields of each line behind the title; raises Refused where the report is a refusal."""
+    first, *lines = (line.split(";") for line in report.splitlines())
+    if first[0] == "refused":
+        raise Refused(int(first[1]))
+    return lines
 
 
 def price_range(list: bytes) -> PriceRange:

@@ -39,7 +39,8 @@ def said(book: bytes) -> tuple:
         prices = [auction.price(book, outcome.set, hour) for hour in hours_of(book)]
     except auction.Refused as refused:
         outcome, prices = refused.number, None
-    return outcome, prices, auction.sheet(book), auction.family_report(book), auction.price_range(full_list(book))
+    texts = auction.sheet(book), auction.family_report(book), auction.cash_sheet(book)
+    return outcome, prices, *texts, auction.price_range(full_list(book))
 
 
 def list_of(*steps: tuple) -> bytes:
@@ -116,6 +117,29 @@ class Calls(unittest.TestCase):
                 lines = [f"{family.block};{family.gain}" for family in auction.families(book)]
                 self.assertEqual(report.split("\n"), ["block;gain", *lines, ""], path.name)
 
+    def test_cash(self):
+        cash = auction.cash(sample("S5.book"))
+        self.assertEqual([number for number, _ in cash.portfolios], [1, 2, 3])
+        self.assertEqual(cash.portfolio(1), auction.Account(bought=200, sold=0, paid=600_000, received=0))
+        self.assertEqual(cash.portfolio(3), auction.Account(0, 100, 0, 300_000))
+        self.assertEqual(cash.all, auction.Account(200, 200, 600_000, 600_000))
+        cash = auction.cash(sample("cash-autumn.book"))
+        self.assertEqual(cash.portfolio(4), auction.Account(160, 70, 320_000, 210_000))
+        self.assertEqual(cash.portfolio(9), auction.Account(0, 0, 0, 0))  # its orders got nothing
+        self.assertRaises(KeyError, cash.portfolio, 10)
+        self.assertEqual(auction.cash(sample("head-alone.book")), auction.Cash((), auction.Account(0, 0, 0, 0)))
+        title = "portfolio;bought;sold;paid;received"
+        for path in SAMPLES.glob("*.cash"):
+            book, sheet = path.with_suffix(".book").read_bytes(), path.read_text()
+            self.assertEqual(auction.cash_sheet(book), sheet, path.name)
+            if sheet.startswith("refused;"):
+                self.assertEqual(f"refused;{refusal(auction.cash, book)}\n", sheet, path.name)
+            else:
+                cash = auction.cash(book)
+                accounts = [*cash.portfolios, ("all", cash.all)]
+                lines = [f"{name};{it.bought};{it.sold};{it.paid};{it.received}" for name, it in accounts]
+                self.assertEqual(sheet.split("\n"), [title, *lines, ""], path.name)
+
     def test_price_ranges(self):
         self.assertEqual(auction.price_range(sample("wind.list")), auction.PriceRange(750, 2500))
         self.assertEqual(auction.price_range(b""), auction.PriceRange(150_000, 150_000))
@@ -174,7 +198,8 @@ class Calls(unittest.TestCase):
         names.update({"refused-2-edition-3": 2, "refused-10": 10, "refused-10-order": 10})
         for name, number in names.items():
             book = sample(f"{name}.book")
-            for call, *words in (auction.read,), (auction.clear,), (auction.price, 0, 1), (auction.families,):
+            calls = (auction.read,), (auction.clear,), (auction.price, 0, 1), (auction.families,), (auction.cash,)
+            for call, *words in calls:
                 self.assertEqual(refusal(call, book, *words), number)
         for hour in 0, 25, 1 << 31:
             self.assertEqual(refusal(auction.price, sample("S5.book"), 0, hour), 8)
@@ -193,7 +218,8 @@ class Calls(unittest.TestCase):
     def test_bytes_and_nothing_else(self):
         book = sample("S5.book")
         for other in None, "text", 5, bytearray(book), memoryview(book), [1, 2], SAMPLES / "S5.book":
-            calls = (auction.read,), (auction.clear,), (auction.sheet,), (auction.families,), (auction.price, 0, 1)
+            plain = auction.read, auction.clear, auction.sheet, auction.families, auction.cash
+            calls = *((call,) for call in plain), (auction.price, 0, 1)
             for call, *words in calls:
                 with self.assertRaisesRegex(TypeError, "a book is bytes, and not "):
                     call(other, *words)

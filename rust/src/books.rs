@@ -7,6 +7,7 @@
 //! - `damage`: refused books, by cause or by accident;
 //! - `days`: both kinds for days of 23, 24 and 25 hours;
 //! - `links`: links among the blocks of edition 3, right and wrong;
+//! - `portfolios`: books for the cash sheet, with few portfolios or all of them;
 //! - `lists`: lists of steps whose quantities are uncertain, right and wrong;
 //! - `families`: large books for the benchmark;
 //! - `expected`: what is expected of the books in `bench-books`;
@@ -21,6 +22,7 @@ mod dice;
 mod expected;
 mod families;
 mod links;
+mod portfolios;
 mod lists;
 mod random;
 mod worked;
@@ -39,6 +41,7 @@ pub use dice::Dice;
 pub use expected::Expected;
 pub use families::{full_day, linked_day, Family, FAMILIES};
 pub use links::{link_edges, Shape};
+pub use portfolios::{cash_book_on, cash_orders_on, crowded_book_on};
 pub use lists::{
     damaged_list, list_edges, list_of, random_list, tiny_list, ListEdge, ListFamily, ListStep, BUY,
     LIST_FAMILIES, SELL,
@@ -48,7 +51,7 @@ pub use random::{
     tiny_book, tiny_book_of,
 };
 pub use worked::{
-    block_beside_the_day, day_of_23_hours, day_of_25_hours, edition_2_day, head_alone,
+    block_beside_the_day, cash_days, day_of_23_hours, day_of_25_hours, edition_2_day, head_alone,
     link_upwards, link_without_parent, linked_days, opposite_blocks, step_beside_the_day,
     thirty_two_blocks, worked_days, CHAIN_OF_32_TAKEN, EDITION_2_BLOCKS, THIRTY_TWO_BLOCKS_TAKEN,
 };

@@ -4,7 +4,7 @@
 //! It is slow on purpose. Its only use is to be compared with the proved code,
 //! so each function is meant to be read beside the sentence it comes from.
 //!
-//! - [`paper`]: reading, pricing, clearing, contenders and the sheet;
+//! - [`paper`]: reading, pricing, clearing, contenders and the texts of the programs;
 //! - [`books`]: books to try them on: a builder, random books, damaged books;
 //! - [`text`]: a plain-text form of a book for people;
 //! - [`twin`]: the proved code's algorithm in plain Rust, to be timed beside it.

@@ -3,6 +3,7 @@
 //! builds at once.
 
 use std::fs;
+use std::io::Write;
 use std::os::unix::fs::PermissionsExt;
 use std::path::{Path, PathBuf};
 use std::process::{Child, Command, Output, Stdio};
@@ -29,6 +30,7 @@ program() { printf '#!/bin/sh\necho %s\n' "$2" >"target/bin/$1"; chmod +x "targe
 case $2 in
 auction_print) program auction_print sheet ;;
 family_print) program family_print report ;;
+cash_print) program cash_print cash ;;
 esac
 echo "rt: $2 proved (0 s)"
 "#;
@@ -36,6 +38,7 @@ echo "rt: $2 proved (0 s)"
 const CRATES: &str = "# crates
 auction_print: middle low io
 family_print: middle low io
+cash_print: middle low io
 exports: middle low
 middle: low
 low:
@@ -47,7 +50,7 @@ fn folder(name: &str) -> PathBuf {
     let _ = fs::remove_dir_all(&folder);
     fs::create_dir_all(folder.join("bin")).expect("a folder");
     fs::create_dir_all(folder.join("crates/low/must-fail")).expect("a folder");
-    for script in ["build", "auction-print", "family-print"] {
+    for script in ["build", "auction-print", "family-print", "cash-print"] {
         let source = Path::new(env!("CARGO_MANIFEST_DIR")).join("..").join(script);
         fs::copy(source, folder.join(script)).expect(script);
     }
@@ -63,9 +66,13 @@ fn write(folder: &Path, name: &str, text: &str) {
 }
 
 fn started(folder: &Path, words: &[&str]) -> Child {
+    started_with(folder, words, Stdio::null())
+}
+
+fn started_with(folder: &Path, words: &[&str], input: Stdio) -> Child {
     let path = format!("{}:{}", folder.join("bin").display(), std::env::var("PATH").unwrap());
     let mut command = Command::new(folder.join(words[0]));
-    command.args(&words[1..]).env("PATH", path).current_dir("/").stdin(Stdio::null());
+    command.args(&words[1..]).env("PATH", path).current_dir("/").stdin(input);
     command.stdout(Stdio::piped()).stderr(Stdio::piped()).spawn().expect("it starts")
 }
 
@@ -103,6 +110,9 @@ fn each_crate_is_told_and_then_nothing() {
         ["1 of 3: low, at hand", "2 of 3: middle, at hand", "3 of 3: family_print, proved"];
     assert_eq!(told(&folder, &["build", "families"]), families);
     assert_eq!(run(&folder, &["build", "library", "families", "program"]), SILENT);
+    let cash = ["1 of 3: low, at hand", "2 of 3: middle, at hand", "3 of 3: cash_print, proved"];
+    assert_eq!(told(&folder, &["build", "cash"]), cash);
+    assert_eq!(run(&folder, &["build", "library", "families", "cash", "program"]), SILENT);
     let files = ["libauction.a", "libauction.so"].map(|name| folder.join("target/lib").join(name));
     assert!(files.iter().all(|file| file.is_file()));
     let left = fs::read_dir(folder.join("target")).expect("target").filter_map(Result::ok);
@@ -136,6 +146,43 @@ fn what_changed_is_built_again() {
     assert_eq!(run(&folder, &["family-print"]), (Some(0), "report\n".into(), String::new()));
 }
 
+/// A command builds its own program and no other, and runs it from any folder.
+#[test]
+fn each_command_runs_its_program() {
+    for (command, what, printed) in [
+        ("auction-print", "program", "sheet\n"),
+        ("family-print", "families", "report\n"),
+        ("cash-print", "cash", "cash\n"),
+    ] {
+        let folder = folder(command);
+        let program = command.replace('-', "_");
+        let (code, out, told) = run(&folder, &[command]);
+        assert_eq!((code, &*out), (Some(0), printed), "{told}");
+        assert!(told.contains(&format!("3 of 3: {program}, proved")), "{told}");
+        let built = fs::read_dir(folder.join("target/bin")).expect("programs");
+        let built: Vec<_> = built.map(|it| it.expect("a program").file_name()).collect();
+        assert_eq!(built, [&*program]);
+        for words in [&[command][..], &["build", "run", what]] {
+            assert_eq!(run(&folder, words), (Some(0), printed.into(), String::new()));
+        }
+    }
+}
+
+/// What stands on standard input is the program's, also where a toolchain that would read it
+/// builds the program first.
+#[test]
+fn a_command_leaves_its_input_to_the_program() {
+    let folder = folder("input");
+    let reading = RT.replace("sleep 0.1", "cat >/dev/null");
+    write(&folder, "bin/rt", &reading.replace(r"\necho %s\n", r"\ncat # %s\n"));
+    for _ in 0..2 {
+        let mut child = started_with(&folder, &["cash-print"], Stdio::piped());
+        child.stdin.take().expect("piped").write_all(b"book").expect("it reads");
+        let (code, out, told) = ended(child);
+        assert_eq!((code, &*out), (Some(0), "book"), "{told}");
+    }
+}
+
 #[test]
 fn a_failure_is_told_in_the_words_of_the_toolchain() {
     let folder = folder("failure");
@@ -164,10 +211,21 @@ fn a_crate_that_is_not_listed() {
 #[test]
 fn wrong_words_and_a_missing_toolchain() {
     let folder = folder("words");
-    assert_eq!(run(&folder, &["build", "everything"]).0, Some(2));
-    let (code, _, told) = run(&folder, &["build"]);
-    assert_eq!(code, Some(2));
-    assert!(told.starts_with("./build program|families|library.."), "{told}");
+    for words in [&["build", "everything"][..], &["build", "run", "everything"]] {
+        let (code, _, told) = run(&folder, words);
+        assert_eq!(
+            (code, told.contains("expected program, families, cash or library")),
+            (Some(2), true),
+            "{told}"
+        );
+    }
+    // A library is not run.
+    for words in [&["build"][..], &["build", "run"], &["build", "run", "library"]] {
+        let (code, _, told) = run(&folder, words);
+        assert_eq!(code, Some(2));
+        assert!(told.starts_with("./build program|families|cash|library.."), "{told}");
+        assert!(told.contains("\n./build run program|families|cash: "), "{told}");
+    }
     let mut command = Command::new("/bin/sh");
     fs::remove_file(folder.join("bin/rt")).expect("it was there");
     for tool in ["awk", "cat", "cut", "dirname", "find", "sha256sum", "sort", "uname"] {
@@ -182,24 +240,26 @@ fn wrong_words_and_a_missing_toolchain() {
     assert_eq!(output.status.code(), Some(1));
 }
 
-/// Eight at once: each crate is proved once, and each build succeeds.
+/// Ten at once: each crate is proved once, and each build succeeds.
 #[test]
 fn builds_at_once_do_not_spoil_each_other() {
     let folder = folder("at-once");
-    let words: [(&[&str], &str); 4] = [
+    let words: [(&[&str], &str); 5] = [
         (&["build", "library"], ""),
         (&["auction-print"], "sheet\n"),
         (&["build", "program"], ""),
         (&["family-print"], "report\n"),
+        (&["cash-print"], "cash\n"),
     ];
-    let running: Vec<Child> = (0..8).map(|index| started(&folder, words[index % 4].0)).collect();
+    let running: Vec<Child> = (0..10).map(|index| started(&folder, words[index % 5].0)).collect();
     for (index, child) in running.into_iter().enumerate() {
         let (code, out, told) = ended(child);
-        assert_eq!((code, &*out), (Some(0), words[index % 4].1), "{told}");
+        assert_eq!((code, &*out), (Some(0), words[index % 5].1), "{told}");
     }
     assert!(!folder.join("spoilt").exists(), "two toolchains at once");
     let asked = fs::read_to_string(folder.join("asked")).expect("what was asked");
     assert_eq!(asked.matches("staticlib exports\n").count(), 1, "{asked}");
     assert_eq!(asked.matches("check auction_print\n").count(), 1, "{asked}");
     assert_eq!(asked.matches("check family_print\n").count(), 1, "{asked}");
+    assert_eq!(asked.matches("check cash_print\n").count(), 1, "{asked}");
 }

@@ -49,7 +49,9 @@ fn the_c_example_prints_the_sheets() {
     }
     let told = String::from_utf8(cleared(&program, &path("S5", "book")).stderr).unwrap();
     let hours = "hour 1: price 3000, traded 100\nhour 1 without blocks: price 4000\n";
-    assert_eq!(told, format!("{hours}block;gain\n1;10000\n"));
+    let [families, cash] = ["families", "cash"].map(|ending| sample("S5", ending));
+    let texts = String::from_utf8([families, cash].concat()).unwrap();
+    assert_eq!(told, format!("{hours}{texts}"));
     what_is_no_book(&program);
     no_standard_output(&program);
 }

@@ -87,6 +87,7 @@ fn the_environment_does_not_choose_what_is_tested() {
         ("AUCTION_LIBRARY", "/elsewhere"),
         ("AUCTION_PRINT", "/bin/true"),
         ("FAMILY_PRINT", "/bin/true"),
+        ("CASH_PRINT", "/bin/true"),
         ("RATTLE_HOME", "/elsewhere"),
         ("CARGO_TARGET_DIR", "/elsewhere"),
         ("CARGO_PROFILE_RELEASE_OVERFLOW_CHECKS", "false"),

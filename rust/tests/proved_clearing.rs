@@ -5,11 +5,14 @@
 
 mod answers;
 mod compared;
+mod compared_pricing;
+mod proved_texts;
 
 use auction_listing::books::{
     count, edge_books, pricing_case, reader_book, small_book, tiny_book, worked_days,
 };
-use compared::{compare_accepted, compare_any, compare_pricing};
+use compared::{compare_accepted, compare_any};
+use compared_pricing::compare_pricing;
 
 const LEAST_BOOKS: u64 = 20_000;
 

@@ -6,14 +6,17 @@
 
 mod answers;
 mod compared;
+mod compared_pricing;
 mod compared_reading;
+mod proved_texts;
 
 use auction_listing::books::{
     count, day_edges, day_of_23_hours, day_of_25_hours, pricing_case_on, reader_book_on,
     small_book_on, tiny_book_on, DAYS, DAYS_AND_EDITIONS,
 };
 use auction_listing::paper;
-use compared::{compare_accepted, compare_any, compare_pricing, Case, Named};
+use compared::{compare_accepted, compare_any, Named};
+use compared_pricing::{compare_pricing, Case};
 use compared_reading::{changes_of, compare_reading};
 
 const LEAST_BOOKS: u64 = 20_000;

@@ -6,13 +6,16 @@
 
 mod answers;
 mod compared;
+mod compared_pricing;
 mod compared_reading;
+mod proved_texts;
 
 use auction_listing::books::{
     count, edition_2_day, edition_edges, pricing_case_of, reader_book_of, small_book_of,
     tiny_book_of,
 };
-use compared::{compare_accepted, compare_any, compare_pricing, Named};
+use compared::{compare_accepted, compare_any, Named};
+use compared_pricing::compare_pricing;
 use compared_reading::{changes_of, compare_reading};
 
 const LEAST_BOOKS: u64 = 20_000;

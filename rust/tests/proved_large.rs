@@ -8,12 +8,14 @@
 
 mod answers;
 mod large_stack;
+mod proved_texts;
 
 use answers::hour_answer;
 use auction_listing::books::{count, Expected, Family, FAMILIES};
-use auction_listing::paper::{self, Book, HourAnswer, Published};
+use auction_listing::paper::{self, Book, HourAnswer, Published, Texts};
 use auction_listing::twin::by_value::{clearing, result::Clearing};
 use large_stack::with_stack;
+use proved_texts::proved_texts;
 use std::fs;
 use std::ops::RangeInclusive;
 use std::path::{Path, PathBuf};
@@ -69,9 +71,7 @@ fn agreed(name: &str, book: &[u8]) -> (Book, Published, u32) {
     // What the paper makes of this set.
     let outcome = paper::outcome(&accepted, set).expect("a lawful set");
     assert!(paper::result_bytes(&accepted, &outcome) == result, "{name}: not its set's result");
-    assert_eq!(auction::sheet(book).as_bytes(), paper::sheet_of(&accepted, &result), "{name}");
-    let report = paper::families_of(&accepted, &result);
-    assert_eq!(auction::family_report(book).as_bytes(), report, "{name}");
+    assert_eq!(proved_texts(book), Texts::of_result(&accepted, &result), "{name}");
     for hour in 1..=24 {
         let answer = hour_answer(auction::price(book, set, hour));
         if !accepted.hours.contains(&hour) {

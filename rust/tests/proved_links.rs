@@ -7,16 +7,22 @@
 
 mod answers;
 mod compared;
+mod compared_pricing;
 mod compared_reading;
+mod proved_texts;
+mod room;
 
 use auction_listing::books::{
     count, link_edges, linked_day, linked_days, pricing_case_of, pricing_case_on, reader_book_of,
     reader_book_on, small_book_of, small_book_on, small_orders_of, tiny_book_of, tiny_book_on,
     Dice, Orders, Shape, DAYS, FAMILIES,
 };
-use auction_listing::paper::{self, is_better, Book, Outcome, Published};
-use compared::{compare_accepted, compare_any, compare_pricing, Named};
+use auction_listing::paper::{self, is_better, Book, Outcome, Published, Texts};
+use compared::{compare_accepted, compare_any, Named};
+use compared_pricing::compare_pricing;
 use compared_reading::{changes_of, compare_reading};
+use proved_texts::proved_texts;
+use room::put_where_there_is_room;
 
 const LEAST_BOOKS: u64 = 20_000;
 const LINKED: u32 = 3;
@@ -100,17 +106,8 @@ fn a_report_without_room_is_not_written() {
     let days = linked_days().into_iter().map(|(_, orders)| orders.book());
     for book in days.filter(|book| book.len() < 500).chain([Vec::new(), vec![0; 16]]) {
         let expected = paper::families(&book);
-        for size in (0..=expected.len() + 1).chain([587, 1_000]) {
-            let before: Vec<u8> = (0..size).map(|i| (i * 7 + 3) as u8).collect();
-            let mut out = before.clone();
-            assert_eq!(auction::families_into(&book, &mut out), expected.len());
-            if size < expected.len() {
-                assert!(out == before, "{size} bytes were written to");
-            } else {
-                assert_eq!(out[..expected.len()], expected);
-                assert_eq!(out[expected.len()..], before[expected.len()..]);
-            }
-        }
+        let sizes = (0..=expected.len() + 1).chain([587, 1_000]);
+        put_where_there_is_room(auction::families_into, &book, &expected, sizes);
     }
 }
 
@@ -140,7 +137,7 @@ fn neighbours(book: &Book, set: u32) -> Vec<u32> {
 }
 
 /// The result of a large book, with its set: it is what the paper makes of that set, and the
-/// report is that of the result.
+/// texts are those of the result.
 fn published(name: &str, book: &[u8]) -> (Book, Outcome) {
     let accepted = paper::read(book).expect("accepted");
     let mut result = vec![0x55; paper::result_length(accepted.record_count)];
@@ -148,8 +145,7 @@ fn published(name: &str, book: &[u8]) -> (Book, Outcome) {
     let set = Published::from_bytes(&result).set(&accepted);
     let outcome = paper::outcome(&accepted, set).expect("a set that is allowed");
     assert!(paper::result_bytes(&accepted, &outcome) == result, "{name}");
-    let report = paper::families_of(&accepted, &result);
-    assert_eq!(auction::family_report(book).as_bytes(), report, "{name}");
+    assert_eq!(proved_texts(book), Texts::of_result(&accepted, &result), "{name}");
     (accepted, outcome)
 }
 

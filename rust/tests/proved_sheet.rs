@@ -3,8 +3,11 @@
 //!
 //! The environment variable BOOKS raises the counts (at least 20000 each).
 
+mod room;
+
 use auction_listing::books::{count, edge_books, reader_book, small_book, worked_days};
 use auction_listing::paper;
+use room::put_where_there_is_room;
 
 const LEAST_BOOKS: u64 = 20_000;
 
@@ -39,15 +42,6 @@ fn refusals_are_printed() {
 fn a_sheet_without_room_is_not_written() {
     let book = small_book(0);
     let expected = paper::sheet(&book);
-    for size in [0, 1, expected.len() - 1, expected.len(), expected.len() + 1] {
-        let before: Vec<u8> = (0..size).map(|i| (i * 7 + 3) as u8).collect();
-        let mut out = before.clone();
-        assert_eq!(auction::sheet_into(&book, &mut out), expected.len());
-        if size < expected.len() {
-            assert!(out == before, "{size} bytes were written to");
-        } else {
-            assert_eq!(out[..expected.len()], expected);
-            assert_eq!(out[expected.len()..], before[expected.len()..]);
-        }
-    }
+    let sizes = [0, 1, expected.len() - 1, expected.len(), expected.len() + 1];
+    put_where_there_is_room(auction::sheet_into, &book, &expected, sizes);
 }

@@ -1,16 +1,14 @@
-//! The samples: each text gives its book, each book its sheet and its family report, and
-//! the program `book_text` turns text and book into each other.
+//! The samples: each text gives its book, each book its sheet, its family report and its cash
+//! sheet, and the program `book_text` turns text and book into each other.
 
 mod sample_files;
 
 use auction_listing::books::{
-    block_beside_the_day, day_of_23_hours, day_of_25_hours, edition_2_day, head_alone,
+    block_beside_the_day, cash_days, day_of_23_hours, day_of_25_hours, edition_2_day, head_alone,
     link_upwards, link_without_parent, linked_days, opposite_blocks, step_beside_the_day,
     thirty_two_blocks, worked_days, Orders, CHAIN_OF_32_TAKEN, THIRTY_TWO_BLOCKS_TAKEN,
 };
-use auction_listing::paper::{
-    clear, families, families_of, outcome, read, result_bytes, result_length, sheet, sheet_of,
-};
+use auction_listing::paper::{clear, outcome, read, result_bytes, result_length, texts, Texts};
 use auction_listing::text::{to_book, to_text};
 use sample_files::{names, sample};
 use std::io::Write;
@@ -25,6 +23,7 @@ fn accepted_samples() -> Vec<(&'static str, Orders)> {
     samples.push(("day-25", day_of_25_hours()));
     samples.push(("day-23", day_of_23_hours()));
     samples.extend(linked_days());
+    samples.extend(cash_days());
     samples
 }
 
@@ -72,17 +71,18 @@ fn result_of(name: &str, book: &[u8]) -> Vec<u8> {
     }
 }
 
+/// What is stored of a sample.
+fn stored(name: &str) -> Texts {
+    let [sheet, families, cash] = ["sheet", "families", "cash"].map(|it| sample(name, it));
+    Texts { sheet, families, cash }
+}
+
 #[test]
-fn books_give_the_sheets_and_the_family_reports() {
+fn books_give_the_sheets_the_family_reports_and_the_cash_sheets() {
     for (name, _) in accepted_samples() {
         let book = sample(name, "book");
         let (accepted, result) = (read(&book).unwrap(), result_of(name, &book));
-        for (ending, written) in
-            [("sheet", sheet_of(&accepted, &result)), ("families", families_of(&accepted, &result))]
-        {
-            let (written, expected) = (String::from_utf8(written), sample(name, ending));
-            assert_eq!(written, String::from_utf8(expected), "{name}.{ending}");
-        }
+        assert_eq!(Texts::of_result(&accepted, &result), stored(name), "{name}");
     }
 }
 
@@ -91,8 +91,8 @@ fn refused_samples() {
     for (name, refusal) in REFUSED_SAMPLES {
         let book = sample(name, "book");
         assert_eq!(read(&book).err(), Some(refusal), "{name}");
-        assert_eq!(sheet(&book), sample(name, "sheet"), "{name}");
-        assert_eq!(families(&book), sample(name, "families"), "{name}");
+        assert_eq!(texts(&book), stored(name), "{name}");
+        assert_eq!(stored(name).cash, format!("refused;{refusal}\n").into_bytes(), "{name}");
         let told = book_text("to-text", &book);
         assert_eq!((told.status.code(), told.stdout.len()), (Some(1), 0));
         let message = String::from_utf8(told.stderr).unwrap();

@@ -1,5 +1,6 @@
 //! A family report, decoded.
 
+use crate::lines::fields;
 use crate::Refusal;
 
 /// A block without a parent, with all blocks below it.
@@ -13,16 +14,10 @@ pub struct Family {
 
 /// Takes the lines of a report apart.
 pub(crate) fn decoded(report: &str) -> Result<Vec<Family>, Refusal> {
-    let mut lines = report.lines().map(|line| line.split_once(';').expect("two fields"));
-    match lines.next().expect("a first line") {
-        ("refused", number) => {
-            let refusal = number.parse().ok().and_then(Refusal::numbered);
-            Err(refusal.expect("a refusal of `include/auction.h`"))
-        }
-        _ => Ok(lines.map(family).collect()),
-    }
+    Ok(fields(report)?.map(|line| family(&line)).collect())
 }
 
-fn family((block, gain): (&str, &str)) -> Family {
+fn family(line: &[&str]) -> Family {
+    let [block, gain] = line else { panic!("two fields, and not {line:?}") };
     Family { block: block.parse().expect("a number"), gain: gain.parse().expect("a number") }
 }

@@ -16,6 +16,9 @@
 //!
 //! let book = std::fs::read("../../samples/linked-both.book").expect("a sample");
 //! assert_eq!(auction::families(&book)?, [auction::Family { block: 1, gain: 100_000 }]);
+//! let cash = auction::cash(&book)?;
+//! assert_eq!(cash.portfolio(1).map(|account| account.paid), Some(800_000));
+//! assert_eq!(cash.all.paid, cash.all.received);
 //!
 //! let list = std::fs::read("../../samples/wind.list").expect("a sample");
 //! let range = auction::price_range(&list)?;
@@ -27,11 +30,14 @@
 //! # Ok::<(), auction::Refusal>(())
 //! ```
 
+mod cash;
 mod families;
+mod lines;
 mod outcome;
 pub mod raw;
 mod refusal;
 
+pub use cash::{Account, Cash};
 pub use families::Family;
 pub use outcome::{Kind, Outcome, Row};
 pub use refusal::Refusal;
@@ -107,17 +113,12 @@ pub fn result_size(book: &[u8]) -> usize {
 
 /// The sheet of a book, or the line `refused;` and the number.
 pub fn sheet(book: &[u8]) -> String {
-    let mut out = vec![0; header::MOST_SHEET as usize];
-    let length = sheet_into(book, &mut out);
-    out.truncate(length);
-    String::from_utf8(out).expect("a sheet is plain text")
+    text(sheet_into, book, header::MOST_SHEET)
 }
 
 /// The length of a book's [`sheet`], which is put at the start of `out` where it has room.
 pub fn sheet_into(book: &[u8], out: &mut [u8]) -> usize {
-    let (bytes, length) = (out.as_mut_ptr(), out.len());
-    // SAFETY: as in `clear_into`.
-    unsafe { raw::auction_sheet(book.as_ptr(), book.len(), bytes, length) as usize }
+    put(raw::auction_sheet, book, out)
 }
 
 /// The gain of each family at the published prices, in rising number of the block that has
@@ -128,18 +129,47 @@ pub fn families(book: &[u8]) -> Result<Vec<Family>, Refusal> {
 
 /// The family report of a book, or the line `refused;` and the number.
 pub fn family_report(book: &[u8]) -> String {
-    let mut out = vec![0; header::MOST_FAMILIES as usize];
-    let length = families_into(book, &mut out);
-    out.truncate(length);
-    String::from_utf8(out).expect("a report is plain text")
+    text(families_into, book, header::MOST_FAMILIES)
 }
 
 /// The length of a book's [`family_report`], which is put at the start of `out` where it has
 /// room.
 pub fn families_into(book: &[u8], out: &mut [u8]) -> usize {
+    put(raw::auction_families, book, out)
+}
+
+/// What each portfolio buys and sells, pays and receives at the published prices, and all
+/// orders together.
+pub fn cash(book: &[u8]) -> Result<Cash, Refusal> {
+    cash::decoded(&cash_sheet(book))
+}
+
+/// The cash sheet of a book, or the line `refused;` and the number.
+pub fn cash_sheet(book: &[u8]) -> String {
+    text(cash_into, book, header::MOST_CASH)
+}
+
+/// The length of a book's [`cash_sheet`], which is put at the start of `out` where it has
+/// room.
+pub fn cash_into(book: &[u8], out: &mut [u8]) -> usize {
+    put(raw::auction_cash, book, out)
+}
+
+/// The text of a book, of at most so many bytes.
+fn text(put_into: fn(&[u8], &mut [u8]) -> usize, book: &[u8], most: u32) -> String {
+    let mut out = vec![0; most as usize];
+    let length = put_into(book, &mut out);
+    out.truncate(length);
+    String::from_utf8(out).expect("plain text")
+}
+
+/// A call that puts a text at the start of `out` where it has room; the text's length.
+type Put = unsafe extern "C" fn(*const u8, usize, *mut u8, usize) -> u32;
+
+fn put(call: Put, book: &[u8], out: &mut [u8]) -> usize {
     let (bytes, length) = (out.as_mut_ptr(), out.len());
     // SAFETY: as in `clear_into`.
-    unsafe { raw::auction_families(book.as_ptr(), book.len(), bytes, length) as usize }
+    unsafe { call(book.as_ptr(), book.len(), bytes, length) as usize }
 }
 
 /// The least and the greatest price of an hour without blocks, over all quantities between the

@@ -11,5 +11,6 @@ extern "C" {
     ) -> u32;
     pub fn auction_sheet(book: *const u8, book_len: usize, out: *mut u8, out_len: usize) -> u32;
     pub fn auction_families(book: *const u8, book_len: usize, out: *mut u8, out_len: usize) -> u32;
+    pub fn auction_cash(book: *const u8, book_len: usize, out: *mut u8, out_len: usize) -> u32;
     pub fn auction_range(list: *const u8, list_len: usize, part: u32) -> u32;
 }

@@ -1,15 +1,9 @@
 //! The samples with links, and the family report as text and decoded.
 
+mod samples;
+
 use auction::{Family, Kind, Refusal, Row};
-use std::path::{Path, PathBuf};
-
-fn folder() -> PathBuf {
-    Path::new(env!("CARGO_MANIFEST_DIR")).join("../../samples")
-}
-
-fn sample(name: &str) -> Vec<u8> {
-    std::fs::read(folder().join(name)).expect(name)
-}
+use samples::{each_text, sample};
 
 #[test]
 fn outcomes() {
@@ -37,31 +31,11 @@ fn families() {
 /// The report of each sample, whole and in buffers that are too short.
 #[test]
 fn reports() {
-    let mut met = 0;
-    for entry in std::fs::read_dir(folder()).expect("the samples") {
-        let path = entry.expect("an entry").path();
-        if path.extension().is_none_or(|ending| ending != "families") {
-            continue;
-        }
-        let expected = std::fs::read_to_string(&path).expect("a report");
-        let book = std::fs::read(path.with_extension("book")).expect("its book");
-        let name = path.display();
-        assert_eq!(auction::family_report(&book), expected, "{name}");
-        let lines = auction::families(&book).map(|all| {
-            let line = |family: &Family| format!("{};{}\n", family.block, family.gain);
-            "block;gain\n".to_string() + &all.iter().map(line).collect::<String>()
-        });
-        assert_eq!(lines.unwrap_or_else(|it| format!("refused;{}\n", it.number())), expected);
-        for size in [0, 1, expected.len() - 1, expected.len(), expected.len() + 1] {
-            let mut out = vec![7; size];
-            assert_eq!(auction::families_into(&book, &mut out), expected.len(), "{name}");
-            let written = if size < expected.len() { "" } else { &expected };
-            assert_eq!(out[..written.len()], *written.as_bytes(), "{name}");
-            assert!(out[written.len()..].iter().all(|&byte| byte == 7), "{name}");
-        }
-        met += 1;
-    }
-    assert!(met >= 30);
+    each_text("families", auction::family_report, auction::families_into, |book| {
+        let line = |family: &Family| format!("{};{}\n", family.block, family.gain);
+        let lines: String = auction::families(book)?.iter().map(line).collect();
+        Ok("block;gain\n".to_string() + &lines)
+    });
 }
 
 #[test]

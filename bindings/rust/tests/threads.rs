@@ -1,6 +1,6 @@
 //! Many threads at once, and the stack that a call is said to need.
 
-use auction::{header, Family, Outcome, Price, PriceRange, Refusal};
+use auction::{header, Cash, Family, Outcome, Price, PriceRange, Refusal};
 use std::path::Path;
 use std::sync::Barrier;
 use std::thread;
@@ -36,6 +36,7 @@ struct Said {
     clear: Result<Outcome, Refusal>,
     sheet: String,
     families: Result<Vec<Family>, Refusal>,
+    cash: Result<Cash, Refusal>,
     prices: Vec<Result<Price, Refusal>>,
     range: Result<PriceRange, Refusal>,
 }
@@ -44,10 +45,11 @@ fn said(book: &[u8]) -> Said {
     let clear = auction::clear(book);
     let set = clear.as_ref().map_or(0, Outcome::set);
     let prices = (0..=25).map(|hour| auction::price(book, set, hour)).collect();
-    let (sheet, families) = (auction::sheet(book), auction::families(book));
+    let (families, cash) = (auction::families(book), auction::cash(book));
     let range = auction::price_range(&full_list(book));
     assert!(range.is_ok(), "a right list");
-    Said { read: auction::read(book), clear, sheet, families, prices, range }
+    let sheet = auction::sheet(book);
+    Said { read: auction::read(book), clear, sheet, families, cash, prices, range }
 }
 
 /// Each thread has a book of its own and begins together with the others.

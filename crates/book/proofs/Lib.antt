@@ -6,4 +6,5 @@ pub mod Distinct
 pub mod Surveys
 pub mod Refused
 pub mod Accepted
+pub mod RecordSums
 pub mod Cases

@@ -128,13 +128,13 @@ module _ (b ends records sides prices quantities brecords bsides bhours bprices 
   sales-are : (h : ℕ) → sales h ≡ overBlocks (sells h) (publishedBlocks b)
   unfolding salesAt
   sales-are h =
-      sym (traders-same (sells h) (λ n s x p q. refl) b brecords bsides bhours bprices bquantities sizeR (omega arith) (omega arith) (omega arith) (decisions (length bsides) set))
+      sym (traders-same (sells h) (λ n m s x p q. refl) b brecords bsides bhours bprices bquantities sizeR (omega arith) (omega arith) (omega arith) (decisions (length bsides) set))
       ∙ ap (overBlocks (sells h)) taken-are
 
   purchases-are : (h : ℕ) → purchases h ≡ overBlocks (buys h) (publishedBlocks b)
   unfolding buysAt
   purchases-are h =
-      sym (traders-same (buys h) (λ n s x p q. refl) b brecords bsides bhours bprices bquantities sizeR (omega arith) (omega arith) (omega arith) (decisions (length bsides) set))
+      sym (traders-same (buys h) (λ n m s x p q. refl) b brecords bsides bhours bprices bquantities sizeR (omega arith) (omega arith) (omega arith) (decisions (length bsides) set))
       ∙ ap (overBlocks (buys h)) taken-are
 
   gets-are : (h : ℕ) → 1 ≤ h → h ≤ 24 → gets h ≡ executedIn b h

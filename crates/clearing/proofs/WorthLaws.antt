@@ -9,7 +9,7 @@ use lib.Dec.{eqb}
 use lib.ListN.{length, drop, getD, drop-of-length-le}
 use lib.Seq.{drop-cons}
 use borrow.Author.Tests.{eq-eqb, ne-eqb}
-use Rattle.records.specs.Records.{number}
+use Rattle.records.specs.Records.{number, portfolio}
 use Rattle.book.specs.Hours.{countedHours}
 use Rattle.roots.proofs.SizeLaws.{limit-fits}
 use Rattle.rules.specs.Orders.{Side, buy, sell, Block, maxPrice}
@@ -82,7 +82,7 @@ module _ (d : ℕ) (sides hours prices quantities : List ℕ) where
   module _ (sized : TradersSized sides hours quantities) (asMany : length sides ≡ length prices) where
     rest-more : (f : Block → ℕ) (b records : List ℕ) (i rest : ℕ) → length records ≡ length sides → i < length sides →
         overBlocks f (restFrom b records i rest)
-        ≡ when (eqb (rest % 2) 1) (f (blockOf (number b (getD records i 0)) (getD sides i 0) (getD hours i 0) (getD prices i 0) (getD quantities i 0)))
+        ≡ when (eqb (rest % 2) 1) (f (blockOf (number b (getD records i 0)) (portfolio b (getD records i 0)) (getD sides i 0) (getD hours i 0) (getD prices i 0) (getD quantities i 0)))
         + overBlocks f (restFrom b records (i + 1) (rest / 2))
     unfolding blocksFrom decisions
     rest-more f b records i rest same k =
@@ -92,7 +92,7 @@ module _ (d : ℕ) (sides hours prices quantities : List ℕ) where
         let kq : i < length quantities = omega (arith, sized .asManyQuantities) in
         let e : length sides - i ≡ suc (length sides - (i + 1)) = omega arith in
         rw (e, add-one i, drop-cons records i 0 kr, drop-cons sides i 0 k, drop-cons hours i 0 kh, drop-cons prices i 0 kp, drop-cons quantities i 0 kq)
-        (take-one f (blockOf (number b (getD records i 0)) (getD sides i 0) (getD hours i 0) (getD prices i 0) (getD quantities i 0))
+        (take-one f (blockOf (number b (getD records i 0)) (portfolio b (getD records i 0)) (getD sides i 0) (getD hours i 0) (getD prices i 0) (getD quantities i 0))
         (blocksFrom b (drop (suc i) records) (drop (suc i) sides) (drop (suc i) hours) (drop (suc i) prices) (drop (suc i) quantities))
         (eqb (rest % 2) 1) (decisions (length sides - suc i) (rest / 2)))
 
@@ -114,7 +114,7 @@ module _ (d : ℕ) (sides hours prices quantities : List ℕ) where
       unfolding blocksValue
       value-more b records same =
           rest-more (λ b. bySide (b .side) (b .quantity * (b .price * day.hourCount d b)) 0) b records i rest same k
-          ∙ rw (hour-count d (number b (getD records i 0)) (getD sides i 0) (getD hours i 0) (getD prices i 0) (getD quantities i 0), first-when)
+          ∙ rw (hour-count d (number b (getD records i 0)) (portfolio b (getD records i 0)) (getD sides i 0) (getD hours i 0) (getD prices i 0) (getD quantities i 0), first-when)
 
       cost-more : (b records : List ℕ) → length records ≡ length sides →
           blocksCost d (restFrom b records i rest)
@@ -122,7 +122,7 @@ module _ (d : ℕ) (sides hours prices quantities : List ℕ) where
       unfolding blocksCost
       cost-more b records same =
           rest-more (λ b. bySide (b .side) 0 (b .quantity * (b .price * day.hourCount d b))) b records i rest same k
-          ∙ rw (hour-count d (number b (getD records i 0)) (getD sides i 0) (getD hours i 0) (getD prices i 0) (getD quantities i 0), second-when)
+          ∙ rw (hour-count d (number b (getD records i 0)) (portfolio b (getD records i 0)) (getD sides i 0) (getD hours i 0) (getD prices i 0) (getD quantities i 0), second-when)
 
     pub worthed-next : (set v c rest i worth v′ c′ : ℕ) → Worthed set v c rest i → i < length sides → worth ≤ mostQuantity * mostLimit →
         worth ≡ when (eqb (rest % 2) 1) (getD quantities i 0 * (getD prices i 0 * countedHours d (getD hours i 0))) →

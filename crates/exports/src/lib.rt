@@ -8,9 +8,12 @@ ghost use Rattle.pricing.specs.Answers.{hourAnswer};
 ghost use Rattle.range.specs.Range.{rangeOf};
 ghost use Rattle.sheet.specs.Sheet.{sheetOf};
 ghost use Rattle.family_sheet.specs.FamilySheet.{familySheetOf};
+ghost use Rattle.cash.specs.CashSheet.{cashSheetOf};
 ghost use Rattle.exports.specs.Parts.{answerPart, rangePart, bufferAfter};
 use book::Reading;
 use book::read;
+use cash::MOST_CASH;
+use cash::cash;
 use clearing::clear;
 use family_sheet::MOST_FAMILY_SHEET;
 use family_sheet::families;
@@ -144,4 +147,15 @@ pub extern "C" fn auction_families(book: &[u8], out: &mut [u8]) -> u32
     let mut bytes = [0u8; MOST_FAMILY_SHEET];
     let written = families(book, &mut bytes);
     put_where_room(out, &bytes[..written])
+}
+
+// The length of what is written of a book's cash, at most 22,564. The bytes are put at the start of `out` where they have room; else it stays as it was.
+#[no_mangle]
+pub extern "C" fn auction_cash(book: &[u8], out: &mut [u8]) -> u32
+    ensures answer { λ r. ⌜ r ≡ length (cashSheetOf (now (book .entry))) ⌝ }
+    ensures bytes { λ _. ⌜ now (out .exit) ≡ bufferAfter (cashSheetOf (now (book .entry))) (now (out .entry)) ⌝ }
+{
+    let mut bytes = [0u8; MOST_CASH];
+    let length = cash(book, &mut bytes);
+    put_where_room(out, &bytes[..length])
 }

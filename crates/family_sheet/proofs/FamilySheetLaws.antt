@@ -49,7 +49,7 @@ number-of-block b (k ∷ l) (suc j) inside = number-of-block b l j (omega arith)
 
 -- a block, for places past the end
 nobody : Block
-nobody = record { number = 0; side = buy; price = 0; quantity = 0; runs = λ h. false }
+nobody = record { number = 0; portfolio = 0; side = buy; price = 0; quantity = 0; runs = λ h. false }
 
 module _ (b : List ℕ) (a : Accepted b) where
   abbrev result : List ℕ

@@ -67,7 +67,7 @@ prices-all result l size e = sym (rw size at (take-length l)) ∙ e
 pub limit-small : (day x price : ℕ) → day ≤ autumnHours → price ≤ maxPrice → price * countedHours day x ≤ 7500000
 unfolding countedHours hourCount
 limit-small day x price few small =
-    product-le price _ maxPrice 25 small (count-few day few (record { number = 0; side = buy; price = 0; quantity = 0; runs = holdsHour x }))
+    product-le price _ maxPrice 25 small (count-few day few (record { number = 0; portfolio = 0; side = buy; price = 0; quantity = 0; runs = holdsHour x }))
 
 pub gain-fits : (row sum limit d : ℕ) → row < 2 ^ 32 → sum ≤ mostLimit → limit ≤ 7500000 → d ≡ distance sum limit → row * d < 2 ^ 64
 gain-fits row sum limit d r s l e = omega (arith, product-le row d (2 ^ 32) mostLimit (omega arith) (omega arith))
@@ -104,7 +104,7 @@ when-times false q d = zero-mul d
 
 -- a block, for places past the end
 nobody : Block
-nobody = record { number = 0; side = buy; price = 0; quantity = 0; runs = λ h. false }
+nobody = record { number = 0; portfolio = 0; side = buy; price = 0; quantity = 0; runs = λ h. false }
 
 -- THE PRICES that a result has are those of the published set, in every hour that counts
 module _ (b : List ℕ) (a : Accepted b) where
@@ -149,7 +149,7 @@ module _ (b : List ℕ) (a : Accepted b) where
     block-record = each-place (BlockRecord b) (blockOrder b) j 0 (block-records b a) on-chain
 
     block-here : getD (dayFrom b .blocks) j other
-        ≡ blockOf (Rattle.records.specs.Records.number b k) (blockSideAt b k) (blockHoursAt b k) (blockPriceAt b k) (blockQuantityAt b k)
+        ≡ blockOf (Rattle.records.specs.Records.number b k) (Rattle.records.specs.Records.portfolio b k) (blockSideAt b k) (blockHoursAt b k) (blockPriceAt b k) (blockQuantityAt b k)
     block-here = rw (day-blocks b) (mapped-at (blockOn b) (blockOrder b) j other on-chain ∙ block-same b k block-record)
 
     row-here : rowIn result k ≡ when (getD (outcome (dayFrom b)) j false) (blockQuantityAt b k)
@@ -200,10 +200,10 @@ module _ (b : List ℕ) (a : Accepted b) where
     here : i < length (blockRecords b)
     here = omega (arith, bc .counted)
 
-    record-is : getD records i 0 ≡ getD (blockRecords b) i 0
+    pub record-is : getD records i 0 ≡ getD (blockRecords b) i 0
     record-is = sym (getD-take count records i 0 inside) ∙ rw (block-records-front bc)
 
-    hours-are : getD hours i 0 ≡ blockHoursAt b (getD (blockRecords b) i 0)
+    pub hours-are : getD hours i 0 ≡ blockHoursAt b (getD (blockRecords b) i 0)
     hours-are = rw (bc .hoursAre) (column-at 32 (blockHoursAt b) (blockRecords b) i here)
 
     price-is : getD prices i 0 ≡ blockPriceAt b (getD (blockRecords b) i 0)

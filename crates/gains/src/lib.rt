@@ -19,7 +19,7 @@ use result::price_in;
 use result::row_in;
 
 // The price of each hour in a result.
-fn prices_in(result: &[u8]) -> [u32; HOURS]
+pub fn prices_in(result: &[u8]) -> [u32; HOURS]
     ensures { λ r. ⌜ r ≡ pricesIn (now (result .entry)) ⌝ }
 {
     let mut prices = [0; HOURS];

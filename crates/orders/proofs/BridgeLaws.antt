@@ -8,7 +8,7 @@ use lib.ListN.{length, take, length-map}
 use Rattle.rules.specs.Orders.{mostBlockQuantity}
 use Rattle.rules.proofs.BoundsLaws.{limits-small}
 use native.Mathlib.Nat.{le-trans}
-use Rattle.records.specs.Records.{dayHours, edition, number, sideByte, stepAt, blockAt}
+use Rattle.records.specs.Records.{dayHours, edition, number, portfolio, sideByte, stepAt, blockAt}
 use Rattle.book.specs.Hours.{countedHours}
 use Rattle.book.specs.Chains.{stepOrder, blockOrder}
 use Rattle.book.specs.Refusals.{Accepted}
@@ -120,7 +120,7 @@ day-quiet b a =
 
 -- BLOCKS OUT OF THEIR COLUMNS
 pub block-same : (b : List ℕ) (k : ℕ) → BlockRecord b k
-    → blockOn b k ≡ blockOf (number b k) (blockSideAt b k) (blockHoursAt b k) (blockPriceAt b k) (blockQuantityAt b k)
+    → blockOn b k ≡ blockOf (number b k) (portfolio b k) (blockSideAt b k) (blockHoursAt b k) (blockPriceAt b k) (blockQuantityAt b k)
 unfolding blockFrom blockAt
 block-same b k r =
     let n = block-as-read b k r in
@@ -157,7 +157,7 @@ block-count b count records sides hours prices quantities c a =
 
 -- HOURS OF A BLOCK
 -- A block of the rules has as many hours as its 24 bits say, each as often as it counts
-pub hour-count : (day-hours number side hours price quantity : ℕ)
-    → day.hourCount day-hours (blockOf number side hours price quantity) ≡ countedHours day-hours hours
+pub hour-count : (day-hours number portfolio side hours price quantity : ℕ)
+    → day.hourCount day-hours (blockOf number portfolio side hours price quantity) ≡ countedHours day-hours hours
 unfolding day.hourCount countedHours
-hour-count day-hours number side hours price quantity = refl
+hour-count day-hours number portfolio side hours price quantity = refl

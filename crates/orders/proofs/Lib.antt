@@ -5,6 +5,7 @@ pub mod FrontLaws
 pub mod RecordLaws
 pub mod HourLaws
 pub mod BridgeLaws
+pub mod CashLaws
 pub mod LinkLaws
 pub mod PlaceLaws
 pub mod WorkedBookLaws

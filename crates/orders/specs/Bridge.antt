@@ -26,13 +26,14 @@ stepFrom b k =
 
 -- Record k as an order of the step chain.
 unfoldable pub orderFrom : List ℕ → ℕ → Order
-orderFrom b k = record { number = stepAt b k .number; step = stepFrom b k }
+orderFrom b k = record { number = stepAt b k .number; portfolio = stepAt b k .portfolio; step = stepFrom b k }
 
 -- Record k as a block of the rules: hour h is among its hours where bit h − 1 is set.
 unfoldable pub blockFrom : List ℕ → ℕ → Block
 blockFrom b k =
     record {
       number = blockAt b k .number;
+      portfolio = blockAt b k .portfolio;
       side = sideFrom (blockAt b k .side);
       price = blockAt b k .price;
       quantity = blockAt b k .quantity;

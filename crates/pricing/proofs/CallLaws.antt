@@ -67,11 +67,11 @@ module _ (b : List ℕ) (a : Accepted b) (count : ℕ) (records sides hours pric
       let purchased : overBlocks (buys h) (taken traders (decisions count set)) ≡ bought =
       subst (λ n. overBlocks (buys h) (taken traders (decisions n set)) ≡ bought) (size sides es) (sym (trades .bought)) in (
         rw (c, blocks-from-columns b count records sides hours prices quantities columns a)
-            (traders-same (sells h) (λ n s x p q. refl) b (take count records) (take count sides) (take count hours) (take count prices) (take count quantities)
+            (traders-same (sells h) (λ n m s x p q. refl) b (take count records) (take count sides) (take count hours) (take count prices) (take count quantities)
             (size sides es ∙ sym (size records er)) (size hours eh ∙ sym (size records er)) (size prices ep ∙ sym (size records er))
             (size quantities eq ∙ sym (size records er)) (decisions count set) ∙ sold),
         rw (c, blocks-from-columns b count records sides hours prices quantities columns a)
-            (traders-same (buys h) (λ n s x p q. refl) b (take count records) (take count sides) (take count hours) (take count prices) (take count quantities)
+            (traders-same (buys h) (λ n m s x p q. refl) b (take count records) (take count sides) (take count hours) (take count prices) (take count quantities)
             (size sides es ∙ sym (size records er)) (size hours eh ∙ sym (size records er)) (size prices ep ∙ sym (size records er))
             (size quantities eq ∙ sym (size records er)) (decisions count set) ∙ purchased),
       )

@@ -59,14 +59,14 @@ module _ (sides hours quantities : List ℕ) (h : ℕ) where
   module _ (columns : Columns sides hours quantities) where
     rest-more : (f : Block → ℕ) (i rest : ℕ) → i < length sides →
         overBlocks f (restFrom i rest)
-        ≡ when (eqb (rest % 2) 1) (f (blockOf 0 (getD sides i 0) (getD hours i 0) 0 (getD quantities i 0))) + overBlocks f (restFrom (i + 1) (rest / 2))
+        ≡ when (eqb (rest % 2) 1) (f (blockOf 0 0 (getD sides i 0) (getD hours i 0) 0 (getD quantities i 0))) + overBlocks f (restFrom (i + 1) (rest / 2))
     unfolding tradersFrom decisions
     rest-more f i rest k =
         let kh : i < length hours = omega (arith, columns .asManyPrices) in
         let kq : i < length quantities = omega (arith, columns .asManyQuantities) in
         let e : length sides - i ≡ suc (length sides - (i + 1)) = omega arith in
         rw (e, add-one i, drop-cons sides i 0 k, drop-cons hours i 0 kh, drop-cons quantities i 0 kq)
-        (take-one f (blockOf 0 (getD sides i 0) (getD hours i 0) 0 (getD quantities i 0))
+        (take-one f (blockOf 0 0 (getD sides i 0) (getD hours i 0) 0 (getD quantities i 0))
         (tradersFrom (drop (suc i) sides) (drop (suc i) hours) (drop (suc i) quantities)) (eqb (rest % 2) 1)
         (decisions (length sides - suc i) (rest / 2)))
 

@@ -6,7 +6,7 @@ use mathlib.Core.Bool.{Bool, true, false}
 use native.Mathlib.Omega.{arith}
 use native.Mathlib.Nat.{le-trans, mul-le-mul-right}
 use lib.ListN.{length, getD}
-use Rattle.records.specs.Records.{number}
+use Rattle.records.specs.Records.{number, portfolio}
 use Rattle.rules.specs.Orders.{Block}
 use Rattle.rules.specs.Day.{taken, overBlocks, sells, buys}
 use Rattle.rules.proofs.TradeBounds.{EachAtMost, taken-within}
@@ -14,7 +14,7 @@ use Rattle.orders.specs.Columns.{blocksFrom, blockOf}
 use Rattle.pricing.specs.Curves.{tradersFrom}
 
 -- a block's number and price play no part in what it sells or buys in an hour
-pub traders-same : (f : Block → ℕ) → ((n s x p q : ℕ) → f (blockOf n s x p q) ≡ f (blockOf 0 s x 0 q)) →
+pub traders-same : (f : Block → ℕ) → ((n m s x p q : ℕ) → f (blockOf n m s x p q) ≡ f (blockOf 0 0 s x 0 q)) →
     (b records sides hours prices quantities : List ℕ) → length sides ≡ length records → length hours ≡ length records → length prices ≡ length records →
     length quantities ≡ length records → (set : List Bool) →
     overBlocks f (taken (blocksFrom b records sides hours prices quantities) set) ≡ overBlocks f (taken (tradersFrom sides hours quantities) set)
@@ -29,7 +29,7 @@ traders-same f e b (k ∷ records) (s ∷ sides) (x ∷ hours) (p ∷ prices) (q
 traders-same f e b (k ∷ records) (s ∷ sides) (x ∷ hours) (p ∷ prices) (q ∷ quantities) a c d g (true ∷ set) =
     omega (
       arith,
-      e (number b k) s x p q,
+      e (number b k) (portfolio b k) s x p q,
       traders-same f e b records sides hours prices quantities (omega arith) (omega arith) (omega arith) (omega arith) set,
     )
 traders-same f e b (k ∷ records) (s ∷ sides) (x ∷ hours) (p ∷ prices) (q ∷ quantities) a c d g (false ∷ set) =

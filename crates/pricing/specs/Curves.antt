@@ -61,7 +61,7 @@ unfoldable pub tradersFrom : List ℕ → List ℕ → List ℕ → List Block
 tradersFrom [] hours quantities = []
 tradersFrom (s ∷ sides) [] quantities = []
 tradersFrom (s ∷ sides) (x ∷ hours) [] = []
-tradersFrom (s ∷ sides) (x ∷ hours) (q ∷ quantities) = blockOf 0 s x 0 q ∷ tradersFrom sides hours quantities
+tradersFrom (s ∷ sides) (x ∷ hours) (q ∷ quantities) = blockOf 0 0 s x 0 q ∷ tradersFrom sides hours quantities
 
 -- What the blocks of a set given as bits sell and buy in hour h.
 pub record TradesOf (sides hours quantities : List ℕ) (set h sales buys : ℕ) : Type 0 where

@@ -5,4 +5,5 @@ pub mod ReadLaws
 pub mod SizeLaws
 pub mod RowsLaws
 pub mod PromiseLaws
+pub mod CashRecordLaws
 pub mod WorkedResultLaws

@@ -104,7 +104,7 @@ pub record Says (b result : List ℕ) : Type 0 where
 
 module _ (b result : List ℕ) (a : Accepted b) (s : Says b result) where
   -- the rows of the steps are their executed quantities
-  step-rows-read : stepRowsIn b result ≡ executed (dayFrom b) (publishedBlocks b)
+  pub step-rows-read : stepRowsIn b result ≡ executed (dayFrom b) (publishedBlocks b)
   unfolding stepRowsIn rowOf
   step-rows-read =
       rows-are (rowIn result) (λ k. beside k (blockOrder b) (blockRows b (blockOrder b) (published (ordersOf b) .chosen)) 0) (stepOrder b)

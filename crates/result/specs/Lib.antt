@@ -3,4 +3,5 @@ pub mod Layout
 pub mod Result
 pub mod Rows
 pub mod Promise
+pub mod CashRecords
 pub mod WorkedResult

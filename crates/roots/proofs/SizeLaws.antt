@@ -37,7 +37,7 @@ product-fits q x a b = omega (arith, mul-le-mul a b)
 counted-few : (day x : ℕ) → day ≤ autumnHours → countedHours day x ≤ 2 * hourPlaces
 unfolding countedHours hourCount
 counted-few day x few =
-    hourCount-small day (λ h. weight-small day h few) (record { number = 0; side = buy; price = 0; quantity = 0; runs = holdsHour x })
+    hourCount-small day (λ h. weight-small day h few) (record { number = 0; portfolio = 0; side = buy; price = 0; quantity = 0; runs = holdsHour x })
 
 pub limit-fits : (price day x : ℕ) → day ≤ autumnHours → price ≤ maxPrice → price * countedHours day x ≤ mostLimit
 limit-fits price day x few a = omega (arith, mul-le-mul a (counted-few day x few))

@@ -35,7 +35,7 @@ rounded-down = refl
 
 -- a block of hours 1 and 2 at 3000
 block : Side → Block
-block side = record { number = 1; side = side; price = 3000; quantity = 50; runs = λ h. eqb h 1 || eqb h 2 }
+block side = record { number = 1; portfolio = 1; side = side; price = 3000; quantity = 50; runs = λ h. eqb h 1 || eqb h 2 }
 
 prices : ℕ → ℕ → ℕ → ℕ
 prices first second h = getD (0 ∷ first ∷ second ∷ []) h 150000

@@ -26,7 +26,7 @@ mostFamilyGain = 60000000000
 
 module _ (hours : ℕ) (few : hours ≤ autumnHours) where
   -- the hours count 25 times at most
-  counted-few : daySum hours (λ h. 1) ≤ 25
+  pub counted-few : daySum hours (λ h. 1) ≤ 25
   unfolding daySum sumTo weight
   counted-few = omega (arith, few)
 

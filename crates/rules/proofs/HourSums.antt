@@ -20,7 +20,7 @@ unfolding sumTo
 sumTo-le zero f g k = omega arith
 sumTo-le (suc n) f g k = omega (arith, sumTo-le n f g (λ h a b. k h a (omega arith)), k (suc n) (omega arith) (omega arith))
 
-sumTo-same : (n : ℕ) (f g : ℕ → ℕ) → ((h : ℕ) → f h ≡ g h) → sumTo n f ≡ sumTo n g
+pub sumTo-same : (n : ℕ) (f g : ℕ → ℕ) → ((h : ℕ) → f h ≡ g h) → sumTo n f ≡ sumTo n g
 unfolding sumTo
 sumTo-same zero f g k = refl
 sumTo-same (suc n) f g k = omega (arith, sumTo-same n f g k, k (suc n))
@@ -40,13 +40,18 @@ unfolding sumTo
 sumTo-times zero k f = omega arith
 sumTo-times (suc n) k f = omega (arith, sumTo-times n k f)
 
+pub sumTo-zero : (n : ℕ) → sumTo n (λ h. 0) ≡ 0
+unfolding sumTo
+sumTo-zero zero = refl
+sumTo-zero (suc n) = omega (arith, sumTo-zero n)
+
 -- a number that stands in one hour only
 sumTo-past : (n k : ℕ) (f : ℕ → ℕ) → n < k → ((h : ℕ) → (k ≡ h → ⊥) → f h ≡ 0) → sumTo n f ≡ 0
 unfolding sumTo
 sumTo-past zero k f a z = refl
 sumTo-past (suc n) k f a z = omega (arith, sumTo-past n k f (omega arith) z, z (suc n) (omega arith))
 
-sumTo-once : (n k : ℕ) (f : ℕ → ℕ) → 1 ≤ k → k ≤ n → ((h : ℕ) → (k ≡ h → ⊥) → f h ≡ 0) → sumTo n f ≡ f k
+pub sumTo-once : (n k : ℕ) (f : ℕ → ℕ) → 1 ≤ k → k ≤ n → ((h : ℕ) → (k ≡ h → ⊥) → f h ≡ 0) → sumTo n f ≡ f k
 unfolding sumTo
 sumTo-once zero k f a b z = absurd (omega arith)
 sumTo-once (suc n) k f a b z = go (le-suc-iff .0 b) (λ c. sumTo-once n k f a c z)
@@ -79,6 +84,10 @@ module _ (hours : ℕ) where
   unfolding daySum
   daySum-le f g k =
       sumTo-le 24 _ _ (λ h a b. weighed-le (weight hours h) (f h) (g h) (λ c. k h record { first = a; last = b; counted = c }))
+
+  -- numbers that are equal in the hours that count
+  pub daySum-counted : (f g : ℕ → ℕ) → ((h : ℕ) → Counts hours h → f h ≡ g h) → daySum hours f ≡ daySum hours g
+  daySum-counted f g k = omega (arith, daySum-le f g (λ h c. omega (arith, k h c)), daySum-le g f (λ h c. omega (arith, k h c)))
 
   pub daySum-same : (f g : ℕ → ℕ) → ((h : ℕ) → f h ≡ g h) → daySum hours f ≡ daySum hours g
   unfolding daySum

@@ -34,3 +34,7 @@ pub mod BoundsLaws
 pub mod TradeBounds
 pub mod FamilyLaws
 pub mod FamilyBounds
+pub mod CashCases
+pub mod CashLaws
+pub mod CashLineLaws
+pub mod CashBounds

@@ -2,15 +2,16 @@
 use Prim.Native.Nat.{ℕ}
 use mathlib.Core.Bool.{Bool}
 use mathlib.Core.Path.{_≡_, refl, _∙_, fun-ext}
-use mathlib.Core.List.{List, [], _∷_}
+use mathlib.Core.List.{List, [], _∷_, map}
 use Rattle.rules.specs.Orders.{Block, Orders, executedOf}
 use Rattle.rules.specs.Day.{Day, dayOf, taken, hourOf, keepsLimits, lawful, executed, welfare, traded}
 use Rattle.rules.specs.Outcome.{allSets, bestOf, outcome, forHours, PublishedOutcome, published}
 use Rattle.rules.specs.WorkedDays.{PriceFact, WorkedDay, workedDays, furtherDays, changeDays, linkedDays, Answered, Hold}
+use Rattle.rules.specs.WorkedCash.{cashCases}
 use Rattle.rules.proofs.CertifiedHours.{tested, tested-is, clears-tested, price-tested, prices-tested, computed}
 
 -- A VALUE THAT COMPUTES, with the proof that it is the one asked for
-abbrev ValueOf : {A : Type 0} → A → Type 0
+abbrev pub ValueOf : {A : Type 0} → A → Type 0
 ValueOf {A} asked = (value : A) × (asked ≡ value)
 
 -- Each definition with the tested prices in it. The value asked for has a name of its own, so that only its definition is rewritten.
@@ -143,4 +144,20 @@ linked-days-hold =
       refl,
       (refl, (refl, tt)),
       (refl, refl, (refl, tt), (refl, refl, (refl, tt), (refl, refl, tt, (refl, refl, tt, tt)))),
+    )
+
+-- THE DAYS OF THE WORKED CASH SHEETS
+pub cash-days-hold : Hold (map (λ c. c .day) cashCases)
+unfolding rowsCompute cashCases
+cash-days-hold =
+    hold (map (λ c. c .day) cashCases) (
+      refl,
+      refl,
+      tt,
+      (
+        refl,
+        refl,
+        tt,
+        (refl, refl, tt, (refl, refl, tt, (refl, refl, (refl, (refl, tt)), (refl, refl, tt, (refl, refl, tt, tt))))),
+      ),
     )

@@ -42,7 +42,7 @@ isCounted hours h = not (eqb (weight hours h) 0)
 -- A block on a day of so many hours: it runs in those of its hours that count.
 abbrev pub onDay : ℕ → Block → Block
 onDay hours b =
-    record { number = b .number; side = b .side; price = b .price; quantity = b .quantity; runs = λ h. b .runs h && isCounted hours h }
+    record { number = b .number; portfolio = b .portfolio; side = b .side; price = b .price; quantity = b .quantity; runs = λ h. b .runs h && isCounted hours h }
 
 unfoldable pub eachOnDay : ℕ → List Block → List Block
 eachOnDay hours [] = []

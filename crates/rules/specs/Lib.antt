@@ -7,7 +7,9 @@ pub mod Outcome
 pub mod Contender
 pub mod OutcomeRules
 pub mod Families
+pub mod Cash
 pub mod Uncertain
 pub mod WorkedDays
 pub mod WorkedFamilies
+pub mod WorkedCash
 pub mod Cases

@@ -15,14 +15,16 @@ pub record Step : Type 0 where
   pub price : ℕ
   pub quantity : ℕ
 
--- An order of the step chain. Today it is one step.
+-- An order of the step chain, of a member's portfolio. Today it is one step.
 pub record Order : Type 0 where
   pub number : ℕ
+  pub portfolio : ℕ
   pub step : Step
 
--- A block: its quantity in every hour that it runs in, or nothing at all.
+-- A block, of a member's portfolio: its quantity in every hour that it runs in, or nothing at all.
 pub record Block : Type 0 where
   pub number : ℕ
+  pub portfolio : ℕ
   pub side : Side
   pub price : ℕ
   pub quantity : ℕ
@@ -39,6 +41,10 @@ pub record Orders : Type 0 where
   pub steps : List Order
   pub blocks : List Block
   pub links : List Link
+
+-- The highest portfolio; the lowest is 1.
+abbrev pub maxPortfolio : ℕ
+maxPortfolio = 255
 
 -- The highest price; the lowest is 1.
 abbrev pub maxPrice : ℕ

@@ -7,26 +7,26 @@ use mathlib.Core.List.{List, [], _∷_, _++_}
 use lib.Dec.{eqb}
 use lib.ListN.{replicate}
 use Rattle.rules.specs.Orders.{Side, buy, sell, Order, Block, Orders}
-use Rattle.rules.specs.Hour.{Pricing, cleared, doesNotClear, pricing}
+use Rattle.rules.specs.Hour.{bySide, Pricing, cleared, doesNotClear, pricing}
 use Rattle.rules.specs.Day.{dayOf, taken, hourOf}
 use Rattle.rules.specs.Outcome.{PublishedOutcome, published}
 
--- An order of the step chain: number, side, hour, quantity, price.
+-- An order of the step chain: number, side, hour, quantity, price. Portfolio 1 buys, 2 sells.
 abbrev pub step : ℕ → Side → ℕ → ℕ → ℕ → Order
 step number side hour quantity price =
-    record { number = number; step = record { hour = hour; side = side; price = price; quantity = quantity } }
+    record { number = number; portfolio = bySide side 1 2; step = record { hour = hour; side = side; price = price; quantity = quantity } }
 
 -- Hour h is among hours given as bits, hour h with the weight 2 to the power h − 1.
 abbrev pub hoursAs : ℕ → ℕ → Bool
 hoursAs bits h = eqb (bits / 2 ^ (h - 1) % 2) 1
 
--- A block: number, side, hours as bits, quantity, price.
+-- A block of portfolio 3: number, side, hours as bits, quantity, price.
 abbrev pub block : ℕ → Side → ℕ → ℕ → ℕ → Block
-block number side bits quantity price = record { number = number; side = side; price = price; quantity = quantity; runs = hoursAs bits }
+block number side bits quantity price = record { number = number; portfolio = 3; side = side; price = price; quantity = quantity; runs = hoursAs bits }
 
--- A sell block of 50 over hours 1 and 2 (bits 3): number, price.
+-- A sell block of 50 of portfolio 3 over hours 1 and 2 (bits 3): number, price.
 abbrev pub block12 : ℕ → ℕ → Block
-block12 number price = record { number = number; side = sell; price = price; quantity = 50; runs = hoursAs 3 }
+block12 number price = record { number = number; portfolio = 3; side = sell; price = price; quantity = 50; runs = hoursAs 3 }
 
 -- The base book with blocks: in hours 1 and 2 each, buy 100 at 5000 and sell 100 at 3000.
 abbrev pub baseWith : List Block → Orders

@@ -65,7 +65,7 @@ place-within l s h size = omega (arith, place-is l s h size, taken-le (sells h) 
 
 -- no block: what stands past the last
 pub noBlock : Block
-noBlock = record { number = 0; side = buy; price = 0; quantity = 0; runs = λ h. false }
+noBlock = record { number = 0; portfolio = 0; side = buy; price = 0; quantity = 0; runs = λ h. false }
 
 same-test : (side side′ : Side) (sum sum′ limit limit′ : ℕ) → side ≡ side′ → sum ≡ sum′ → limit ≡ limit′ →
     testSide side (leb sum limit) (leb limit sum) ≡ testSide side′ (leb sum′ limit′) (leb limit′ sum′)

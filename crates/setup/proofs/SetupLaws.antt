@@ -12,7 +12,7 @@ use lib.Seq.{getD-take, getD-drop, slice}
 use Rattle.book.specs.Bounds.{mostBlocks}
 use Rattle.orders.specs.Layout.{stepPlaces}
 use Rattle.places.specs.Layout.{hourPlaces}
-use Rattle.records.specs.Records.{number, holdsHour}
+use Rattle.records.specs.Records.{number, portfolio, holdsHour}
 use Rattle.book.specs.Hours.{countedHours}
 use Rattle.book.specs.Refusals.{Accepted}
 use Rattle.orders.specs.Bridge.{dayFrom}
@@ -75,7 +75,7 @@ use Rattle.setup.proofs.SetupBlockLaws.{bought-within}
 -- THE BLOCKS OF THE COLUMNS
 blocks-at : (b r s x p q : List ℕ) (j : ℕ) → j < length r → j < length s → j < length x → j < length p → j < length q →
     drop j (blocksFrom b r s x p q)
-    ≡ blockOf (number b (getD r j 0)) (getD s j 0) (getD x j 0) (getD p j 0) (getD q j 0) ∷ drop (suc j) (blocksFrom b r s x p q)
+    ≡ blockOf (number b (getD r j 0)) (portfolio b (getD r j 0)) (getD s j 0) (getD x j 0) (getD p j 0) (getD q j 0) ∷ drop (suc j) (blocksFrom b r s x p q)
 unfolding blocksFrom
 blocks-at b [] s x p q j kr ks kx kp kq = absurd (omega arith)
 blocks-at b (r₀ ∷ r) [] x p q j kr ks kx kp kq = absurd (omega arith)
@@ -122,7 +122,7 @@ module _ (b ends stepRecords sides prices quantities : List ℕ) (count : ℕ) (
     (bc : BlockColumns mostBlocks b count records blockSides hours blockPrices blockQuantities)
     (parents : List ℕ) (po : ParentsOf b count parents) where
   abbrev blockHere : ℕ → Block
-  blockHere j = blockOf (number b (getD records j 0)) (getD blockSides j 0) (getD hours j 0) (getD blockPrices j 0) (getD blockQuantities j 0)
+  blockHere j = blockOf (number b (getD records j 0)) (portfolio b (getD records j 0)) (getD blockSides j 0) (getD hours j 0) (getD blockPrices j 0) (getD blockQuantities j 0)
 
   block-next : (j : ℕ) → j < count → drop j (dayFrom b .blocks) ≡ blockHere j ∷ drop (suc j) (dayFrom b .blocks)
   block-next j k =
@@ -198,7 +198,7 @@ module _ (b ends stepRecords sides prices quantities : List ℕ) (count : ℕ) (
 
     limit-is : blockHere j .price * day.hourCount (dayFrom b .hours) (blockHere j) ≡ getD blockPrices j 0 * countedHours (dayFrom b .hours) (getD hours j 0)
     limit-is =
-        rw (hour-count (dayFrom b .hours) (number b (getD records j 0)) (getD blockSides j 0) (getD hours j 0) (getD blockPrices j 0)
+        rw (hour-count (dayFrom b .hours) (number b (getD records j 0)) (portfolio b (getD records j 0)) (getD blockSides j 0) (getD hours j 0) (getD blockPrices j 0)
         (getD blockQuantities j 0))
 
     limit-at : limitOf (dayFrom b .hours) (blockHere j) ≡ limitAt columns j

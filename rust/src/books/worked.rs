@@ -221,6 +221,45 @@ fn chain_of_32() -> Orders {
     (2..=32).fold(orders, |orders, child| orders.link(child, child - 1))
 }
 
+/// Days for the cash sheet by name: a day of 25 hours on which portfolios trade on both
+/// sides, and one of 23 on which one trades with itself; on each one gets nothing, and the
+/// portfolios do not rise along the chains.
+pub fn cash_days() -> Vec<(&'static str, Orders)> {
+    vec![("cash-autumn", both_sides()), ("cash-spring", with_itself())]
+}
+
+/// On a day of 25 hours portfolios 4 and 7 each buy in one hour and sell in the other. With
+/// the block of portfolio 12 hour 2 is at 3000 and hour 3, which counts twice, at 2000: its
+/// limit of 3 x 2300 is kept. The block of portfolio 9 misses its limit of 3 x 2400, and its
+/// step is dearer than the price.
+fn both_sides() -> Orders {
+    Orders::new()
+        .step(Buy, 2, 5_000, 100, 7)
+        .step(Sell, 2, 3_000, 100, 4)
+        .step(Sell, 2, 9_000, 40, 9)
+        .step(Buy, 3, 6_000, 80, 4)
+        .step(Sell, 3, 2_000, 80, 7)
+        .block(Sell, &[2, 3], 2_300, 30, 12)
+        .block(Sell, &[2, 3], 2_400, 20, 9)
+        .on_day_of(25)
+}
+
+/// On a day of 23 hours portfolio 255 buys and sells in hour 2. The block of portfolio 100 is
+/// taken as in S5, over hour 3 as well, which is not there. Its child, a buy of portfolio 30,
+/// misses its limit.
+fn with_itself() -> Orders {
+    Orders::new()
+        .step(Buy, 2, 5_000, 100, 255)
+        .step(Sell, 2, 3_000, 100, 255)
+        .step(Buy, 4, 5_000, 100, 10)
+        .step(Sell, 4, 3_000, 100, 9)
+        .block(Sell, &[2, 3, 4], 2_900, 50, 100)
+        .block(Buy, &[2, 3, 4], 2_800, 20, 30)
+        .link(2, 1)
+        .of_edition(3)
+        .on_day_of(23)
+}
+
 /// Two blocks with a link to a parent that is not there.
 pub fn link_without_parent() -> Orders {
     let mut orders = two_sells([2_900, 2_900], 25);

@@ -2,19 +2,11 @@
 
 use super::day::Published;
 use super::read::{Block, Book};
-use super::sheet::{published, refusal_line, sheet_of};
+use super::sheet::{published, refusal_line};
 
 /// The family report of a book's published outcome, or `refused;` and the number.
 pub fn families(book: &[u8]) -> Vec<u8> {
     published(book).map_or_else(refusal_line, |(book, result)| families_of(&book, &result))
-}
-
-/// The sheet and the family report of a book, from one clearing.
-pub fn sheet_and_families(book: &[u8]) -> (Vec<u8>, Vec<u8>) {
-    match published(book) {
-        Ok((book, result)) => (sheet_of(&book, &result), families_of(&book, &result)),
-        Err(refusal) => (refusal_line(refusal), refusal_line(refusal)),
-    }
 }
 
 /// The family report of a book and the bytes of its result.

@@ -4,8 +4,8 @@
 
 use crate::sample_files::{names, path, sample};
 use auction_listing::books::{
-    count, reader_book_of, reader_book_on, small_book_of, small_book_on, small_orders,
-    thirty_two_blocks, Dice, Met, Orders, StepOrder, DAYS,
+    cash_book_on, count, reader_book_of, reader_book_on, small_book_of, small_book_on,
+    small_orders, thirty_two_blocks, Dice, Met, Orders, StepOrder, DAYS,
 };
 use auction_listing::paper::{self, Book, Side};
 use auction_listing::twin::by_value::{clearing, result::Clearing};
@@ -43,6 +43,35 @@ pub struct Program {
     /// What it writes of an accepted book and its result.
     pub of_result: fn(&Book, &[u8]) -> Vec<u8>,
 }
+
+/// The tests to which each program is held.
+macro_rules! tests_of {
+    ($program:ident) => {
+        $crate::printing::tests_of! { $program:
+            the_samples_are_printed
+            the_bench_books_are_printed
+            the_command_prints_the_samples
+            random_books_are_printed
+            each_length_has_its_answer
+            a_long_file_is_refused
+            single_bytes_give_the_same
+            two_parts_give_the_same
+            short_reads_give_the_same
+            no_input_is_refusal_1
+            an_input_that_cannot_be_read_is_refusal_1
+            an_output_that_cannot_be_written_is_no_complaint
+        }
+    };
+    ($program:ident: $($test:ident)*) => {
+        $(
+            #[test]
+            fn $test() {
+                $program.$test();
+            }
+        )*
+    };
+}
+pub(crate) use tests_of;
 
 fn started(program: &Path, input: Stdio) -> Child {
     let mut command = Command::new(program);
@@ -124,7 +153,7 @@ impl Program {
         written_by(running)
     }
 
-    pub fn prints_the_samples(&self) {
+    pub fn the_samples_are_printed(&self) {
         for name in names() {
             let (book, expected) = (sample(&name, "book"), self.sample(&name));
             assert_same(self.printed(&book), &expected, &name);
@@ -135,7 +164,7 @@ impl Program {
 
     /// The books of the benchmark, whose sets of blocks are too many to list: against the
     /// by-value twin's result.
-    pub fn prints_the_bench_books(&self) {
+    pub fn the_bench_books_are_printed(&self) {
         let folder = Path::new(env!("CARGO_MANIFEST_DIR")).join("bench-books");
         let entries = std::fs::read_dir(folder).expect("the bench books");
         let files = entries.map(|entry| entry.expect("an entry").path());
@@ -161,8 +190,8 @@ impl Program {
         }
     }
 
-    /// Half of them accepted books, half of them damaged in most cases, of all editions.
-    pub fn prints_random_books(&self) {
+    /// Three in five accepted books, the others damaged in most cases, of all editions.
+    pub fn random_books_are_printed(&self) {
         let wanted = count("BOOKS", 3_000);
         let mut met = Met::default();
         let mut seed = FIRST_SEED;
@@ -197,7 +226,7 @@ impl Program {
     }
 
     /// From a file there is no writer that could feel a program's early end.
-    pub fn refuses_a_long_file(&self) {
+    pub fn a_long_file_is_refused(&self) {
         let file = format!("long-{}.book", self.name);
         let name = Path::new(env!("CARGO_TARGET_TMPDIR")).join(file);
         for length in [FULL + 1, 100_000] {
@@ -207,8 +236,8 @@ impl Program {
         }
     }
 
-    pub fn prints_from_single_bytes(&self) {
-        for name in ["S5", "S6", "linked-both", "refused-1", "refused-3"] {
+    pub fn single_bytes_give_the_same(&self) {
+        for name in ["S5", "S6", "linked-both", "cash-autumn", "refused-1", "refused-3"] {
             let book = sample(name, "book");
             let printed = self.printed_from_pipe(|pipe| {
                 for byte in &book {
@@ -222,7 +251,7 @@ impl Program {
         }
     }
 
-    pub fn prints_from_two_parts(&self) {
+    pub fn two_parts_give_the_same(&self) {
         let (book, expected) = (sample("S5", "book"), self.sample("S5"));
         for cut in [0, 1, 15, 16, 17, 48, 80, book.len() - 1, book.len()] {
             assert_same(self.printed_in_parts(&book, cut), &expected, &format!("S5 cut at {cut}"));
@@ -235,7 +264,7 @@ impl Program {
         }
     }
 
-    pub fn prints_from_short_reads(&self) {
+    pub fn short_reads_give_the_same(&self) {
         for name in names() {
             for size in [1, 3, 16] {
                 let printed = self.printed_in_packets(&sample(&name, "book"), size);
@@ -250,7 +279,7 @@ impl Program {
         }
     }
 
-    pub fn refuses_no_input(&self) {
+    pub fn no_input_is_refusal_1(&self) {
         assert_same(self.printed_from_pipe(|_| ()), &refused(1), "closed at once");
         let late = self.printed_from_pipe(|_| sleep(Duration::from_millis(50)));
         assert_same(late, &refused(1), "closed later");
@@ -258,7 +287,7 @@ impl Program {
     }
 
     /// Reads that fail at once count as no input.
-    pub fn refuses_an_input_that_cannot_be_read(&self) {
+    pub fn an_input_that_cannot_be_read_is_refusal_1(&self) {
         let directory = File::open(repository()).expect("a directory");
         assert_same(written_by(self.start(directory.into())), &refused(1), "a directory");
         let mut shell = Command::new("sh");
@@ -267,10 +296,25 @@ impl Program {
         assert_eq!(output.status.code(), Some(0));
         assert_same(output.stdout, &refused(1), "no standard input at all");
     }
+
+    /// What cannot be written is lost, and the program ends as it does otherwise.
+    pub fn an_output_that_cannot_be_written_is_no_complaint(&self) {
+        for redirected in [">&-", ">/dev/full"] {
+            let mut shell = Command::new("sh");
+            shell.args(["-c", &format!("exec \"$0\" <\"$1\" {redirected}")]).arg(self.file());
+            let output = shell.arg(path("S5", "book")).output().expect("a shell");
+            assert_eq!((output.status.code(), &output.stderr[..]), (Some(0), &b""[..]));
+        }
+        // With nobody at the other end of its pipe the system ends it.
+        let file = File::open(path("S5", "book")).expect("the sample");
+        let mut running = self.start(file.into());
+        drop(running.stdout.take());
+        running.wait().expect("the program ends");
+    }
 }
 
 /// The books of a seed, each with its name.
-fn random_books(seed: u64) -> [(String, Vec<u8>); 4] {
+fn random_books(seed: u64) -> [(String, Vec<u8>); 5] {
     let edition = 1 + (seed % 3) as u32;
     let day = DAYS[(seed / 3) as usize % DAYS.len()];
     let on = format!("on({day}, {edition}, {seed})");
@@ -279,6 +323,7 @@ fn random_books(seed: u64) -> [(String, Vec<u8>); 4] {
         (format!("reader_book_of({edition}, {seed})"), reader_book_of(edition, seed)),
         (format!("small_book_{on}"), small_book_on(day, edition, seed)),
         (format!("reader_book_{on}"), reader_book_on(day, edition, seed)),
+        (format!("cash_book_{on}"), cash_book_on(day, edition, seed)),
     ]
 }
 

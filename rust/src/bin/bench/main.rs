@@ -7,6 +7,7 @@
 //! - `measure`: times and nodes on one book;
 //! - `report`: the tables;
 //! - `growth`: generated books: families, and by number of blocks and steps;
+//! - `texts`: the calls that write a text, beside the clearing;
 //! - `ranges`: price ranges of full lists, beside prices.
 
 mod clearers;
@@ -16,6 +17,7 @@ mod measure;
 mod ranges;
 mod report;
 mod subject;
+mod texts;
 
 use auction_listing::twin::source;
 use clearers::{Clearer, Kind};
@@ -46,6 +48,7 @@ fn work() -> ExitCode {
     match words.first().map(String::as_str) {
         Some("--once") => once(&words[1]),
         Some("--time") => words[1..].iter().for_each(|file| time(file)),
+        Some("--texts") => texts::texts(),
         Some("--nodes") => words[2..].iter().for_each(|file| nodes(&words[1], file)),
         Some("--ranges") => return verdict(ranges::table()),
         _ => return tables(&options(words)),
@@ -104,6 +107,7 @@ fn tables(options: &Options) -> ExitCode {
         right &= growth::families(options);
         right &= growth::by_blocks(options);
         right &= growth::by_steps(options);
+        texts::texts();
         right &= ranges::table();
     }
     verdict(right)

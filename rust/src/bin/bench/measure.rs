@@ -114,18 +114,25 @@ fn shortest(runs: &[Kind], book: &[u8], priced_out: &[u8]) -> (ByKind, ByKind) {
     let mut clearers: Vec<(Kind, Clearer)> =
         runs.iter().map(|&kind| (kind, Clearer::new(kind))).collect();
     let (mut seconds, mut outside) = ([None; 3], [None; 3]);
-    let start = Instant::now();
-    for round in 0..MOST_ROUNDS {
+    by_turns(|| {
         for (kind, clearer) in &mut clearers {
             keep(&mut seconds[*kind as usize], || clearer.clear(book, &mut result));
             keep(&mut outside[*kind as usize], || clearer.clear(priced_out, &mut result));
         }
+    });
+    (seconds, outside)
+}
+
+/// As many rounds as a book is given.
+pub fn by_turns(mut round: impl FnMut()) {
+    let start = Instant::now();
+    for done in 0..MOST_ROUNDS {
+        round();
         let spent = start.elapsed().as_secs_f64();
-        if spent > MOST_SECONDS || (spent > SECONDS_A_BOOK && round >= LEAST_ROUNDS) {
+        if spent > MOST_SECONDS || (spent > SECONDS_A_BOOK && done >= LEAST_ROUNDS) {
             break;
         }
     }
-    (seconds, outside)
 }
 
 /// Seconds of the proved clearing by itself, and the published welfare.

@@ -1,0 +1,4 @@
+-- The accounts of a book's portfolios. Definitions only.
+pub mod Layout
+pub mod Accounts
+pub mod Postings

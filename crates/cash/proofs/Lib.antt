@@ -1,0 +1,4 @@
+-- The laws of the cash sheet of a book.
+pub mod LineLaws
+pub mod CashSheetLaws
+pub mod WorkedCashLaws
