@@ -8,6 +8,8 @@ pub mod HourSums
 pub mod ContenderCases
 pub mod NotBest
 pub mod OutcomeRulesCases
+pub mod ShareLaws
+pub mod CutLaws
 pub mod ExecutionLaws
 pub mod DualityLaws
 pub mod ChainLaws
