@@ -7,6 +7,7 @@
 //! - `damage`: refused books, by cause or by accident;
 //! - `days`: both kinds for days of 23, 24 and 25 hours;
 //! - `links`: links among the blocks of edition 3, right and wrong;
+//! - `shares`: books with large groups of steps at one price;
 //! - `families`: large books for the benchmark;
 //! - `expected`: what is expected of the books in `bench-books`;
 //! - `worked`: the days of documents 01 and 02 that are checked by hand;
@@ -21,6 +22,7 @@ mod expected;
 mod families;
 mod links;
 mod random;
+mod shares;
 mod worked;
 
 pub use builder::{hour_bits, hours_in, BlockOrder, LinkOrder, Orders, StepOrder};
@@ -41,8 +43,10 @@ pub use random::{
     pricing_case, pricing_case_of, small_book, small_book_of, small_orders, small_orders_of,
     tiny_book, tiny_book_of,
 };
+pub use shares::{shared_book_on, shared_orders_on};
 pub use worked::{
-    block_beside_the_day, day_of_23_hours, day_of_25_hours, edition_2_day, head_alone,
+    block_beside_the_day, day_of_23_hours, day_of_25_hours, edition_2_day, fair_shares, head_alone,
     link_upwards, link_without_parent, linked_days, opposite_blocks, step_beside_the_day,
-    thirty_two_blocks, worked_days, CHAIN_OF_32_TAKEN, EDITION_2_BLOCKS, THIRTY_TWO_BLOCKS_TAKEN,
+    thirty_two_blocks, worked_days, CHAIN_OF_32_TAKEN, EDITION_2_BLOCKS, FAIR_SHARES_ROWS,
+    THIRTY_TWO_BLOCKS_TAKEN,
 };

@@ -2,7 +2,9 @@
 //!
 //! - `read`: any bytes to a book or its first refusal, 1 to 6, 9 or 10, by the limits of its
 //!   edition and the hours of its day;
-//! - `hour`: the price of one hour under a set of blocks, or refusal 8;
+//! - `hour`: the price of one hour under a set of blocks, or refusal 8, and what its steps
+//!   get there;
+//! - `shares`: what each step at the price gets of its side's amount;
 //! - `day`: lawful sets that hold their blocks' parents, welfare, the published result, or
 //!   refusal 7;
 //! - `contenders`: demand 3 taken literally, for tiny books;
@@ -14,12 +16,13 @@ mod day;
 mod families;
 mod hour;
 mod read;
+mod shares;
 mod sheet;
 
 pub use contenders::{contenders, for_each_contender, BestContender, Contender};
 pub use day::{
-    clear, holds_parents, is_better, keeps_limit, net_block_sales, outcome, result_bytes,
-    result_length, result_length_for, tie_goes_to, Outcome, Published,
+    best_outcome, clear, holds_parents, is_better, keeps_limit, net_block_sales, outcome,
+    result_bytes, result_length, result_length_for, tie_goes_to, Outcome, Published,
 };
 pub use families::{families, families_of, root_of, sheet_and_families};
 pub use hour::{
@@ -29,4 +32,5 @@ pub use hour::{
 pub use read::{
     limits, passing_hours, read, Block, Book, Limits, Link, Side, Step, CHANGED_HOUR, HOURS,
 };
+pub use shares::{fair_shares, SharingRule};
 pub use sheet::{sheet, sheet_of};
