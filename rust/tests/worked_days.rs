@@ -1,5 +1,5 @@
 //! S1 to S10 and the remaining days of document 01's "Days to check by hand",
-//! as figures written down from the paper.
+//! as figures written down from the paper, those of S10 from document 02.
 
 use auction_listing::books::{
     head_alone, opposite_blocks, thirty_two_blocks, worked_days, Orders, THIRTY_TWO_BLOCKS_TAKEN,
