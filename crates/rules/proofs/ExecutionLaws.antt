@@ -14,6 +14,7 @@ use Rattle.rules.specs.Orders.{Side, buy, sell, Step}
 use Rattle.rules.specs.Hour.{bySide, when, total, buying, selling, buysAbove, buysFrom, sellsTo, sellsBelow, Hour}
 use Rattle.rules.specs.Execution.{testSide, inFull, buyingAt, sellingAt, buyAmount, sellAmount, sumOf, shares, plus, execution, bought, sold}
 use Rattle.rules.specs.Contender.{Each, Within, Balanced}
+use Rattle.rules.specs.SharingRules.{AtMost}
 use Rattle.rules.proofs.Tests.{OneOf, below, above, equal, one-of}
 use Rattle.rules.proofs.CurveLaws.{
   when-zero,
@@ -28,12 +29,12 @@ use Rattle.rules.proofs.CurveLaws.{
   to-is-below-and-at,
 }
 use Rattle.rules.proofs.PricingLaws.{Clears, net}
-use Rattle.rules.proofs.ShareLaws.{AtMost, shares-within}
+use Rattle.rules.proofs.ShareLaws.{shares-within}
 use Rattle.rules.proofs.CutLaws.{shares-sum}
 use Rattle.rules.proofs.ContenderCases
 
 -- SHARES
-sum-map : (f : Step → ℕ) (l : List Step) → sumOf (map f l) ≡ total f l
+pub sum-map : (f : Step → ℕ) (l : List Step) → sumOf (map f l) ≡ total f l
 sum-map f [] = refl
 sum-map f (s ∷ l) = ap (λ n. f s + n) (sum-map f l)
 
@@ -95,7 +96,7 @@ step-follows p b s o = go (o .side) (o .price) (o .quantity)
 
 -- ALL STEPS, with any shares within what the steps hold at the price
 module _ (p : ℕ) where
-  shared-bought : (l : List Step) (bs ss : List ℕ) → AtMost (map (buyingAt p) l) bs → AtMost (map (sellingAt p) l) ss →
+  pub shared-bought : (l : List Step) (bs ss : List ℕ) → AtMost (map (buyingAt p) l) bs → AtMost (map (sellingAt p) l) ss →
       bought l (plus (map (inFull p) l) (plus bs ss)) ≡ buysAbove p l + sumOf bs
   unfolding bought buysAbove
   shared-bought [] [] [] hb hs = refl
@@ -109,7 +110,7 @@ module _ (p : ℕ) where
   shared-sold (o ∷ l) (b ∷ bs) (s ∷ ss) hb hs =
       omega (arith, step-sold p (o .price) (o .quantity) b s (o .side) (hb .0) (hs .0), shared-sold l bs ss (hb .1) (hs .1))
 
-  shared-follows : (l : List Step) (bs ss : List ℕ) → AtMost (map (buyingAt p) l) bs → AtMost (map (sellingAt p) l) ss →
+  pub shared-follows : (l : List Step) (bs ss : List ℕ) → AtMost (map (buyingAt p) l) bs → AtMost (map (sellingAt p) l) ss →
       Each (Follows p) l (plus (map (inFull p) l) (plus bs ss))
   shared-follows [] [] [] hb hs = tt
   shared-follows (o ∷ l) (b ∷ bs) (s ∷ ss) hb hs =

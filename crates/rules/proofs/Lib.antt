@@ -30,6 +30,7 @@ pub mod FamilyCases
 pub mod LinkLaws
 pub mod TwinLaws
 pub mod OutcomeRulesLaws
+pub mod SharingRuleLaws
 pub mod BoundsLaws
 pub mod TradeBounds
 pub mod FamilyLaws

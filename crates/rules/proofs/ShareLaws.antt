@@ -12,6 +12,7 @@ use lib.ListN.{length, length-map}
 use borrow.Author.Tests.{le-ltb, le-leb, lt-leb, eq-eqb, ne-eqb}
 use Rattle.rules.specs.Hour.{when}
 use Rattle.rules.specs.Execution.{sumOf, plus, floors, remainders, atLeast, extras, inProportion, shares}
+use Rattle.rules.specs.SharingRules.{AtMost}
 use Rattle.rules.proofs.Tests.{by-le}
 
 -- COUNTS
@@ -117,13 +118,6 @@ module _ (amount : ℕ) (owns : List ℕ) (pos : 0 < sumOf owns) where
       pos
 
 -- EACH SHARE WITHIN ITS STEP'S OWN
--- as many shares as steps, and none above what its step holds
-abbrev pub AtMost : List ℕ → List ℕ → Type 0
-AtMost [] [] = Unit {0}
-AtMost [] (q ∷ qs) = ⊥
-AtMost (own ∷ l) [] = ⊥
-AtMost (own ∷ l) (q ∷ qs) = (q ≤ own) × AtMost l qs
-
 -- a remainder of 0 gets none of the leftover, where every leftover tenth finds a positive one
 none-for-zero : (left ahead more : ℕ) → left ≤ ahead + more → when (ltb (ahead + more) left) 1 ≡ 0
 none-for-zero left ahead more h = rw (le-ltb (ahead + more) left h)

@@ -7,6 +7,7 @@ pub mod Outcome
 pub mod Contender
 pub mod OutcomeRules
 pub mod Families
+pub mod SharingRules
 pub mod WorkedDays
 pub mod WorkedFamilies
 pub mod Cases
