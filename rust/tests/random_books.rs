@@ -6,8 +6,8 @@
 //! BOOKS for all others.
 
 use auction_listing::books::{
-    count, pricing_case_of, pricing_case_on, raised, small_book_of, small_book_on, tiny_book_of,
-    tiny_book_on, DAYS_AND_EDITIONS,
+    count, pricing_case_of, pricing_case_on, raised, shared_book_on, small_book_of, small_book_on,
+    tiny_book_of, tiny_book_on, DAYS_AND_EDITIONS,
 };
 use auction_listing::paper::{
     beyond_totals, candidates, clear, clears, contenders, executed, for_each_contender,
@@ -131,8 +131,9 @@ fn results_obey_the_outcome_properties() {
     }
     for seed in 0..count("BOOKS", 1_000) {
         let (day, edition) = day_and_edition(seed);
-        let name = format!("small_book_on({day}, {edition}, {seed})");
-        check_outcome(&small_book_on(day, edition, seed), &name);
+        let of_seed = format!("on({day}, {edition}, {seed})");
+        check_outcome(&small_book_on(day, edition, seed), &format!("small_book_{of_seed}"));
+        check_outcome(&shared_book_on(day, edition, seed), &format!("shared_book_{of_seed}"));
     }
 }
 
