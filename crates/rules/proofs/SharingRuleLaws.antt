@@ -242,9 +242,9 @@ module _ (one other : SharingRule) (k : TwoLaws one) (k′ : TwoLaws other) wher
           over-hours f (day .hours) (day .steps) (executedBy one day set) hours,
           over-hours f (day .hours) (day .steps) (executedBy other day set) hours,
           daySum-same (day .hours) _ _ (λ h. ap (value (stepsIn h (day .steps))) (executedBy-in one k day set h)
-          ∙ executionBy-value one k (hourOf day set h) (setPrices day set h)
-          ∙ sym (executionBy-value other k′ (hourOf day set h) (setPrices day set h))
-          ∙ sym (ap (value (stepsIn h (day .steps))) (executedBy-in other k′ day set h))),
+              ∙ executionBy-value one k (hourOf day set h) (setPrices day set h)
+              ∙ sym (executionBy-value other k′ (hourOf day set h) (setPrices day set h))
+              ∙ sym (ap (value (stepsIn h (day .steps))) (executedBy-in other k′ day set h))),
         )
 
     cost-alike : (set : List Block) → dayCost day set (executedBy one day set) ≡ dayCost day set (executedBy other day set)
@@ -255,9 +255,9 @@ module _ (one other : SharingRule) (k : TwoLaws one) (k′ : TwoLaws other) wher
           over-hours f (day .hours) (day .steps) (executedBy one day set) hours,
           over-hours f (day .hours) (day .steps) (executedBy other day set) hours,
           daySum-same (day .hours) _ _ (λ h. ap (cost (stepsIn h (day .steps))) (executedBy-in one k day set h)
-          ∙ executionBy-cost one k (hourOf day set h) (setPrices day set h)
-          ∙ sym (executionBy-cost other k′ (hourOf day set h) (setPrices day set h))
-          ∙ sym (ap (cost (stepsIn h (day .steps))) (executedBy-in other k′ day set h))),
+              ∙ executionBy-cost one k (hourOf day set h) (setPrices day set h)
+              ∙ sym (executionBy-cost other k′ (hourOf day set h) (setPrices day set h))
+              ∙ sym (ap (cost (stepsIn h (day .steps))) (executedBy-in other k′ day set h))),
         )
 
     -- the welfare of every set, lawful or not
