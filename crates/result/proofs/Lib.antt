@@ -6,3 +6,4 @@ pub mod SizeLaws
 pub mod RowsLaws
 pub mod PromiseLaws
 pub mod WorkedResultLaws
+pub mod SharingLaws
