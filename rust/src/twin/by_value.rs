@@ -33,4 +33,7 @@ pub mod search;
 pub mod setup;
 #[allow(clippy::all, unused)]
 #[rustfmt::skip]
+pub mod shares;
+#[allow(clippy::all, unused)]
+#[rustfmt::skip]
 pub mod tables;
