@@ -9,10 +9,10 @@ mod compared;
 
 use auction_listing::books::{
     count, fair_shares, shared_book_on, shared_orders_on, worked_days, Dice, DAYS_AND_EDITIONS,
+    FAIR_SHARES_ROWS, FAMILIES,
 };
-use auction_listing::books::{FAIR_SHARES_ROWS, FAMILIES};
 use auction_listing::paper::{self, Published};
-use compared::{compare_accepted, compare_any, Named};
+use compared::{compare_accepted, compare_any, compare_pricing, Named};
 
 /// Books of the seeds, all days and editions in turn, with their names.
 fn shared_books(books: u64) -> impl Iterator<Item = Named> {
@@ -26,6 +26,20 @@ fn shared_books(books: u64) -> impl Iterator<Item = Named> {
 #[test]
 fn books_with_groups_at_one_price_clear_as_the_listing_of_all_sets() {
     compare_accepted(shared_books(count("BOOKS", 4_000)));
+}
+
+/// A book under a set of its blocks, now and then of others, in an hour.
+#[test]
+fn crowded_hours_are_priced_as_by_the_listing() {
+    let cases = shared_books(count("BOOKS", 4_000)).enumerate().map(|(seed, (name, book))| {
+        let mut dice = Dice::new(seed as u64);
+        let accepted = paper::read(&book).expect("accepted");
+        let (blocks, step) = (accepted.blocks.len(), accepted.steps[0]);
+        let set = dice.bits() as u32 % (1 << blocks.max(1));
+        let hour = if dice.once_in(8) { dice.between(1, 26) } else { step.hour };
+        (name, (book, set, hour))
+    });
+    compare_pricing(cases);
 }
 
 /// With a byte of an order changed: other quantities, prices, sides and hours, or refused.
@@ -56,8 +70,8 @@ fn s10_and_the_day_of_fair_shares() {
     assert_eq!(rows_of(&fair_shares().book()), FAIR_SHARES_ROWS);
 }
 
-/// The largest groups: 2,014 sells of one hour at one price. Set and prices are those of the
-/// call; what the steps then get is the paper's.
+/// The largest groups: 2,014 sells of one hour at one price. The set is that of the call; its
+/// prices and what the steps then get are the paper's.
 #[test]
 fn groups_of_2014_steps() {
     let family = FAMILIES.iter().find(|family| family.name == "one price").expect("a family");
