@@ -72,7 +72,7 @@ uint32_t auction_price(const uint8_t *book, size_t book_len, uint32_t set, uint3
 
 /* Clears the day: AUCTION_DONE where every byte of the result is written, or the refusal, 1 to 6, 9, 10 or 7, and the result
  * stays as it was. The result has AUCTION_RESULT_SIZE(R) bytes, no more and no less, whatever the length of the day; hour 3 of a
- * 23-hour day has price and quantity 0, and a link has 0. */
+ * 23-hour day has price and quantity 0, a link has 0, and steps at the price share their side's amount in proportion. */
 uint32_t auction_clear(const uint8_t *book, size_t book_len, uint8_t *result, size_t result_len);
 
 /* Writes a book's sheet, or the line `refused;` and the number, to the start of `out`, and answers its length, at most

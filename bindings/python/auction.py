@@ -110,7 +110,7 @@ class Hour:
 @dataclass(frozen=True)
 class Row:
     """What an order gets: `kind` is "step" or "block", each numbered separately; `executed` are tenths of a MW
-    in each of its hours, 0 for a block that is left out. A row of kind "link" has its child's number and 0."""
+    in each of its hours, 0 for a block that is left out, its share for a step at the price. A row of kind "link" has its child's number and 0."""
 
     kind: str
     number: int

@@ -103,6 +103,12 @@ class Calls(unittest.TestCase):
         outcome = auction.clear(sample("linked-left-out.book"))
         self.assertEqual((outcome.welfare, outcome.taken, outcome.block(2)), (400_000, (), 0))
 
+    def test_the_shares_of_steps_at_the_price(self):
+        outcome = auction.clear(sample("S10.book"))
+        self.assertEqual([outcome.step(number) for number in (1, 2, 3)], [50, 50, 100])
+        outcome = auction.clear(sample("fair-shares.book"))
+        self.assertEqual([row.executed for row in outcome.rows], [1, 1, 1, 4, 2, 4, 1, 3, 2, 6, 1, 1, 1, 2])
+
     def test_families(self):
         gains = auction.Family(1, 64_500), auction.Family(6, 30_000)
         self.assertEqual(auction.families(sample("linked-generations.book")), gains)

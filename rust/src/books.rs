@@ -9,6 +9,7 @@
 //! - `links`: links among the blocks of edition 3, right and wrong;
 //! - `portfolios`: books for the cash sheet, with few portfolios or all of them;
 //! - `lists`: lists of steps whose quantities are uncertain, right and wrong;
+//! - `shares`: books with large groups of steps at one price;
 //! - `families`: large books for the benchmark;
 //! - `expected`: what is expected of the books in `bench-books`;
 //! - `worked`: the days of documents 01 and 02 that are checked by hand;
@@ -22,9 +23,10 @@ mod dice;
 mod expected;
 mod families;
 mod links;
-mod portfolios;
 mod lists;
+mod portfolios;
 mod random;
+mod shares;
 mod worked;
 
 pub use builder::{hour_bits, hours_in, BlockOrder, LinkOrder, Orders, StepOrder};
@@ -41,17 +43,19 @@ pub use dice::Dice;
 pub use expected::Expected;
 pub use families::{full_day, linked_day, Family, FAMILIES};
 pub use links::{link_edges, Shape};
-pub use portfolios::{cash_book_on, cash_orders_on, crowded_book_on};
 pub use lists::{
     damaged_list, list_edges, list_of, random_list, tiny_list, ListEdge, ListFamily, ListStep, BUY,
     LIST_FAMILIES, SELL,
 };
+pub use portfolios::{cash_book_on, cash_orders_on, crowded_book_on};
 pub use random::{
     pricing_case, pricing_case_of, small_book, small_book_of, small_orders, small_orders_of,
     tiny_book, tiny_book_of,
 };
+pub use shares::{shared_book_on, shared_orders_on};
 pub use worked::{
-    block_beside_the_day, cash_days, day_of_23_hours, day_of_25_hours, edition_2_day, head_alone,
-    link_upwards, link_without_parent, linked_days, opposite_blocks, step_beside_the_day,
-    thirty_two_blocks, worked_days, CHAIN_OF_32_TAKEN, EDITION_2_BLOCKS, THIRTY_TWO_BLOCKS_TAKEN,
+    block_beside_the_day, cash_days, day_of_23_hours, day_of_25_hours, edition_2_day, fair_shares,
+    head_alone, link_upwards, link_without_parent, linked_days, opposite_blocks,
+    step_beside_the_day, thirty_two_blocks, worked_days, CHAIN_OF_32_TAKEN, EDITION_2_BLOCKS,
+    FAIR_SHARES_ROWS, THIRTY_TWO_BLOCKS_TAKEN,
 };

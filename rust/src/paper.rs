@@ -2,7 +2,9 @@
 //!
 //! - `read`: any bytes to a book or its first refusal, 1 to 6, 9 or 10, by the limits of its
 //!   edition and the hours of its day;
-//! - `hour`: the price of one hour under a set of blocks, or refusal 8;
+//! - `hour`: the price of one hour under a set of blocks, or refusal 8, and what its steps
+//!   get there;
+//! - `shares`: what each step at the price gets of its side's amount;
 //! - `day`: lawful sets that hold their blocks' parents, welfare, the published result, or
 //!   refusal 7;
 //! - `contenders`: demand 3 taken literally, for tiny books;
@@ -19,6 +21,7 @@ mod day;
 mod families;
 mod hour;
 mod read;
+mod shares;
 mod sheet;
 mod texts;
 mod uncertain;
@@ -26,8 +29,8 @@ mod uncertain;
 pub use cash::{cash, cash_of};
 pub use contenders::{contenders, for_each_contender, BestContender, Contender};
 pub use day::{
-    clear, holds_parents, is_better, keeps_limit, net_block_sales, outcome, result_bytes,
-    result_length, result_length_for, tie_goes_to, Outcome, Published,
+    best_outcome, clear, holds_parents, is_better, keeps_limit, net_block_sales, outcome,
+    result_bytes, result_length, result_length_for, tie_goes_to, Outcome, Published,
 };
 pub use families::{families, families_of, root_of};
 pub use hour::{
@@ -37,6 +40,7 @@ pub use hour::{
 pub use read::{
     limits, passing_hours, read, Block, Book, Limits, Link, Side, Step, CHANGED_HOUR, HOURS,
 };
+pub use shares::{fair_shares, SharingRule};
 pub use sheet::{sheet, sheet_of};
 pub use texts::{texts, Texts};
 pub use uncertain::{

@@ -4,7 +4,7 @@
 //! Compiled with the feature `proved` only.
 //!
 //! The environment variable BOOKS raises the count of generated books (at least
-//! 736, and those of [`CHOSEN`]).
+//! 828, and those of [`CHOSEN`]).
 
 mod answers;
 mod large_stack;

@@ -6,14 +6,15 @@
 //! BOOKS for all others.
 
 use auction_listing::books::{
-    count, pricing_case_of, pricing_case_on, raised, small_book_of, small_book_on, tiny_book_of,
-    tiny_book_on, DAYS_AND_EDITIONS,
+    count, pricing_case_of, pricing_case_on, raised, shared_book_on, small_book_of, small_book_on,
+    tiny_book_of, tiny_book_on, DAYS_AND_EDITIONS,
 };
 use auction_listing::paper::{
     beyond_totals, candidates, clear, clears, contenders, executed, for_each_contender,
     keeps_limit, net_block_sales, outcome, price_hour, price_hour_by_scan, read, result_length,
-    scan, tie_goes_to, Book, HourAnswer, Published, Side,
+    scan, tie_goes_to, Book, HourAnswer, Published, Side, Step,
 };
+use std::cmp::Reverse;
 
 fn cleared(book: &[u8]) -> (Book, Published) {
     let accepted = read(book).expect("accepted");
@@ -120,8 +121,8 @@ fn all_prices_between_the_ends_execute_the_same() {
     }
 }
 
-/// Demand 2, read off the result: better steps in full, worse ones not, shares
-/// in rising number, every hour in balance, no block outside its limit.
+/// Demand 2, read off the result: better steps in full, worse ones not, those at the price
+/// by their shares, every hour in balance, no block outside its limit.
 #[test]
 fn results_obey_the_outcome_properties() {
     for (edition, seed) in of_all_editions(count("BOOKS", 1_000)) {
@@ -130,8 +131,9 @@ fn results_obey_the_outcome_properties() {
     }
     for seed in 0..count("BOOKS", 1_000) {
         let (day, edition) = day_and_edition(seed);
-        let name = format!("small_book_on({day}, {edition}, {seed})");
-        check_outcome(&small_book_on(day, edition, seed), &name);
+        let of_seed = format!("on({day}, {edition}, {seed})");
+        check_outcome(&small_book_on(day, edition, seed), &format!("small_book_{of_seed}"));
+        check_outcome(&shared_book_on(day, edition, seed), &format!("shared_book_{of_seed}"));
     }
 }
 
@@ -159,7 +161,6 @@ fn check_hour(book: &Book, published: &Published, set: u32, hour: u32, name: &st
     let price = published.prices[hour as usize - 1];
     let mut bought = 0;
     let mut sold = 0;
-    let mut short = [false, false];
     for step in book.steps_of(hour) {
         let row = published.row(step.record);
         let (better, worse) = match step.side {
@@ -169,16 +170,15 @@ fn check_hour(book: &Book, published: &Published, set: u32, hour: u32, name: &st
         assert!(row <= step.quantity, "{name}");
         assert!(!better || row == step.quantity, "{name}");
         assert!(!worse || row == 0, "{name}");
-        if step.price == price {
-            // After a step that got less than it holds, the later ones get none.
-            let short = &mut short[usize::from(step.side == Side::Sell)];
-            assert!(!*short || row == 0, "{name}");
-            *short = *short || row < step.quantity;
-        }
         match step.side {
             Side::Buy => bought += row,
             Side::Sell => sold += row,
         }
+    }
+    for side in [Side::Buy, Side::Sell] {
+        let steps = book.steps_of(hour).into_iter();
+        let at_price = steps.filter(|step| step.side == side && step.price == price);
+        check_shares(&at_price.collect::<Vec<_>>(), published, name);
     }
     for (position, block) in book.blocks.iter().enumerate() {
         if (set >> position) & 1 == 1 && block.has_hour(hour) {
@@ -190,6 +190,27 @@ fn check_hour(book: &Book, published: &Published, set: u32, hour: u32, name: &st
     }
     assert_eq!(bought, sold, "{name}, hour {hour}");
     assert_eq!(bought, published.traded[hour as usize - 1], "{name}, hour {hour}");
+}
+
+/// The rows of a side's steps at the price: each its part of what they have together, rounded
+/// down, or one more, which none has before one with a larger remainder, or with an equal one
+/// and a lower number.
+fn check_shares(steps: &[Step], published: &Published, name: &str) {
+    let row = |step: &Step| u64::from(published.row(step.record));
+    let total: u64 = steps.iter().map(|step| u64::from(step.quantity)).sum();
+    let amount: u64 = steps.iter().map(row).sum();
+    let product = |step: &Step| u64::from(step.quantity) * amount;
+    let has_more = |step: &Step| row(step) > product(step) / total;
+    let turn = |step: &Step| (Reverse(product(step) % total), step.number);
+    let last_with = steps.iter().filter(|step| has_more(step)).map(turn).max();
+    let first_without = steps.iter().filter(|step| !has_more(step)).map(turn).min();
+    for step in steps {
+        let more = u64::from(has_more(step));
+        assert_eq!(row(step), product(step) / total + more, "{name}, step {}", step.number);
+    }
+    if let (Some(with), Some(without)) = (last_with, first_without) {
+        assert!(with < without, "{name}: {with:?} has one more, {without:?} has not");
+    }
 }
 
 /// Demand 3 against the list of every contender.

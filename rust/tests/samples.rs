@@ -4,9 +4,10 @@
 mod sample_files;
 
 use auction_listing::books::{
-    block_beside_the_day, cash_days, day_of_23_hours, day_of_25_hours, edition_2_day, head_alone,
-    link_upwards, link_without_parent, linked_days, opposite_blocks, step_beside_the_day,
-    thirty_two_blocks, worked_days, Orders, CHAIN_OF_32_TAKEN, THIRTY_TWO_BLOCKS_TAKEN,
+    block_beside_the_day, cash_days, day_of_23_hours, day_of_25_hours, edition_2_day, fair_shares,
+    head_alone, link_upwards, link_without_parent, linked_days, opposite_blocks,
+    step_beside_the_day, thirty_two_blocks, worked_days, Orders, CHAIN_OF_32_TAKEN,
+    THIRTY_TWO_BLOCKS_TAKEN,
 };
 use auction_listing::paper::{clear, outcome, read, result_bytes, result_length, texts, Texts};
 use auction_listing::text::{to_book, to_text};
@@ -24,6 +25,7 @@ fn accepted_samples() -> Vec<(&'static str, Orders)> {
     samples.push(("day-23", day_of_23_hours()));
     samples.extend(linked_days());
     samples.extend(cash_days());
+    samples.push(("fair-shares", fair_shares()));
     samples
 }
 

@@ -5,8 +5,8 @@ mod large_stack;
 
 use auction_listing::books::{
     count, day_edges, edge_books, edition_edges, link_edges, linked_day, linked_days,
-    reader_book_of, reader_book_on, small_book_of, small_book_on, worked_days, Dice, Shape, DAYS,
-    DAYS_AND_EDITIONS, FAMILIES,
+    reader_book_of, reader_book_on, shared_book_on, small_book_of, small_book_on, worked_days,
+    Dice, Shape, DAYS, DAYS_AND_EDITIONS, FAMILIES,
 };
 use auction_listing::paper::{self, result_length_for, Published};
 use auction_listing::twin::by_value::{clearing, result::Clearing};
@@ -127,6 +127,20 @@ fn the_twins_count_the_hours_as_the_listing() {
                 let book = reader_book_on(day, edition, seed);
                 compare_sizes(&format!("reader_book_{of_seed}"), &book, &mut space);
             }
+        }
+    });
+}
+
+/// Large groups of steps at one price, on both sides at once.
+#[test]
+fn the_twins_share_as_the_listing() {
+    with_stack(|| {
+        let mut space = Workspace::default();
+        for seed in 0..count("BOOKS", 3_000) {
+            let (day, edition) = DAYS_AND_EDITIONS[seed as usize % DAYS_AND_EDITIONS.len()];
+            let book = shared_book_on(day, edition, seed);
+            let name = format!("shared_book_on({day}, {edition}, {seed})");
+            compare(&name, &book, result_length_for(&book), &mut space);
         }
     });
 }

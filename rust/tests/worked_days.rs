@@ -1,5 +1,5 @@
 //! S1 to S10 and the remaining days of document 01's "Days to check by hand",
-//! as figures written down from the paper.
+//! as figures written down from the paper, those of S10 from document 02.
 
 use auction_listing::books::{
     head_alone, opposite_blocks, thirty_two_blocks, worked_days, Orders, THIRTY_TWO_BLOCKS_TAKEN,
@@ -63,7 +63,7 @@ const DAYS: [Figures; 10] = [
     Figures { name: "S7", hours: &[(3_500, 10)], rows: &[10, 10], set: 0, welfare: 10_010 },
     Figures { name: "S8", hours: &[(300_000, 60)], rows: &[60, 60], set: 0, welfare: 17_880_000 },
     Figures { name: "S9", hours: &[(1, 0)], rows: &[0], set: 0, welfare: 0 },
-    Figures { name: "S10", hours: &[(3_000, 100)], rows: &[60, 40, 100], set: 0, welfare: 200_000 },
+    Figures { name: "S10", hours: &[(3_000, 100)], rows: &[50, 50, 100], set: 0, welfare: 200_000 },
 ];
 
 fn cleared(book: &[u8]) -> Published {

@@ -33,7 +33,8 @@ pub struct Row {
     pub kind: Kind,
     /// The order's number among those of its kind; of a link its child's number.
     pub number: u32,
-    /// The executed quantity in each of its hours, in tenths of a MW; of a block that is left out 0.
+    /// The executed quantity in each of its hours, in tenths of a MW; of a block that is left
+    /// out 0, of a step at the price its share.
     pub executed: u32,
 }
 

@@ -1,4 +1,4 @@
--- The hours one after another: what an hour's steps get goes to its part of the columns, and so hour after hour. Assumes nothing.
+-- The hours one after another: what an hour's orders get goes to its part of the columns, and so hour after hour. Assumes nothing.
 use Prim.Native.Nat.{ℕ, _+_, _-_, _*_, _≤_, _<_}
 use mathlib.Core.Path.{_≡_, refl, sym, ap₂, _∙_}
 use mathlib.Core.List.{List, _++_, append-assoc}
@@ -10,7 +10,7 @@ use lib.ListN.{length, take, drop, getD, set, length-set, length-append, take-ap
 use borrow.Author.Tests.{ne-eqb}
 use lib.Seq.{getD-set-same, getD-set-other, slice, take-take, take-at, drop-at, length-take-le}
 use borrow.Rule.Slice.PartMut.{putMid, postOf, same-len-mid, mid-len, take-put}
-use Rattle.rules.specs.Orders.{Step}
+use Rattle.rules.specs.Orders.{Step, Order}
 use Rattle.records.specs.Layout.{lastHour}
 use Rattle.rules.specs.Hour.{when}
 use Rattle.rules.specs.Day.{changeHour, sumTo}
@@ -22,7 +22,7 @@ use Rattle.places.specs.Layout.{lastPlace, changeRow}
 use Rattle.places.specs.Hours.{timesIn, ofHour}
 use Rattle.places.specs.Steps.{stepsAt}
 use Rattle.places.proofs.StepLaws.{mid-slice, steps-next}
-use Rattle.clearing.specs.Publish.{mostWorth, HourDone, HourPut, TradersSized, HoursDone, WhereCounted, salesAt, buysAt, inTurn, getsAt}
+use Rattle.clearing.specs.Publish.{mostWorth, HourDone, HourPut, TradersSized, HoursDone, WhereCounted, salesAt, buysAt, inTurn, stepsGet, ordersGet, StandFor}
 use Rattle.clearing.proofs.WorthLaws.{trades-fit}
 
 -- what is put into a part stands there
@@ -100,11 +100,11 @@ module _ (often : ℕ) (few : often ≤ 2) (ends sides prices quantities : List 
   steps = stepsAt ends sides prices quantities
 
   abbrev gets : ℕ → List ℕ
-  gets = getsAt (stepsAt ends sides prices quantities) sales purchases price
+  gets = stepsGet (stepsAt ends sides prices quantities) sales purchases price
 
   pub hours-none : (values : List ℕ) → getD ends 0 0 ≡ 0 → HoursDone often ends (stepsAt ends sides prices quantities) sales purchases price 0 values 0 0
   unfolding inTurn sumTo
-  hours-none values e = record { gets = rw e; valueIs = refl; costIs = refl; valueFits = omega arith; costFits = omega arith }
+  hours-none values e = record { gets = λ orders stand. rw e; valueIs = refl; costIs = refl; valueFits = omega arith; costFits = omega arith }
 
   pub hours-more : (h : ℕ) (values values′ : List ℕ) (v c v′ c′ s u p times : ℕ) → h < 24 → times ≡ timesIn often (h + 1) → times ≤ 2 →
       s ≡ sales (h + 1) → u ≡ purchases (h + 1) → p ≡ price (h + 1) → getD ends h 0 ≤ getD ends (h + 1) 0 →
@@ -115,11 +115,19 @@ module _ (often : ℕ) (few : often ≤ 2) (ends sides prices quantities : List 
       let from = getD ends h 0 in
       let to = getD ends (h + 1) 0 in
       let next = steps-next ends sides prices quantities h in
-      let got : slice from to values′ ≡ gets (h + 1) = put .done .gets (h + 1) ∙ rw (next, es, eu, ep) in
-      let value-is : v′ ≡ value (steps (h + 1)) (gets (h + 1)) = put .done .valueIs (h + 1) ∙ rw (got, next) in
-      let cost-is : c′ ≡ cost (steps (h + 1)) (gets (h + 1)) = put .done .costIs (h + 1) ∙ rw (got, next) in
+      let got : (orders : ℕ → List Order) → StandFor steps orders (h + 1) → slice from to values′ ≡ ordersGet orders sales purchases price (h + 1) =
+      λ orders stand. put .done .gets (h + 1) (orders (h + 1)) (stand (h + 1) (omega arith) (omega arith) ∙ next) ∙ rw (es, eu, ep) in
+      let value-is : v′ ≡ value (steps (h + 1)) (gets (h + 1)) = put .done .valueIs (h + 1) ∙ rw (next, es, eu, ep) in
+      let cost-is : c′ ≡ cost (steps (h + 1)) (gets (h + 1)) = put .done .costIs (h + 1) ∙ rw (next, es, eu, ep) in
       record {
-        gets = take-split from to values′ rise ∙ rw (put .front, d .gets, got, inTurn-more gets h);
+        gets = λ orders stand.
+            take-split from to values′ rise
+            ∙ rw (
+              put .front,
+              d .gets orders (λ j a k. stand j a (omega arith)),
+              got orders stand,
+              inTurn-more (ordersGet orders sales purchases price) h,
+            );
         valueIs = omega (arith, d .valueIs, ap₂ _*_ et value-is, sumTo-more h (λ j. timesIn often j * value (steps j) (gets j)));
         costIs = omega (arith, d .costIs, ap₂ _*_ et cost-is, sumTo-more h (λ j. timesIn often j * cost (steps j) (gets j)));
         valueFits = omega (arith, d .valueFits, product-le times v′ 2 mostWorth most (put .done .valueFits));

@@ -1,9 +1,9 @@
 -- THE PUBLICATION IS THE RESULT: what is computed out of an accepted book's columns with the published set and its prices is what the definition
--- publishes: the steps' quantities hour after hour, the welfare and the rows. Assumes nothing.
+-- publishes: the orders' quantities hour after hour, the welfare and the rows. Assumes nothing.
 use Prim.Native.Nat.{ℕ, zero, suc, _+_, _-_, _*_, _/_, _%_, _^_, _≤_, _<_}
 use mathlib.Core.Bool.{Bool, false, cond}
 use mathlib.Core.Path.{_≡_, refl, sym, ap, ap₂, _∙_}
-use mathlib.Core.List.{List, _++_}
+use mathlib.Core.List.{List, [], _∷_, _++_}
 use native.Mathlib.Omega.{arith}
 use lib.Dec.{eqb}
 use lib.ListN.{length, take, getD}
@@ -11,15 +11,16 @@ use lib.Seq.{ext-getD, take-all, getD-take, length-take-le}
 use Rattle.records.specs.Records.{recordCount, dayHours, blockAt}
 use Rattle.book.specs.Chains.{blockOrder}
 use Rattle.book.specs.Refusals.{Accepted}
-use Rattle.rules.specs.Orders.{Step, Block}
-use Rattle.rules.specs.Day.{changeHour, weight, isCounted, taken, decisions, overBlocks, sells, buys, stepsIn, sumTo, daySum, setPrices, traded, executed, welfare, dayValue, dayCost}
+use Rattle.rules.specs.Orders.{Step, Order, Block, stepsOf, canonical}
+use Rattle.rules.specs.Day.{dayOf, keep, changeHour, weight, isCounted, taken, decisions, overBlocks, sells, buys, stepsIn, sumTo, daySum, setPrices, traded, executed, welfare, dayValue, dayCost}
 use Rattle.rules.specs.Day.{blocksValue, blocksCost}
 use Rattle.rules.specs.Outcome.{outcome, forHours}
 use Rattle.rules.specs.Contender.{quantitiesIn}
+use Rattle.rules.proofs.Tests.{by-test}
 use Rattle.rules.proofs.SetBits.{bits-at}
 use Rattle.rules.proofs.DualityLaws.{value, cost}
 use Rattle.rules.proofs.DayLaws.{executed-in, value-by-hour, cost-by-hour}
-use Rattle.orders.specs.Bridge.{dayFrom}
+use Rattle.orders.specs.Bridge.{ordersOf, dayFrom}
 use Rattle.orders.specs.Columns.{blockRecords, byHour, StepColumns, BlockColumns, blocksFrom}
 use Rattle.orders.proofs.RecordLaws.{blocks-all}
 use Rattle.orders.proofs.FrontLaws.{step-records-front, block-records-front, blocks-in-front}
@@ -33,7 +34,8 @@ use Rattle.search.specs.Meaning.{AnHour, DayOf, StepsAre}
 use Rattle.search.specs.declared.Day as code-day
 use Rattle.result.specs.Rows.{rowAt}
 use Rattle.result.specs.Result.{bytesOf, hourRows, recordRows, beside, blockRows, rowOf, resultBytes}
-use Rattle.clearing.specs.Publish.{TradersSized, HoursDone, WorthOf, WhereCounted, RowsOf, salesAt, buysAt, inTurn, getsAt}
+use Rattle.clearing.specs.Publish.{TradersSized, HoursDone, WorthOf, WhereCounted, RowsOf, salesAt, buysAt, inTurn, stepsGet, ordersGet, ordersIn, StandFor}
+use Rattle.clearing.proofs.SumLaws.{one-each}
 use Rattle.result.proofs.RowLaws.{records-same}
 use Rattle.places.proofs.StepLaws.{small-take}
 use Rattle.rules.proofs.HourSums.{sumTo-in}
@@ -57,6 +59,14 @@ pub columns-steps : (b ends records sides prices quantities : List ℕ) → Step
 unfolding stepsAt
 columns-steps b ends records sides prices quantities columns a h first last =
     sym (hour-from-columns b ends records sides prices quantities columns a h first last)
+
+-- the steps of an hour's orders are the hour's
+steps-in : (h : ℕ) (l : List Order) → stepsOf (ordersIn h l) ≡ stepsIn h (stepsOf l)
+unfolding stepsOf
+steps-in h [] = refl
+steps-in h (o ∷ l) =
+    by-test (λ t. stepsOf (keep t o (ordersIn h l)) ≡ keep t (o .step) (stepsIn h (stepsOf l))) (eqb (o .step .hour) h)
+    (λ e. ap (λ m. o .step ∷ m) (steps-in h l)) (λ e. steps-in h l)
 
 -- lists that agree in each of the hours
 inTurn-same : (n : ℕ) (q r : ℕ → List ℕ) → ((h : ℕ) → 1 ≤ h → h ≤ n → q h ≡ r h) → inTurn q n ≡ hourAfterHour r n
@@ -105,7 +115,7 @@ module _ (b ends records sides prices quantities brecords bsides bhours bprices 
   purchases = buysAt bsides bhours bquantities set
 
   abbrev gets : ℕ → List ℕ
-  gets = getsAt (stepsAt ends sides prices quantities) (salesAt bsides bhours bquantities set) (buysAt bsides bhours bquantities set) (ofHour (found .prices))
+  gets = stepsGet (stepsAt ends sides prices quantities) (salesAt bsides bhours bquantities set) (buysAt bsides bhours bquantities set) (ofHour (found .prices))
 
   steps-are : StepsAre (dayFrom b) (stepsAt ends sides prices quantities)
   steps-are = columns-steps b ends records sides prices quantities columns a
@@ -141,6 +151,17 @@ module _ (b ends records sides prices quantities brecords bsides bhours bprices 
   unfolding executedIn
   gets-are h first last = rw (steps-are h first last, sales-are h, purchases-are h, of .pricesAre h record { first = first; last = last })
 
+  -- the book's orders of each hour stand for the columns' steps, and get what these get
+  abbrev orders : ℕ → List Order
+  orders h = ordersIn h (ordersOf b .steps)
+
+  stand-for : StandFor (stepsAt ends sides prices quantities) (λ h. ordersIn h (ordersOf b .steps)) 24
+  unfolding dayFrom dayOf canonical
+  stand-for h first last = steps-in h (ordersOf b .steps) ∙ sym (steps-are h first last)
+
+  orders-get : (h : ℕ) → 1 ≤ h → h ≤ 24 → ordersGet orders sales purchases (ofHour (found .prices)) h ≡ executedIn b h
+  orders-get h first last = one-each (orders h) ∙ rw (stand-for h first last) (gets-are h first last)
+
   module _ (often day : ℕ) (on : dayHours b ≡ day) (weighs : often ≡ weight day changeHour) (values : List ℕ) (v c wv wc : ℕ)
       (hours : HoursDone often ends (stepsAt ends sides prices quantities) (salesAt bsides bhours bquantities set) (buysAt bsides bhours bquantities set)
       (ofHour (found .prices)) 24 values v c)
@@ -156,7 +177,7 @@ module _ (b ends records sides prices quantities brecords bsides bhours bprices 
 
     values-are : take (getD ends 24 0) values ≡ executedByHour b 24
     unfolding executedByHour
-    values-are = hours .gets ∙ inTurn-same 24 gets (executedIn b) gets-are
+    values-are = hours .gets orders stand-for ∙ inTurn-same 24 (ordersGet orders sales purchases (ofHour (found .prices))) (executedIn b) orders-get
 
     -- THE WELFARE
     abbrev S : List Block

@@ -1,23 +1,26 @@
 -- What quantities of steps are worth, one step at a time; and what an hour's steps get is within its columns. Assumes nothing.
 use Prim.Native.Nat.{ℕ, zero, suc, _+_, _*_, _≤_, _<_}
-use mathlib.Core.Path.{_≡_, refl, sym, _∙_}
+use mathlib.Core.Path.{_≡_, refl, sym, ap, _∙_}
 use mathlib.Core.List.{List, [], _∷_}
 use native.Mathlib.Omega.{arith}
 use native.Mathlib.Numerals.{add-one}
 use native.Mathlib.Nat.{le-trans}
 use lib.ListN.{length, drop, getD}
 use lib.Seq.{drop-cons}
-use Rattle.rules.specs.Orders.{Step}
+use Rattle.rules.specs.Orders.{Step, Order, stepsOf, executedOf}
 use Rattle.rules.specs.Hour.{bySide}
+use Rattle.rules.specs.Execution.{execution}
 use Rattle.rules.specs.Contender.{Each, Within}
 use Rattle.rules.proofs.CurveLaws.{bySide-le}
 use Rattle.rules.proofs.BoundsLaws.{product-le}
 use Rattle.rules.proofs.DualityLaws.{value, cost}
+use Rattle.rules.proofs.PricingLaws.{net}
 use Rattle.rules.proofs.ExecutionLaws.{execution-within, execution-net}
 use Rattle.orders.specs.Columns.{sideFor, stepsFrom}
-use Rattle.pricing.specs.Curves.{hourWith, Columns, ExecutedOf}
+use Rattle.pricing.specs.Curves.{hourWith, Columns}
 use Rattle.pricing.proofs.TotalsLaws.{side-sell, restOf, rest-more, rest-end}
 use Rattle.places.specs.Hours.{Small}
+use Rattle.shares.specs.Shares.{ExecutedOf}
 use Rattle.clearing.specs.Publish.{SumsOf, HourDone}
 
 -- ONE STEP, by its side
@@ -129,15 +132,23 @@ pub executed-small : (m : ℕ) (sides prices quantities out : List ℕ) (n price
 executed-small m sides prices quantities out n price e small =
     within-own m 0 sides prices quantities out small (rw (e 0) (execution-within (hourWith 0 sides prices quantities n) price))
 
+-- each order is its one step, and gets what this gets
+pub one-each : (orders : List Order) {quantities : List ℕ} → executedOf orders quantities ≡ quantities
+unfolding executedOf
+one-each orders = refl
+
 -- an hour is done by its amounts, its shares and its sums
 pub hour-done : (sides prices quantities out : List ℕ) (sales purchases n price value-r cost-r : ℕ) →
     length quantities ≡ length out → n + purchases ≡ 2097152 + sales → ExecutedOf sides prices quantities n price out →
     SumsOf sides prices out value-r cost-r → HourDone sides prices quantities sales purchases price out value-r cost-r
 hour-done sides prices quantities out sales purchases n price value-r cost-r same e x s =
     record {
-      gets = λ h. x h ∙ execution-net (stepsFrom h sides prices quantities) n 2097152 sales purchases (omega arith) price;
-      valueIs = λ h. s .valueIs h ∙ sym (own-none h sides prices quantities out out same .0);
-      costIs = λ h. s .costIs h ∙ sym (own-none h sides prices quantities out out same .1);
+      gets = λ h orders stand. got h ∙ rw (one-each orders, stand);
+      valueIs = λ h. s .valueIs h ∙ sym (own-none h sides prices quantities out out same .0) ∙ ap (value (stepsFrom h sides prices quantities)) (got h);
+      costIs = λ h. s .costIs h ∙ sym (own-none h sides prices quantities out out same .1) ∙ ap (cost (stepsFrom h sides prices quantities)) (got h);
       valueFits = s .valueFits;
       costFits = s .costFits;
     }
+  where
+    got : (h : ℕ) → out ≡ execution (net (stepsFrom h sides prices quantities) sales purchases) price
+    got h = x h ∙ execution-net (stepsFrom h sides prices quantities) n 2097152 sales purchases (omega arith) price

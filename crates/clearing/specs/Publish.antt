@@ -1,8 +1,9 @@
--- THE PUBLICATION out of columns: what the steps of each hour get, hour after hour, and what it is worth; the result's bytes from them and from the day.
+-- THE PUBLICATION out of columns: what the orders of each hour get, hour after hour, and what it is worth; the result's bytes from them and from the day.
+-- A place of the columns is an order of the step chain, and what it gets is what its steps get together (`executedOf`); today each order is its one step.
 -- These are the contracts of the functions of src/publish.rt; the promise of the clearing itself is in Promise. Definitions only. Assumes nothing.
 use Prim.Native.Nat.{ℕ, zero, suc, _*_, _/_, _%_, _^_, _≤_, _<_}
 use mathlib.Core.Bool.{cond, not}
-use mathlib.Core.List.{List, [], _++_}
+use mathlib.Core.List.{List, [], _∷_, _++_}
 use mathlib.Core.Path.{_≡_}
 use lib.Dec.{eqb}
 use lib.ListN.{length, take, getD}
@@ -10,10 +11,10 @@ use lib.Seq.{slice}
 use Rattle.records.specs.Records.{recordCount, dayHours}
 use Rattle.book.specs.Refusals.{Accepted}
 use Rattle.records.specs.Layout.{lastHour}
-use Rattle.rules.specs.Orders.{Step, maxPrice}
+use Rattle.rules.specs.Orders.{Step, Order, maxPrice, stepsOf, executedOf}
 use Rattle.rules.specs.Hour.{when}
 use Rattle.rules.specs.Execution.{execution}
-use Rattle.rules.specs.Day.{autumnHours, taken, decisions, overBlocks, sells, buys, sumTo, blocksValue, blocksCost}
+use Rattle.rules.specs.Day.{autumnHours, keep, taken, decisions, overBlocks, sells, buys, sumTo, blocksValue, blocksCost}
 use Rattle.rules.specs.Outcome.{outcome}
 use Rattle.rules.proofs.PricingLaws.{net}
 use Rattle.rules.proofs.DualityLaws.{value, cost}
@@ -36,11 +37,12 @@ abbrev pub mostWorth : ℕ
 mostWorth = 2 ^ 46
 
 -- AN HOUR out of its columns
--- What its steps get at a price, and what that is worth, whatever hour the columns are of.
+-- What each order gets at a price, of any orders that stand for the columns' steps, and what is worth what the steps get; whatever hour the columns are of.
 pub record HourDone (sides prices quantities : List ℕ) (sales purchases price : ℕ) (out : List ℕ) (value-r cost-r : ℕ) : Type 0 where
-  pub gets : (h : ℕ) → out ≡ execution (net (stepsFrom h sides prices quantities) sales purchases) price
-  pub valueIs : (h : ℕ) → value-r ≡ value (stepsFrom h sides prices quantities) out
-  pub costIs : (h : ℕ) → cost-r ≡ cost (stepsFrom h sides prices quantities) out
+  pub gets : (h : ℕ) (orders : List Order) → stepsOf orders ≡ stepsFrom h sides prices quantities →
+      out ≡ executedOf orders (execution (net (stepsOf orders) sales purchases) price)
+  pub valueIs : (h : ℕ) → let l = stepsFrom h sides prices quantities in value-r ≡ value l (execution (net l sales purchases) price)
+  pub costIs : (h : ℕ) → let l = stepsFrom h sides prices quantities in cost-r ≡ cost l (execution (net l sales purchases) price)
   pub valueFits : value-r ≤ mostWorth
   pub costFits : cost-r ≤ mostWorth
 
@@ -73,15 +75,28 @@ inTurn q zero = []
 inTurn q (suc n) = inTurn q n ++ q (suc n)
 
 -- What the steps of hour h get, with its blocks' sales and purchases and its price.
-abbrev pub getsAt : (steps : ℕ → List Step) (sales purchases price : ℕ → ℕ) → ℕ → List ℕ
-getsAt steps sales purchases price h = execution (net (steps h) (sales h) (purchases h)) (price h)
+abbrev pub stepsGet : (steps : ℕ → List Step) (sales purchases price : ℕ → ℕ) → ℕ → List ℕ
+stepsGet steps sales purchases price h = execution (net (steps h) (sales h) (purchases h)) (price h)
 
--- The hours 1 to n are done: what the steps get stands in front of the values, and with it its value and its cost, hour 3's so often.
+-- What the orders of hour h get: each what its steps get together.
+abbrev pub ordersGet : (orders : ℕ → List Order) (sales purchases price : ℕ → ℕ) → ℕ → List ℕ
+ordersGet orders sales purchases price h = executedOf (orders h) (stepsGet (λ k. stepsOf (orders k)) sales purchases price h)
+
+-- The orders of an hour.
+abbrev pub ordersIn : ℕ → List Order → List Order
+ordersIn h [] = []
+ordersIn h (o ∷ l) = keep (eqb (o .step .hour) h) o (ordersIn h l)
+
+-- Orders that stand for the steps of the hours 1 to n.
+abbrev pub StandFor : (steps : ℕ → List Step) (orders : ℕ → List Order) → ℕ → Type 0
+StandFor steps orders n = (h : ℕ) → 1 ≤ h → h ≤ n → stepsOf (orders h) ≡ steps h
+
+-- The hours 1 to n are done: what the orders get stands in front of the values, and with it its value and its cost, hour 3's so often.
 pub record HoursDone (often : ℕ) (ends : List ℕ) (steps : ℕ → List Step) (sales purchases price : ℕ → ℕ) (n : ℕ) (values : List ℕ)
     (value-r cost-r : ℕ) : Type 0 where
-  pub gets : take (getD ends n 0) values ≡ inTurn (getsAt steps sales purchases price) n
-  pub valueIs : value-r ≡ sumTo n (λ h. timesIn often h * value (steps h) (getsAt steps sales purchases price h))
-  pub costIs : cost-r ≡ sumTo n (λ h. timesIn often h * cost (steps h) (getsAt steps sales purchases price h))
+  pub gets : (orders : ℕ → List Order) → StandFor steps orders n → take (getD ends n 0) values ≡ inTurn (ordersGet orders sales purchases price) n
+  pub valueIs : value-r ≡ sumTo n (λ h. timesIn often h * value (steps h) (stepsGet steps sales purchases price h))
+  pub costIs : cost-r ≡ sumTo n (λ h. timesIn often h * cost (steps h) (stepsGet steps sales purchases price h))
   pub valueFits : value-r ≤ n * (2 * mostWorth)
   pub costFits : cost-r ≤ n * (2 * mostWorth)
 
@@ -114,7 +129,7 @@ pub record WhereCounted (often : ℕ) (column r : List ℕ) : Type 0 where
   pub size : length r ≡ lastHour
   pub are : (h : ℕ) → 1 ≤ h → h ≤ lastHour → ofHour r h ≡ when (not (eqb (timesIn often h) 0)) (ofHour column h)
 
--- THE ROWS: each step's value beside its record, and each taken block's quantity beside its own.
+-- THE ROWS: what each order gets beside its record, and each taken block's quantity beside its own.
 abbrev pub RowsOf : (records values brecords bquantities : List ℕ) (set : ℕ) (rows : List ℕ) → Type 0
 RowsOf records values brecords bquantities set rows =
     (bvalues : List ℕ) → length bvalues ≡ length brecords →

@@ -1,4 +1,4 @@
-// The publication: what the steps of each hour get at its price, the welfare, and with them and the day the result's
+// The publication: what the orders of each hour get at its price, the welfare, and with them and the day the result's
 // bytes. Assumes nothing.
 ghost use mathlib.Core.Path.{_≡_};
 ghost use Prim.Native.Nat.{_+_, _*_, _^_, _≤_};
@@ -27,13 +27,13 @@ use orders::layout::STEP_PLACES;
 use places::layout::CHANGE_ROW;
 use pricing::BIAS;
 use pricing::blocks::trades_of;
-use pricing::execution::amounts_at;
 use pricing::execution::less;
-use pricing::execution::share_out;
 use result::block_values;
 use result::with_rows;
 use result::write_result;
 use search::Day;
+use shares::amounts_at;
+use shares::share_out;
 
 // What quantities are worth: the value of the buys and the cost of the sells.
 pub struct Sums {
@@ -71,7 +71,7 @@ fn sums_of(sides: &[u8], prices: &[u32], values: &[u32]) -> Sums
     sums
 }
 
-// What the steps of an hour get, into out, and its sums.
+// What the orders of an hour get, into out, and its sums; rests is lent to work in.
 fn fill_hour(
     sides: &[u8],
     prices: &[u32],
@@ -80,15 +80,16 @@ fn fill_hour(
     buys: u64,
     price: u32,
     out: &mut [u32],
+    rests: &mut [u32],
 ) -> Sums
     requires { ⌜ Columns (now sides) (now prices) (now quantities) × (length (now sides) ≡ length (now out)) × (1 ≤ price) × (sales ≤ lastPlace)
-        × (buys ≤ lastPlace) × Small maxPrice (now prices) × Small mostStepQuantity (now quantities) ⌝ }
+        × (buys ≤ lastPlace) × Small maxPrice (now prices) × Small mostStepQuantity (now quantities) × (length (now sides) ≡ length (now rests)) ⌝ }
     ensures { λ r. ⌜ HourDone (now (sides .entry)) (now (prices .entry)) (now (quantities .entry)) sales buys price (now (out .exit)) (r .value)
         (r .cost) ⌝ }
 {
     let net = (BIAS + sales - buys) as u32;
     let amounts = amounts_at(sides, prices, quantities, net, price);
-    share_out(sides, prices, quantities, price, amounts, out);
+    share_out(sides, prices, quantities, price, amounts, out, rests);
     sums_of(sides, prices, out)
 }
 
@@ -103,9 +104,10 @@ fn put_hour(
     buys: u64,
     price: u32,
     values: &mut [u32],
+    rests: &mut [u32],
 ) -> Sums
     requires { ⌜ PartSized (now sides) (now prices) (now quantities) from to × (to ≤ length (now values)) × (1 ≤ price) × (sales ≤ lastPlace)
-        × (buys ≤ lastPlace) ⌝ }
+        × (buys ≤ lastPlace) × (to ≤ length (now rests)) ⌝ }
     ensures { λ r. ⌜ HourPut (now (sides .entry)) (now (prices .entry)) (now (quantities .entry)) from to sales buys price (now (values .entry))
         (now (values .exit)) (r .value) (r .cost) ⌝ }
 {
@@ -117,6 +119,7 @@ fn put_hour(
         buys,
         price,
         &mut values[from..to],
+        &mut rests[from..to],
     )
 }
 
@@ -164,7 +167,7 @@ fn times_of(row: usize, often: u32) -> u64
     if row == CHANGE_ROW { often as u64 } else { 1 }
 }
 
-// What the steps of each hour get, hour after hour, into values, and the value and the cost of all of it, hour 3's so often.
+// What the orders of each hour get, hour after hour, into values, and the value and the cost of all of it, hour 3's so often; rests is lent to work in.
 fn fill_hours(
     often: u32,
     steps: Steps,
@@ -174,9 +177,10 @@ fn fill_hours(
     set: u32,
     middles: [u32; HOURS],
     values: &mut [u32],
+    rests: &mut [u32],
 ) -> Sums
     requires { ⌜ (often ≤ 2) × StepsSized (steps .ends) (steps .sides) (steps .prices) (steps .quantities) × TradersSized (now bsides) (now bhours) (now bquantities)
-        × HoursPriced middles × (getD (steps .ends) lastHour 0 ≤ length (now values)) ⌝ }
+        × HoursPriced middles × (getD (steps .ends) lastHour 0 ≤ length (now values)) × (getD (steps .ends) lastHour 0 ≤ length (now rests)) ⌝ }
     ensures { λ r. ⌜ HoursDone often (steps .ends) (stepsAt (steps .ends) (steps .sides) (steps .prices) (steps .quantities))
         (salesAt (now (bsides .entry)) (now (bhours .entry)) (now (bquantities .entry)) set)
         (buysAt (now (bsides .entry)) (now (bhours .entry)) (now (bquantities .entry)) set)
@@ -203,6 +207,7 @@ fn fill_hours(
             trades.buys,
             middles[h],
             values,
+            rests,
         );
         let times = times_of(h, often);
         value += times * sums.value;
@@ -223,7 +228,7 @@ fn where_counted(column: [u32; HOURS], often: u32) -> [u32; HOURS]
     r
 }
 
-// The row of each record: a step's value, a block's quantity if the set holds it, else 0.
+// The row of each record: what its order gets, a block's quantity if the set holds it, else 0.
 fn rows_of(
     records: &[u16],
     values: &[u32],
@@ -267,6 +272,7 @@ fn publish_columns(
     let traded = found.quantities;
     let often = change_weight(day);
     let mut values = [0; STEP_PLACES];
+    let mut rests = [0; STEP_PLACES];
     let sums = fill_hours(
         often,
         steps,
@@ -276,6 +282,7 @@ fn publish_columns(
         set,
         middles,
         &mut values,
+        &mut rests,
     );
     let worth = blocks_worth(day, bsides, bhours, bprices, bquantities, set);
     let welfare = less(sums.value + worth.value, sums.cost + worth.cost);

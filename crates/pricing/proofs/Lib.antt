@@ -4,6 +4,6 @@ pub mod TradeLaws
 pub mod TraderLaws
 pub mod EndLaws
 pub mod AnswerLaws
-pub mod ShareLaws
+pub mod TradedLaws
 pub mod CallLaws
 pub mod SameNetLaws

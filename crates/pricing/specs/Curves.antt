@@ -1,14 +1,13 @@
 -- AN HOUR AS COLUMNS AND A NUMBER: what the price finder is given, neither the book, the set nor the blocks. Definitions only. Assumes nothing.
 use Prim.Native.Nat.{ℕ, _+_, _*_, _^_, _≤_, _<_, min}
-use mathlib.Core.List.{List, [], _∷_, map}
+use mathlib.Core.List.{List, [], _∷_}
 use mathlib.Core.Path.{_≡_}
 use lib.ListN.{length, getD}
 use Rattle.book.specs.Bounds.{mostStepQuantity}
 use Rattle.orders.specs.Layout.{stepPlaces, blockPlaces}
-use Rattle.orders.specs.Columns.{sideFor, stepsFrom, blockOf}
-use Rattle.rules.specs.Orders.{Step, Block, maxPrice, mostBlockQuantity}
+use Rattle.orders.specs.Columns.{stepsFrom, blockOf}
+use Rattle.rules.specs.Orders.{Block, maxPrice, mostBlockQuantity}
 use Rattle.rules.specs.Hour.{Hour, buysAbove, buysFrom, sellsTo}
-use Rattle.rules.specs.Execution.{inFull, buyingAt, sellingAt, buyAmount, sellAmount, shares, plus, execution}
 use Rattle.rules.specs.Day.{taken, decisions, overBlocks, sells, buys as buysIn}
 
 -- N is held as one number that is never negative: this, plus block sales, less block purchases.
@@ -68,29 +67,7 @@ pub record TradesOf (sides hours quantities : List ℕ) (set h sales buys : ℕ)
   pub sold : sales ≡ overBlocks (sells h) (taken (tradersFrom sides hours quantities) (decisions (length sides) set))
   pub bought : buys ≡ overBlocks (buysIn h) (taken (tradersFrom sides hours quantities) (decisions (length sides) set))
 
--- EXECUTION out of columns
 -- What is traded at a price, with what the blocks sell and buy: what is bought at or above it, or sold at or below it, the lesser.
 abbrev pub TradedAt : List ℕ → List ℕ → List ℕ → (sales purchases price traded : ℕ) → Type 0
 TradedAt sides prices quantities sales purchases price traded =
     (h : ℕ) → let l = stepsFrom h sides prices quantities in 1 ≤ price → traded ≡ min (buysFrom price l + purchases) (sellsTo price l + sales)
-
--- A step by its side, price and quantity; its hour plays no part in what it gets.
-abbrev pub stepFor : ℕ → ℕ → ℕ → Step
-stepFor side price quantity = record { hour = 0; side = sideFor side; price = price; quantity = quantity }
-
--- The amounts for the steps at a price, whatever hour the columns are of.
-pub record AmountsOf (sides prices quantities : List ℕ) (n price buys sells : ℕ) : Type 0 where
-  pub forBuys : (h : ℕ) → buys ≡ buyAmount (hourWith h sides prices quantities n) price
-  pub forSells : (h : ℕ) → sells ≡ sellAmount (hourWith h sides prices quantities n) price
-
--- What steps get at a price, where so much is left for the buys at it and so much for the sells.
-unfoldable pub sharedOut : ℕ → ℕ → ℕ → List Step → List ℕ
-sharedOut price buys sells l =
-    plus (map (inFull price) l) (plus (shares buys (map (buyingAt price) l)) (shares sells (map (sellingAt price) l)))
-
-abbrev pub SharedOut : List ℕ → List ℕ → List ℕ → ℕ → ℕ → ℕ → List ℕ → Type 0
-SharedOut sides prices quantities price buys sells out = (h : ℕ) → out ≡ sharedOut price buys sells (stepsFrom h sides prices quantities)
-
--- The executed quantities of an hour's columns at a price.
-abbrev pub ExecutedOf : List ℕ → List ℕ → List ℕ → ℕ → ℕ → List ℕ → Type 0
-ExecutedOf sides prices quantities n price out = (h : ℕ) → out ≡ execution (hourWith h sides prices quantities n) price

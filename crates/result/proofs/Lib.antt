@@ -7,3 +7,4 @@ pub mod RowsLaws
 pub mod PromiseLaws
 pub mod CashRecordLaws
 pub mod WorkedResultLaws
+pub mod SharingLaws

@@ -24,7 +24,7 @@ use Rattle.rules.specs.Hour.{
   isCleared,
   answeredPrice,
 }
-use Rattle.rules.specs.Execution.{buyAmount, sellAmount, shares, execution, bought, sold}
+use Rattle.rules.specs.Execution.{buyAmount, sellAmount, floors, remainders, atLeast, extras, inProportion, shares, execution, bought, sold}
 use Rattle.rules.specs.Day.{
   Day,
   eachOnDay,
@@ -164,7 +164,8 @@ prices-tested day set = fun-ext (price-tested day set)
 unfoldable pub computed : Unit {0}
 unfolding tested testedClears testedPrices low high leastOf greatestOf inRange clears buysAbove buysFrom sellsTo sellsBelow
     dayOf eachOnDay canonical stepsOf weight isCounted sumTo daySum allTo everyHour hourCount priceSum keepsLimit keepsLimits keepsLink allowed
-    execution buyAmount sellAmount shares inStepOrder bought sold stepsValue stepsCost blocksValue blocksCost dayValue dayCost
+    execution buyAmount sellAmount floors remainders atLeast extras inProportion shares inStepOrder bought sold stepsValue stepsCost blocksValue blocksCost
+    dayValue dayCost
 computed = tt
 
 -- THE LAW OF `weight`: every hour of 1 to 24 counts, but for hour 3 on a day of 23 hours

@@ -48,7 +48,7 @@ unfolding computed
 shorter-set-no-contender c = omega (arith, c .ofBlocks)
 
 -- a quantity too many, and one missing
-pub more-quantities-no-contender : ¬ Contender sharedLate [] (60 ∷ 40 ∷ 0 ∷ 100 ∷ 0 ∷ [])
+pub more-quantities-no-contender : ¬ Contender sharedLate [] (50 ∷ 50 ∷ 0 ∷ 100 ∷ 0 ∷ [])
 unfolding computed
 more-quantities-no-contender c = c .within .1 .1 .1 .1
 
@@ -88,8 +88,8 @@ family-contends = record {
   limits = rw prices-tested refl;
 }
 
--- the buy above the price not in full, the sell above it served, the second sell at the price before the first is filled
-pub against-price-contends : Contender sharedLate [] (20 ∷ 50 ∷ 10 ∷ 80 ∷ []) × (executed sharedLate [] ≡ 60 ∷ 40 ∷ 0 ∷ 100 ∷ [])
+-- the buy above the price not in full, the sell above it served, the sells at the price not in proportion
+pub against-price-contends : Contender sharedLate [] (20 ∷ 50 ∷ 10 ∷ 80 ∷ []) × (executed sharedLate [] ≡ 50 ∷ 50 ∷ 0 ∷ 100 ∷ [])
 unfolding computed executed
 against-price-contends = (
   record {

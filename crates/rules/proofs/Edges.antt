@@ -7,7 +7,7 @@ use lib.Dec.{eqb}
 use lib.ListN.{getD}
 use Rattle.rules.specs.Orders.{Side, buy, sell, Block, limits}
 use Rattle.rules.specs.Hour.{Hour, buysAbove, buysFrom, sellsTo, sellsBelow, clears, middle}
-use Rattle.rules.specs.Execution.{shares}
+use Rattle.rules.specs.Execution.{floors, remainders, atLeast, extras, inProportion, shares, fillInTurn}
 use Rattle.rules.specs.Day.{weight, sumTo, daySum, hourCount, priceSum, keepsLimit}
 use Rattle.rules.specs.Outcome.{allSets}
 
@@ -51,10 +51,34 @@ two-blocks : allSets 2 ≡ (true ∷ true ∷ []) ∷ (true ∷ false ∷ []) �
 unfolding allSets
 two-blocks = refl
 
--- 100 shared by two steps of 60
-filled-in-turn : shares 100 (60 ∷ 60 ∷ []) ≡ 60 ∷ 40 ∷ []
-unfolding shares
+-- 100 shared by two steps of 60; by the former rule the first was filled before the second
+half-each : shares 100 (60 ∷ 60 ∷ []) ≡ 50 ∷ 50 ∷ []
+unfolding shares inProportion floors remainders extras atLeast
+half-each = refl
+
+filled-in-turn : fillInTurn 100 (60 ∷ 60 ∷ []) ≡ 60 ∷ 40 ∷ []
+unfolding fillInTurn
 filled-in-turn = refl
+
+-- 3 shared by steps of 2, 1 and 1: rounded down 1, 0 and 0, and the two tenths left go to the larger remainders, not to the lower numbers
+largest-remainders : shares 3 (2 ∷ 1 ∷ 1 ∷ []) ≡ 1 ∷ 1 ∷ 1 ∷ []
+unfolding shares inProportion floors remainders extras atLeast
+largest-remainders = refl
+
+-- 2 shared by steps of 1 and 3: rounded down 0 and 1, equal remainders, and the lower number gets the tenth left
+equal-remainders : shares 2 (1 ∷ 3 ∷ []) ≡ 1 ∷ 1 ∷ []
+unfolding shares inProportion floors remainders extras atLeast
+equal-remainders = refl
+
+-- where nobody holds anything nobody gets anything
+nothing-held : shares 7 (0 ∷ 0 ∷ []) ≡ 0 ∷ 0 ∷ []
+unfolding shares inProportion floors remainders extras atLeast
+nothing-held = refl
+
+-- a step of 0 between gets nothing and moves no other
+none-between : shares 3 (2 ∷ 0 ∷ 1 ∷ 1 ∷ []) ≡ 1 ∷ 0 ∷ 1 ∷ 1 ∷ []
+unfolding shares inProportion floors remainders extras atLeast
+none-between = refl
 
 -- the limits of each edition: a block's largest quantity, and how many blocks a portfolio may have
 pub limits-of-edition-1 : (limits 1 .blockQuantity ≡ 50) × (limits 1 .blocksOfPortfolio ≡ 5)

@@ -12,8 +12,9 @@ use lib.Dec.{ltb, leb, eqb}
 use borrow.Author.Tests.{lt-ltb, le-ltb, ne-eqb}
 use Rattle.rules.specs.Orders.{Side, buy, sell, Step}
 use Rattle.rules.specs.Hour.{bySide, when, total, buying, selling, buysAbove, buysFrom, sellsTo, sellsBelow, Hour}
-use Rattle.rules.specs.Execution.{testSide, inFull, buyingAt, sellingAt, buyAmount, sellAmount, shares, plus, execution, bought, sold}
+use Rattle.rules.specs.Execution.{testSide, inFull, buyingAt, sellingAt, buyAmount, sellAmount, sumOf, shares, plus, execution, bought, sold}
 use Rattle.rules.specs.Contender.{Each, Within, Balanced}
+use Rattle.rules.specs.SharingRules.{AtMost}
 use Rattle.rules.proofs.Tests.{OneOf, below, above, equal, one-of}
 use Rattle.rules.proofs.CurveLaws.{
   when-zero,
@@ -28,32 +29,12 @@ use Rattle.rules.proofs.CurveLaws.{
   to-is-below-and-at,
 }
 use Rattle.rules.proofs.PricingLaws.{Clears, net}
+use Rattle.rules.proofs.ShareLaws.{shares-within}
+use Rattle.rules.proofs.CutLaws.{shares-sum}
 use Rattle.rules.proofs.ContenderCases
 
 -- SHARES
-abbrev pub sumOf : List ℕ → ℕ
-sumOf [] = 0
-sumOf (q ∷ l) = q + sumOf l
-
--- as many shares as steps, and none above what its step holds
-abbrev pub AtMost : List ℕ → List ℕ → Type 0
-AtMost [] [] = Unit {0}
-AtMost [] (q ∷ qs) = ⊥
-AtMost (own ∷ l) [] = ⊥
-AtMost (own ∷ l) (q ∷ qs) = (q ≤ own) × AtMost l qs
-
--- M6, THE TWO LAWS of the sharing rule: a share is at most the step's own quantity; the shares add up to the amount
-pub shares-within : (amount : ℕ) (owns : List ℕ) → AtMost owns (shares amount owns)
-unfolding shares
-shares-within amount [] = tt
-shares-within amount (own ∷ l) = (omega arith, shares-within (amount - own) l)
-
-pub shares-sum : (amount : ℕ) (owns : List ℕ) → amount ≤ sumOf owns → sumOf (shares amount owns) ≡ amount
-unfolding shares
-shares-sum amount [] h = omega arith
-shares-sum amount (own ∷ l) h = omega (arith, shares-sum (amount - own) l (omega arith))
-
-sum-map : (f : Step → ℕ) (l : List Step) → sumOf (map f l) ≡ total f l
+pub sum-map : (f : Step → ℕ) (l : List Step) → sumOf (map f l) ≡ total f l
 sum-map f [] = refl
 sum-map f (s ∷ l) = ap (λ n. f s + n) (sum-map f l)
 
@@ -115,7 +96,7 @@ step-follows p b s o = go (o .side) (o .price) (o .quantity)
 
 -- ALL STEPS, with any shares within what the steps hold at the price
 module _ (p : ℕ) where
-  shared-bought : (l : List Step) (bs ss : List ℕ) → AtMost (map (buyingAt p) l) bs → AtMost (map (sellingAt p) l) ss →
+  pub shared-bought : (l : List Step) (bs ss : List ℕ) → AtMost (map (buyingAt p) l) bs → AtMost (map (sellingAt p) l) ss →
       bought l (plus (map (inFull p) l) (plus bs ss)) ≡ buysAbove p l + sumOf bs
   unfolding bought buysAbove
   shared-bought [] [] [] hb hs = refl
@@ -129,27 +110,27 @@ module _ (p : ℕ) where
   shared-sold (o ∷ l) (b ∷ bs) (s ∷ ss) hb hs =
       omega (arith, step-sold p (o .price) (o .quantity) b s (o .side) (hb .0) (hs .0), shared-sold l bs ss (hb .1) (hs .1))
 
-  shared-follows : (l : List Step) (bs ss : List ℕ) → AtMost (map (buyingAt p) l) bs → AtMost (map (sellingAt p) l) ss →
+  pub shared-follows : (l : List Step) (bs ss : List ℕ) → AtMost (map (buyingAt p) l) bs → AtMost (map (sellingAt p) l) ss →
       Each (Follows p) l (plus (map (inFull p) l) (plus bs ss))
   shared-follows [] [] [] hb hs = tt
   shared-follows (o ∷ l) (b ∷ bs) (s ∷ ss) hb hs =
       (step-follows p b s o (hb .0) (hs .0), shared-follows l bs ss (hb .1) (hs .1))
 
--- M6, THE AMOUNTS
-module _ (h : Hour) (p : ℕ) (c : Clears h p) where
+-- M6, THE AMOUNTS: at every price no more than the steps at it hold; so the two laws of the sharing rule hold of their shares
+module _ (h : Hour) (p : ℕ) where
   pub buyAmount-held : buyAmount h p ≤ total (buyingAt p) (h .steps)
   unfolding buyAmount
   buyAmount-held = omega arith
 
   pub sellAmount-held : sellAmount h p ≤ total (sellingAt p) (h .steps)
-  unfolding sellAmount buyAmount
-  sellAmount-held = omega (arith, c .demandMet, sellsTo-split p (h .steps))
+  unfolding sellAmount
+  sellAmount-held = omega arith
 
-  pub amounts-balance :
-      buysAbove p (h .steps) + buyAmount h p + h .blockBuys ≡ sellsBelow p (h .steps) + sellAmount h p + h .blockSales
-  unfolding sellAmount buyAmount
-  amounts-balance =
-      omega (arith, c .demandMet, c .supplyMet, sellsTo-split p (h .steps), buysFrom-split p (h .steps))
+  buyShares-within : AtMost (map (buyingAt p) (h .steps)) (shares (buyAmount h p) (map (buyingAt p) (h .steps)))
+  buyShares-within = shares-within (buyAmount h p) (map (buyingAt p) (h .steps)) (rw sum-map buyAmount-held)
+
+  sellShares-within : AtMost (map (sellingAt p) (h .steps)) (shares (sellAmount h p) (map (sellingAt p) (h .steps)))
+  sellShares-within = shares-within (sellAmount h p) (map (sellingAt p) (h .steps)) (rw sum-map sellAmount-held)
 
   buyShares-sum : sumOf (shares (buyAmount h p) (map (buyingAt p) (h .steps))) ≡ buyAmount h p
   buyShares-sum = shares-sum (buyAmount h p) (map (buyingAt p) (h .steps)) (rw sum-map buyAmount-held)
@@ -157,10 +138,22 @@ module _ (h : Hour) (p : ℕ) (c : Clears h p) where
   sellShares-sum : sumOf (shares (sellAmount h p) (map (sellingAt p) (h .steps))) ≡ sellAmount h p
   sellShares-sum = shares-sum (sellAmount h p) (map (sellingAt p) (h .steps)) (rw sum-map sellAmount-held)
 
+-- at a clearing price the sells at it hold what balances the hour
+module _ (h : Hour) (p : ℕ) (c : Clears h p) where
+  pub sells-suffice : sellAmount h p ≡ buysAbove p (h .steps) + buyAmount h p + h .blockBuys - (sellsBelow p (h .steps) + h .blockSales)
+  unfolding sellAmount buyAmount
+  sells-suffice = omega (arith, c .demandMet, sellsTo-split p (h .steps))
+
+  pub amounts-balance :
+      buysAbove p (h .steps) + buyAmount h p + h .blockBuys ≡ sellsBelow p (h .steps) + sellAmount h p + h .blockSales
+  unfolding sellAmount buyAmount
+  amounts-balance =
+      omega (arith, c .demandMet, c .supplyMet, sellsTo-split p (h .steps), buysFrom-split p (h .steps))
+
 -- the execution follows the price, whether it clears or not
 pub execution-follows : (h : Hour) (p : ℕ) → Each (Follows p) (h .steps) (execution h p)
 unfolding execution
-execution-follows h p = shared-follows p (h .steps) _ _ (shares-within _ (map (buyingAt p) (h .steps))) (shares-within _ (map (sellingAt p) (h .steps)))
+execution-follows h p = shared-follows p (h .steps) _ _ (buyShares-within h p) (sellShares-within h p)
 
 pub follows-within : (p : ℕ) (l : List Step) (qs : List ℕ) → Each (Follows p) l qs → Each Within l qs
 follows-within p [] [] f = tt
@@ -174,14 +167,14 @@ pub execution-balances : (h : Hour) (p : ℕ) → Clears h p → Balanced h (exe
 unfolding execution
 execution-balances h p c =
     let l = h .steps in
-    let wb = shares-within (buyAmount h p) (map (buyingAt p) l) in
-    let ws = shares-within (sellAmount h p) (map (sellingAt p) l) in
+    let wb = buyShares-within h p in
+    let ws = sellShares-within h p in
     omega (
       arith,
       shared-bought p l _ _ wb ws,
       shared-sold p l _ _ wb ws,
-      buyShares-sum h p c,
-      sellShares-sum h p c,
+      buyShares-sum h p,
+      sellShares-sum h p,
       amounts-balance h p c,
     )
 
@@ -191,9 +184,9 @@ pub traded-lesser : (h : Hour) (p : ℕ) → Clears h p →
 unfolding execution buyAmount
 traded-lesser h p c =
     let l = h .steps in
-    let wb = shares-within (buyAmount h p) (map (buyingAt p) l) in
-    let ws = shares-within (sellAmount h p) (map (sellingAt p) l) in
-    omega (arith, shared-bought p l _ _ wb ws, buyShares-sum h p c, buysFrom-split p l, c .demandMet)
+    let wb = buyShares-within h p in
+    let ws = sellShares-within h p in
+    omega (arith, shared-bought p l _ _ wb ws, buyShares-sum h p, buysFrom-split p l, c .demandMet)
 
 -- M5: FROM ONE CLEARING PRICE p TO A HIGHER q
 -- one step: what is bought above p and from q on is the same, what is sold to p and below q too
@@ -268,12 +261,11 @@ module _ (p q : ℕ) (k : p < q) where
     same-above =
         let l = h .steps in
         let n = nothing-between in
-        shared-same l _ _ _ _ (shares-within _ (map (buyingAt p) l)) (shares-within _ (map (sellingAt p) l))
-        (shares-within _ (map (buyingAt q) l)) (shares-within _ (map (sellingAt q) l))
-        (omega (arith, buyShares-sum h p c, no-buys))
-        (omega (arith, sellShares-sum h p c, amounts-balance h p c, sellsTo-split p l, no-buys, c .demandMet, d .supplyMet))
-        (omega (arith, buyShares-sum h q d, all-buys))
-        (omega (arith, sellShares-sum h q d, amounts-balance h q d, buysFrom-split q l, all-buys, c .demandMet, d .supplyMet))
+        shared-same l _ _ _ _ (buyShares-within h p) (sellShares-within h p) (buyShares-within h q) (sellShares-within h q)
+        (omega (arith, buyShares-sum h p, no-buys))
+        (omega (arith, sellShares-sum h p, amounts-balance h p c, sellsTo-split p l, no-buys, c .demandMet, d .supplyMet))
+        (omega (arith, buyShares-sum h q, all-buys))
+        (omega (arith, sellShares-sum h q, amounts-balance h q d, buysFrom-split q l, all-buys, c .demandMet, d .supplyMet))
         (n .0) (n .1)
 
 -- M5: every clearing price executes the same quantities

@@ -10,6 +10,8 @@ pub mod HourSums
 pub mod ContenderCases
 pub mod NotBest
 pub mod OutcomeRulesCases
+pub mod ShareLaws
+pub mod CutLaws
 pub mod ExecutionLaws
 pub mod DualityLaws
 pub mod ChainLaws
@@ -30,6 +32,7 @@ pub mod FamilyCases
 pub mod LinkLaws
 pub mod TwinLaws
 pub mod OutcomeRulesLaws
+pub mod SharingRuleLaws
 pub mod BoundsLaws
 pub mod TradeBounds
 pub mod FamilyLaws

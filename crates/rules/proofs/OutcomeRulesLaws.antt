@@ -52,7 +52,7 @@ abbrev pub FollowsHour : (ℕ → ℕ) → Step → ℕ → Type 0
 FollowsHour price s q = Follows (price (s .hour)) s q
 
 -- an hour's steps have that hour
-follows-hour : (price : ℕ → ℕ) (h : ℕ) (l : List Step) (qs : List ℕ) → Each (Follows (price h)) (stepsIn h l) qs →
+pub follows-hour : (price : ℕ → ℕ) (h : ℕ) (l : List Step) (qs : List ℕ) → Each (Follows (price h)) (stepsIn h l) qs →
     Each (FollowsHour price) (stepsIn h l) qs
 follows-hour price h [] [] e = tt
 follows-hour price h [] (q ∷ qs) e = absurd e

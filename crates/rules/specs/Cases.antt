@@ -45,7 +45,7 @@ narrow =
 abbrev pub lateBuy : ℕ → Day
 lateBuy price = dayWith (step 1 sell 23 60 2000 ∷ step 2 sell 24 60 3000 ∷ []) (block 1 buy 12582912 50 price ∷ [])
 
--- Hour 24 with sells of 60, 60 at 3000 and 10 at 4000, and a buy of 100 at 5000: the price is 3000, and 60, 40, 0 and 100 are executed.
+-- Hour 24 with sells of 60, 60 at 3000 and 10 at 4000, and a buy of 100 at 5000: the price is 3000, and 50, 50, 0 and 100 are executed.
 abbrev pub sharedLate : Day
 sharedLate = dayWith (step 1 sell 24 60 3000 ∷ step 2 sell 24 60 3000 ∷ step 3 sell 24 10 4000 ∷ step 4 buy 24 100 5000 ∷ []) []
 
@@ -160,7 +160,7 @@ abbrev pub rightTraded : ℕ → ℕ
 rightTraded = hourly 150 150 100 100 0
 
 abbrev pub rightShares : List ℕ
-rightShares = 60 ∷ 40 ∷ 0 ∷ 100 ∷ []
+rightShares = 50 ∷ 50 ∷ 0 ∷ 100 ∷ []
 
 -- An outcome that keeps all rules. Each of the next differs from it in one thing.
 abbrev pub right : Case
@@ -176,19 +176,19 @@ offMiddleBetween = outcomeWith rightDay (hourly 4000 4000 3000 5000 149999) righ
 
 -- The sell at 4000 is served in hour 3, at price 3000.
 abbrev pub worseSellServed : Case
-worseSellServed = outcomeWith rightDay rightPrices rightTraded (60 ∷ 30 ∷ 10 ∷ 100 ∷ []) rightShares
+worseSellServed = outcomeWith rightDay rightPrices rightTraded (50 ∷ 40 ∷ 10 ∷ 100 ∷ []) rightShares
 
 -- The buy at 4000 is served in hour 24, at price 5000.
 abbrev pub worseBuyServed : Case
-worseBuyServed = outcomeWith rightDay rightPrices rightTraded rightShares (60 ∷ 30 ∷ 10 ∷ 100 ∷ [])
+worseBuyServed = outcomeWith rightDay rightPrices rightTraded rightShares (50 ∷ 40 ∷ 10 ∷ 100 ∷ [])
 
 -- The sell at 3000 is cut by 10 in hour 24, at price 5000.
 abbrev pub betterSellCut : Case
-betterSellCut = outcomeWith rightDay rightPrices (hourly 150 150 100 90 0) rightShares (60 ∷ 30 ∷ 0 ∷ 90 ∷ [])
+betterSellCut = outcomeWith rightDay rightPrices (hourly 150 150 100 90 0) rightShares (50 ∷ 40 ∷ 0 ∷ 90 ∷ [])
 
 -- The buy at 5000 is cut by 10 in hour 3, at price 3000.
 abbrev pub betterBuyCut : Case
-betterBuyCut = outcomeWith rightDay rightPrices (hourly 150 150 90 100 0) (60 ∷ 30 ∷ 0 ∷ 90 ∷ []) rightShares
+betterBuyCut = outcomeWith rightDay rightPrices (hourly 150 150 90 100 0) (50 ∷ 40 ∷ 0 ∷ 90 ∷ []) rightShares
 
 -- A sell of 60 at the price gets 70.
 abbrev pub moreAtPrice : Case
@@ -207,7 +207,7 @@ buyBlockOutside = outcomeWith (caseDay 4000 3999) rightPrices rightTraded rightS
 
 -- In hour 24 the sell gets 10 more than the buys.
 abbrev pub unbalanced : Case
-unbalanced = outcomeWith rightDay rightPrices (hourly 150 150 100 90 0) rightShares (60 ∷ 30 ∷ 0 ∷ 100 ∷ [])
+unbalanced = outcomeWith rightDay rightPrices (hourly 150 150 100 90 0) rightShares (50 ∷ 40 ∷ 0 ∷ 100 ∷ [])
 
 -- The sell block at 3000 alone is taken, and in hours 1 and 2 no step gives way to it: the steps balance, the hours do not.
 abbrev pub blockUnmet : Case

@@ -1,9 +1,10 @@
--- EXECUTION of an hour at a price (document 01, "At the price, steps strictly better are executed in full .."). Definitions only. Assumes nothing.
+-- EXECUTION of an hour at a price (document 01, "At the price, steps strictly better are executed in full ..") with the shares of document 02, P5.
+-- Definitions only. Assumes nothing.
 -- A choice of quantities is a list, one number for each step of the hour.
-use Prim.Native.Nat.{ℕ, _+_, _-_, min}
-use mathlib.Core.Bool.{Bool}
+use Prim.Native.Nat.{ℕ, suc, _+_, _-_, _*_, _/_, _%_, min}
+use mathlib.Core.Bool.{Bool, cond}
 use mathlib.Core.List.{List, [], _∷_, map}
-use lib.Dec.{ltb, eqb}
+use lib.Dec.{ltb, leb, eqb}
 use Rattle.rules.specs.Orders.{Side, buy, sell, Step}
 use Rattle.rules.specs.Hour.{bySide, when, total, buying, selling, buysAbove, sellsTo, sellsBelow, Hour}
 
@@ -33,21 +34,57 @@ buyAmount h p =
     min (total (buyingAt p) (h .steps))
     (sellsTo p (h .steps) + h .blockSales - (buysAbove p (h .steps) + h .blockBuys))
 
--- The amount for the sells at the price: what then balances the hour.
+-- The amount for the sells at the price: what then balances the hour, and no more than they hold. (At a clearing price they hold as much.)
 unfoldable pub sellAmount : Hour → ℕ → ℕ
 sellAmount h p =
-    buysAbove p (h .steps) + buyAmount h p + h .blockBuys - (sellsBelow p (h .steps) + h .blockSales)
-
--- The sharing rule: an amount goes to steps that hold so much each, in rising order number, each filled before the next.
-unfoldable pub shares : ℕ → List ℕ → List ℕ
-shares amount [] = []
-shares amount (own ∷ l) = min own amount ∷ shares (amount - own) l
+    min (total (sellingAt p) (h .steps))
+    (buysAbove p (h .steps) + buyAmount h p + h .blockBuys - (sellsBelow p (h .steps) + h .blockSales))
 
 -- Two lists added place by place.
 abbrev pub plus : List ℕ → List ℕ → List ℕ
 plus [] m = []
 plus (a ∷ l) [] = []
 plus (a ∷ l) (b ∷ m) = (a + b) ∷ plus l m
+
+-- SHARES of an amount by steps that hold so much each, in rising order number
+-- The sum of a list.
+abbrev pub sumOf : List ℕ → ℕ
+sumOf [] = 0
+sumOf (q ∷ l) = q + sumOf l
+
+-- Each step's quantity times the amount, divided by the total, rounded down.
+unfoldable pub floors : (amount total : ℕ) → List ℕ → List ℕ
+floors amount total = map (λ own. own * amount / total)
+
+-- What this division leaves of each.
+unfoldable pub remainders : (amount total : ℕ) → List ℕ → List ℕ
+remainders amount total = map (λ own. own * amount % total)
+
+-- How many of a list are n or more.
+unfoldable pub atLeast : ℕ → List ℕ → ℕ
+atLeast n [] = 0
+atLeast n (r ∷ l) = when (leb n r) 1 + atLeast n l
+
+-- The leftover tenths go one each to the largest remainders, equal ones to the lower number: a step gets one where fewer steps go before it than there
+-- are tenths left. Before it go those of lower number whose remainder is as large, and those of higher number whose remainder is larger.
+unfoldable pub extras : (left : ℕ) (lower rest : List ℕ) → List ℕ
+extras left lower [] = []
+extras left lower (r ∷ higher) = when (ltb (atLeast r lower + atLeast (suc r) higher) left) 1 ∷ extras left (r ∷ lower) higher
+
+-- An amount shared in proportion to what the steps hold: the quotients rounded down, and what they leave of the amount.
+unfoldable pub inProportion : (amount total : ℕ) → List ℕ → List ℕ
+inProportion amount total owns =
+    let rounded = floors amount total owns in
+    plus rounded (extras (amount - sumOf rounded) [] (remainders amount total owns))
+
+-- THE SHARING RULE: in proportion; where the total is 0 nobody gets anything.
+unfoldable pub shares : ℕ → List ℕ → List ℕ
+shares amount owns = cond (eqb (sumOf owns) 0) (map (λ own. 0) owns) (inProportion amount (sumOf owns) owns)
+
+-- The former rule (document 01): each step is filled before the next.
+unfoldable pub fillInTurn : ℕ → List ℕ → List ℕ
+fillInTurn amount [] = []
+fillInTurn amount (own ∷ l) = min own amount ∷ fillInTurn (amount - own) l
 
 -- What each step of the hour gets at price p: in full if strictly better, its share of its side's amount if at the price, else nothing.
 unfoldable pub execution : Hour → ℕ → List ℕ

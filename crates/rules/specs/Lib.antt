@@ -8,6 +8,7 @@ pub mod Contender
 pub mod OutcomeRules
 pub mod Families
 pub mod Cash
+pub mod SharingRules
 pub mod Uncertain
 pub mod WorkedDays
 pub mod WorkedFamilies

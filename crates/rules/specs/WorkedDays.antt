@@ -114,7 +114,7 @@ workedDays =
     ∷ hourDay (step 1 buy 1 10 4001 ∷ step 2 sell 1 10 3000 ∷ []) 3500 10 (10 ∷ 10 ∷ []) 10010
     ∷ hourDay (step 1 buy 1 100 300000 ∷ step 2 sell 1 60 2000 ∷ []) 300000 60 (60 ∷ 60 ∷ []) 17880000
     ∷ hourDay (step 1 sell 1 100 1 ∷ []) 1 0 (0 ∷ []) 0
-    ∷ hourDay (step 1 sell 1 60 3000 ∷ step 2 sell 1 60 3000 ∷ step 3 buy 1 100 5000 ∷ []) 3000 100 (60 ∷ 40 ∷ 100 ∷ []) 200000
+    ∷ hourDay (step 1 sell 1 60 3000 ∷ step 2 sell 1 60 3000 ∷ step 3 buy 1 100 5000 ∷ []) 3000 100 (50 ∷ 50 ∷ 100 ∷ []) 200000
     ∷ []
 
 -- FURTHER DAYS: more buy blocks than sell blocks (N below zero), the last hours, hours that do not clear.

@@ -35,7 +35,7 @@ impl Family {
 }
 
 /// The families of the benchmark.
-pub const FAMILIES: [Family; 16] = [
+pub const FAMILIES: [Family; 18] = [
     Family::new("full days", 32, 32, |seed, blocks| full_day(seed, 2015, blocks)),
     Family::new("full days, odd hours", 32, 32, odd_day),
     Family::new("identical blocks", 30, 32, identical_blocks),
@@ -52,6 +52,8 @@ pub const FAMILIES: [Family; 16] = [
     Family::new("linked by 4", 32, 32, |seed, blocks| linked_by(4, seed, blocks)),
     Family::new("linked by 8", 32, 32, |seed, blocks| linked_by(8, seed, blocks)),
     Family::new("the same, not linked", 32, 32, |seed, blocks| linked_day(seed, blocks, None)),
+    Family::new("one price", 32, 32, |seed, blocks| crowded_hour(seed, blocks, |_| CROWDED_PRICE)),
+    Family::new("distinct prices", 32, 32, |seed, blocks| crowded_hour(seed, blocks, |it| it)),
 ];
 
 /// A day with deep curves in every hour and ordinary blocks, most of which have
@@ -222,6 +224,27 @@ pub fn linked_day(seed: u64, blocks: usize, shape: Option<Shape>) -> Vec<u8> {
 
 fn linked_by(size: usize, seed: u64, blocks: usize) -> Vec<u8> {
     linked_day(seed, blocks, Some(Shape::Families(size)))
+}
+
+/// The price of the steps of "one price"; those of "distinct prices" have others around it.
+const CROWDED_PRICE: u32 = 5_000;
+
+/// All 2,015 steps in hour 12: 2,014 sells, half of which a buy serves. Each sell has a price
+/// of its own, or what is made of it. The blocks trade in hours 12 and 13, each as much, so
+/// that as many are taken of either side: in hour 13 there is nobody else.
+fn crowded_hour(seed: u64, blocks: usize, price_of: fn(u32) -> u32) -> Vec<u8> {
+    let mut dice = Dice::new(seed);
+    let mut orders = Orders::new();
+    let mut prices: Vec<u32> = (CROWDED_PRICE - 1_007..CROWDED_PRICE + 1_007).collect();
+    dice.shuffle(&mut prices);
+    for price in prices {
+        push_step(&mut orders, Side::Sell, 12, price_of(price), dice.between(1, 97));
+    }
+    let offered: u32 = orders.steps.iter().map(|step| step.quantity).sum();
+    push_step(&mut orders, Side::Buy, 12, price_of(CROWDED_PRICE + 1_007), offered / 2);
+    add_ordinary_blocks(&mut orders, &mut dice, blocks, |_| hour_bits(&[12, 13]), 20);
+    orders.blocks.iter_mut().for_each(|block| block.quantity = 20);
+    orders.book()
 }
 
 /// What the blocks with hour h + 1 trade in it, all of them together.

@@ -42,6 +42,35 @@ fn shared_sells() -> Orders {
         .step(Buy, 1, 5_000, 100, 1)
 }
 
+/// Hours with groups of both sides at one price, mixed along the chain, in which one side is
+/// served in part.
+///
+/// Hour 1 sells 2, 1 and 1 and buys 1 and 2 at 4000: the sells share 3, of which each has at
+/// least 1, 0 and 0 and the remainders are 2, 3 and 3, so that each gets 1. Hour 2 buys 7, 5, 5
+/// and 3 and sells 4 and 6 at 5000: the buys share 10, of which each has at least 3, 2, 2 and 1
+/// and the remainders are equal, so that the first two get one more. Hour 3 sells 1 and 3 at
+/// 3000, of which 2 are bought at 5000: with equal remainders again 1 and 1.
+pub fn fair_shares() -> Orders {
+    Orders::new()
+        .step(Buy, 1, 4_000, 1, 1)
+        .step(Sell, 1, 4_000, 2, 2)
+        .step(Sell, 1, 4_000, 1, 4)
+        .step(Buy, 2, 5_000, 7, 1)
+        .step(Buy, 1, 4_000, 2, 3)
+        .step(Sell, 2, 5_000, 4, 2)
+        .step(Sell, 1, 4_000, 1, 2)
+        .step(Buy, 2, 5_000, 5, 3)
+        .step(Buy, 2, 5_000, 5, 1)
+        .step(Sell, 2, 5_000, 6, 4)
+        .step(Buy, 2, 5_000, 3, 3)
+        .step(Sell, 3, 3_000, 1, 2)
+        .step(Sell, 3, 3_000, 3, 4)
+        .step(Buy, 3, 5_000, 2, 1)
+}
+
+/// What the steps of [`fair_shares`] get, in rising number.
+pub const FAIR_SHARES_ROWS: [u32; 14] = [1, 1, 1, 4, 2, 4, 1, 3, 2, 6, 1, 1, 1, 2];
+
 /// A book of the head alone.
 pub fn head_alone() -> Orders {
     Orders::new()

@@ -1,7 +1,8 @@
 //! Layer 3: lawful sets, their welfare, and the one that is published.
 
-use super::hour::{executed, middle_price};
+use super::hour::{executed_by, middle_price};
 use super::read::{read, Block, Book, Side, Step, HOURS};
+use super::shares::{fair_shares, SharingRule};
 
 /// What a lawful set gives.
 #[derive(Clone, Debug, PartialEq, Eq)]
@@ -37,15 +38,15 @@ pub fn clear(book: &[u8], result_len: usize) -> Result<Vec<u8>, u8> {
     if result_len != result_length(book.record_count) {
         return Err(7);
     }
-    Ok(result_bytes(&book, &best_outcome(&book)))
+    Ok(result_bytes(&book, &best_outcome(&book, fair_shares)))
 }
 
-/// The best of all sets, by counting them.
-fn best_outcome(book: &Book) -> Outcome {
+/// The best of all sets, by counting them, where steps at the price share by a rule.
+pub fn best_outcome(book: &Book, rule: SharingRule) -> Outcome {
     let hours = steps_by_hour(book);
-    let mut best = outcome_with(book, &hours, 0).expect("the empty set is lawful");
+    let mut best = outcome_with(book, &hours, 0, rule).expect("the empty set is lawful");
     for set in 1..1u64 << book.blocks.len() {
-        if let Some(other) = outcome_with(book, &hours, set as u32) {
+        if let Some(other) = outcome_with(book, &hours, set as u32, rule) {
             if is_better((other.welfare, other.set), (best.welfare, best.set)) {
                 best = other;
             }
@@ -57,14 +58,14 @@ fn best_outcome(book: &Book) -> Outcome {
 /// The outcome under a set, or nothing when the set is not lawful or lacks the parent of
 /// one of its blocks.
 pub fn outcome(book: &Book, set: u32) -> Option<Outcome> {
-    outcome_with(book, &steps_by_hour(book), set)
+    outcome_with(book, &steps_by_hour(book), set, fair_shares)
 }
 
 fn steps_by_hour(book: &Book) -> Vec<Vec<Step>> {
     (1..=HOURS).map(|hour| book.steps_of(hour)).collect()
 }
 
-fn outcome_with(book: &Book, hours: &[Vec<Step>], set: u32) -> Option<Outcome> {
+fn outcome_with(book: &Book, hours: &[Vec<Step>], set: u32, rule: SharingRule) -> Option<Outcome> {
     if !holds_parents(book, set) {
         return None;
     }
@@ -73,7 +74,7 @@ fn outcome_with(book: &Book, hours: &[Vec<Step>], set: u32) -> Option<Outcome> {
     if !lawful {
         return None;
     }
-    let executed = executed_steps(book, set, &prices);
+    let executed = executed_steps(book, set, &prices, rule);
     Some(Outcome {
         set,
         prices,
@@ -131,12 +132,12 @@ pub fn keeps_limit(book: &Book, block: &Block, prices: &[u32; 24]) -> bool {
 }
 
 /// The executed quantity of each step of the book, in chain order.
-fn executed_steps(book: &Book, set: u32, prices: &[u32; 24]) -> Vec<i64> {
+fn executed_steps(book: &Book, set: u32, prices: &[u32; 24], rule: SharingRule) -> Vec<i64> {
     let mut quantities = vec![0; book.steps.len()];
     for &hour in &book.hours {
         let steps = book.steps_of(hour);
         let n = net_block_sales(&book.blocks, set, hour);
-        let of_hour = executed(&steps, n, prices[hour as usize - 1]);
+        let of_hour = executed_by(rule, &steps, n, prices[hour as usize - 1]);
         for (step, quantity) in steps.iter().zip(of_hour) {
             let place = book.steps.iter().position(|other| other.record == step.record);
             quantities[place.expect("a step of the book")] = quantity;

@@ -3,6 +3,7 @@
 
 use super::day::net_block_sales;
 use super::read::{read, Side, Step};
+use super::shares::{fair_shares, SharingRule};
 
 /// Lowest price of the auction, in cents per MWh.
 pub const LOWEST_PRICE: u32 = 1;
@@ -111,10 +112,12 @@ pub fn candidates(steps: &[Step], n: i64) -> Option<(u32, u32)> {
     for step in steps {
         prices.extend([step.price - 1, step.price, step.price + 1]);
     }
+    prices.sort_unstable();
+    prices.dedup();
     prices.retain(|&price| {
         (LOWEST_PRICE..=HIGHEST_PRICE).contains(&price) && clears(steps, n, price)
     });
-    Some((*prices.iter().min()?, *prices.iter().max()?))
+    Some((*prices.first()?, *prices.last()?))
 }
 
 /// Whether a price clears the hour.
@@ -128,30 +131,37 @@ pub fn clears(steps: &[Step], n: i64, price: u32) -> bool {
 
 /// The executed quantity of each step of an hour at its price.
 pub fn executed(steps: &[Step], n: i64, price: u32) -> Vec<i64> {
+    executed_by(fair_shares, steps, n, price)
+}
+
+/// The same with the steps at the price sharing by a rule.
+pub(super) fn executed_by(rule: SharingRule, steps: &[Step], n: i64, price: u32) -> Vec<i64> {
     let buys_above = total(steps, Side::Buy, |order| order > price);
     let buys_held = total(steps, Side::Buy, |order| order == price);
     let sells_below = total(steps, Side::Sell, |order| order < price);
     let sells_to = total(steps, Side::Sell, |order| order <= price);
     // Buys at the price: what they hold, or what the sells and N allow.
-    let mut buys_left = buys_held.min(sells_to + n - buys_above);
+    let buys = buys_held.min(sells_to + n - buys_above);
     // Sells at the price: what then balances the hour.
-    let mut sells_left = buys_above + buys_left - n - sells_below;
-    let share = |step: &Step| match step.side {
-        Side::Buy if step.price > price => i64::from(step.quantity),
-        Side::Sell if step.price < price => i64::from(step.quantity),
-        Side::Buy if step.price == price => fill(step, &mut buys_left),
-        Side::Sell if step.price == price => fill(step, &mut sells_left),
-        _ => 0,
+    let sells = buys_above + buys - n - sells_below;
+    let in_full = |step: &Step| match step.side {
+        Side::Buy => step.price > price,
+        Side::Sell => step.price < price,
     };
-    // The steps stand in rising order number, each filled before the next.
-    steps.iter().map(share).collect()
-}
-
-/// Gives a step as much as is left, at most its own quantity.
-fn fill(step: &Step, left: &mut i64) -> i64 {
-    let given = i64::from(step.quantity).min(*left);
-    *left -= given;
-    given
+    let own = |step: &Step| if in_full(step) { i64::from(step.quantity) } else { 0 };
+    let mut quantities: Vec<i64> = steps.iter().map(own).collect();
+    for (side, amount) in [(Side::Buy, buys), (Side::Sell, sells)] {
+        let places = (0..steps.len()).filter(|&place| {
+            let step = &steps[place];
+            step.side == side && step.price == price
+        });
+        let places: Vec<usize> = places.collect();
+        let at_price: Vec<Step> = places.iter().map(|&place| steps[place]).collect();
+        for (place, share) in places.into_iter().zip(rule(&at_price, amount)) {
+            quantities[place] = share;
+        }
+    }
+    quantities
 }
 
 /// The quantity of the steps of a side whose price is wanted.

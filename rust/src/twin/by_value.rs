@@ -36,4 +36,7 @@ pub mod search;
 pub mod setup;
 #[allow(clippy::all, unused)]
 #[rustfmt::skip]
+pub mod shares;
+#[allow(clippy::all, unused)]
+#[rustfmt::skip]
 pub mod tables;

@@ -24,6 +24,7 @@ mod search;
 
 use hours::Hours;
 use orders::Orders;
+use publish::Leftovers;
 
 /// A list with a value for each of the 24 hours.
 type ByHour<T> = [T; 24];
@@ -38,11 +39,12 @@ pub struct Workspace {
     orders: Orders,
     small: Hours<{ SMALL + 2 }>,
     wide: Hours<{ WIDE + 2 }>,
+    leftovers: Leftovers,
 }
 
 /// Clears a book: 0 when the outcome is written to the result, else the refusal.
 pub fn clear(book: &[u8], result: &mut [u8], space: &mut Workspace) -> u32 {
-    let Workspace { orders, small, wide } = space;
+    let Workspace { orders, small, wide, leftovers } = space;
     if let Err(refusal) = orders.read(book) {
         return refusal;
     }
@@ -52,14 +54,19 @@ pub fn clear(book: &[u8], result: &mut [u8], space: &mut Workspace) -> u32 {
     // Rows close to each other are read faster, so that wide ones are kept for the days
     // that need them.
     if orders.fit(SMALL as u32) {
-        clear_in(orders, small, result);
+        clear_in(orders, small, leftovers, result);
     } else {
-        clear_in(orders, wide, result);
+        clear_in(orders, wide, leftovers, result);
     }
     0
 }
 
-fn clear_in<const ROOM: usize>(orders: &Orders, hours: &mut Hours<ROOM>, result: &mut [u8]) {
+fn clear_in<const ROOM: usize>(
+    orders: &Orders,
+    hours: &mut Hours<ROOM>,
+    leftovers: &mut Leftovers,
+    result: &mut [u8],
+) {
     hours.fill_prices(orders);
     let root = root::prices(orders, hours);
     hours.fill_gaps(&root);
@@ -69,5 +76,5 @@ fn clear_in<const ROOM: usize>(orders: &Orders, hours: &mut Hours<ROOM>, result:
     } else {
         search::find::<ROOM, true>(orders, hours, &root)
     };
-    publish::publish(orders, hours, &best, result);
+    publish::publish(orders, hours, &best, leftovers, result);
 }

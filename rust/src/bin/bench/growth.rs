@@ -1,7 +1,7 @@
 //! Generated books: families, and full days by number of blocks and of steps.
 
-use crate::clearers::KINDS;
-use crate::measure::{measure, Measured};
+use crate::clearers::{Kind, KINDS};
+use crate::measure::{measure, ByKind, Measured};
 use crate::report::{micros, per_node, ratio, row, titles, WIDTHS};
 use crate::subject::Subject;
 use crate::Options;
@@ -13,17 +13,32 @@ pub const SEEDS: std::ops::Range<u64> = 1..6;
 pub fn families(options: &Options) -> bool {
     titles("family of 5 (medians)");
     let mut right = true;
+    let mut times = Vec::new();
     for family in FAMILIES {
-        right &= group(family.name, |seed| (family.book)(seed, family.usual_blocks), options);
+        let book = |seed| (family.book)(seed, family.usual_blocks);
+        let (agree, seconds) = group(family.name, book, options);
+        right &= agree;
+        times.push((family.name, seconds));
     }
+    compare_shared(&times);
     right
+}
+
+/// How much longer steps at one price take than steps that share nothing.
+fn compare_shared(times: &[(&str, ByKind)]) {
+    let of = |name: &str| times.iter().find(|(other, _)| *other == name).expect("a family").1;
+    let (shared, distinct) = (of("one price"), of("distinct prices"));
+    let of_kind = |kind: Kind| {
+        format!("{} {}", kind.name(), ratio(shared[kind as usize], distinct[kind as usize]))
+    };
+    println!("one price over distinct prices: {}", KINDS.map(of_kind).join(", "));
 }
 
 pub fn by_blocks(options: &Options) -> bool {
     titles("full days by blocks");
     let mut right = true;
     for blocks in [8, 16, 24, 32] {
-        right &= group(&format!("{blocks} blocks"), |seed| full_day(seed, 2015, blocks), options);
+        right &= group(&format!("{blocks} blocks"), |seed| full_day(seed, 2015, blocks), options).0;
     }
     right
 }
@@ -32,13 +47,13 @@ pub fn by_steps(options: &Options) -> bool {
     titles("full days by steps");
     let mut right = true;
     for steps in [250, 500, 1000, 2015] {
-        right &= group(&format!("{steps} steps"), |seed| full_day(seed, steps, 32), options);
+        right &= group(&format!("{steps} steps"), |seed| full_day(seed, steps, 32), options).0;
     }
     right
 }
 
-/// A row of medians over the books of the seeds.
-fn group(name: &str, book: impl Fn(u64) -> Vec<u8>, options: &Options) -> bool {
+/// A row of medians over the books of the seeds; whether all is right, and the times.
+fn group(name: &str, book: impl Fn(u64) -> Vec<u8>, options: &Options) -> (bool, ByKind) {
     let subjects: Vec<Subject> =
         SEEDS.map(|seed| Subject::new(format!("{name}, seed {seed}"), book(seed))).collect();
     let all: Vec<Measured> =
@@ -67,7 +82,7 @@ fn group(name: &str, book: impl Fn(u64) -> Vec<u8>, options: &Options) -> bool {
         if !agree { "NO" } else { some_late.map_or("yes", Measured::right) }.into(),
     ];
     row(&cells, &WIDTHS);
-    agree
+    (agree, seconds)
 }
 
 /// The middle one of the values, where more than half of them are known; one that is

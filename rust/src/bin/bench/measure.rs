@@ -18,10 +18,9 @@ const MOST_SECONDS: f64 = 3.0;
 
 /// What was measured on a book. A time is missing where the clearing was given up.
 pub struct Measured {
-    /// Seconds, by kind.
-    pub seconds: [Option<f64>; 3],
-    /// Seconds with the blocks priced out, by kind.
-    pub outside: [Option<f64>; 3],
+    pub seconds: ByKind,
+    /// With the blocks priced out.
+    pub outside: ByKind,
     pub nodes: Nodes,
     /// The nodes with the blocks priced out.
     pub nodes_outside: u64,
@@ -106,7 +105,8 @@ pub fn nodes_of(kind: Kind, book: &[u8]) -> Nodes {
     count::taken()
 }
 
-type ByKind = [Option<f64>; 3];
+/// Seconds by kind, where it was run.
+pub type ByKind = [Option<f64>; 3];
 
 /// The shortest times of a book and of the same book priced out, by turns.
 fn shortest(runs: &[Kind], book: &[u8], priced_out: &[u8]) -> (ByKind, ByKind) {

@@ -16,10 +16,10 @@ abbrev opened : tie.After-change-weight → tie.Start
 opened c = c .before .before .before .before .before .before .before .before .before .before .before
 
 abbrev start : tie.After-fill-hours → tie.Start
-start c = opened (c .before .before)
+start c = opened (c .before .before .before)
 
 abbrev filled : tie.After-less → tie.After-fill-hours
-filled c = c .before .before .before .before .before .before .before
+filled c = c .before .before .before .before .before .before .before .before
 
 -- the values have room for the steps
 room : (f : tie.After-fill-hours) → getD (start f .args .steps .ends) 24 0 ≤ length (f .fill-hours .last .1 .1 .1 .1 .1 .1 .1 .0)
@@ -43,8 +43,11 @@ change-weight-requires c κs = search needs
 slice-aggregate-fill-hours : tie.Need-slice-aggregate-fill-hours
 slice-aggregate-fill-hours c = search needs
 
+slice-aggregate-fill-hours-2 : tie.Need-slice-aggregate-fill-hours-2
+slice-aggregate-fill-hours-2 c = search needs
+
 fill-hours-requires : tie.Need-fill-hours-requires
-fill-hours-requires c κs = (often-few (c .before), search needs, search needs, search needs, search needs)
+fill-hours-requires c κs = (often-few (c .before .before), search needs, search needs, search needs, search needs, search needs)
 
 blocks-worth-requires : tie.Need-blocks-worth-requires
 blocks-worth-requires c κs = search needs
@@ -101,7 +104,7 @@ returns c =
     let g = l .before .before .before .before .before in
     let f = filled l in
     let s = start f in
-    let weight = f .before .before in
+    let weight = f .before .before .before in
     λ b a hours steps blocks chosen of same.
     published-from b _ _ _ _ _ _ _ _ _ _ (s .args .set) (s .args .found) a steps blocks chosen of (s .pre .4) (s .pre .3 .asManyHours) (s .pre .5)
     (s .pre .3 .asManyQuantities) _ _ hours (weight .change-weight .ensures) _ _ _ _ _ (f .fill-hours .ensures) (g .blocks-worth .ensures) (r .rows-of .result) (r .rows-of .ensures) _ _ _
@@ -115,6 +118,7 @@ publish-columns-spec =
     cast-n
     change-weight-requires
     slice-aggregate-fill-hours
+    slice-aggregate-fill-hours-2
     fill-hours-requires
     blocks-worth-requires
     add-less

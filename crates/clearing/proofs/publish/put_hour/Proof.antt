@@ -52,9 +52,21 @@ part-fill-hour-start-4 c = search needs
 part-fill-hour-end-4 : tie.Need-part-fill-hour-end-4
 part-fill-hour-end-4 c = search needs
 
+mul-fill-hour-4 : tie.Need-mul-fill-hour-4
+mul-fill-hour-4 c = search needs
+
+sub-fill-hour-5 : tie.Need-sub-fill-hour-5
+sub-fill-hour-5 c = search needs
+
+part-fill-hour-start-5 : tie.Need-part-fill-hour-start-5
+part-fill-hour-start-5 c = search needs
+
+part-fill-hour-end-5 : tie.Need-part-fill-hour-end-5
+part-fill-hour-end-5 c = search needs
+
 fill-hour-requires : tie.Need-fill-hour-requires
 fill-hour-requires c κs =
-    let s = c .before .before .before .before .before .before .before .before in
+    let s = c .before .before .before .before .before .before .before .before .before .before in
     let p = s .pre .0 in (
       part-columns _ _ _ _ _ p,
       mid-len (s .args .from) (s .args .to) _ (p .inSides) ∙ sym (mid-len (s .args .from) (s .args .to) _ (s .pre .1)),
@@ -63,18 +75,22 @@ fill-hour-requires c κs =
       s .pre .4,
       small-part _ (s .args .from) (s .args .to) _ (p .ordered) (p .pricesFit),
       small-part _ (s .args .from) (s .args .to) _ (p .ordered) (p .quantitiesFit),
+      mid-len (s .args .from) (s .args .to) _ (p .inSides) ∙ sym (mid-len (s .args .from) (s .args .to) _ (s .pre .5)),
     )
 
 same-length : tie.Need-same-length
 same-length c = search needs
 
+same-length-2 : tie.Need-same-length-2
+same-length-2 c = search needs
+
 returns : tie.Need-returns
 returns c =
-    let after-fill-hour2 = c .before .before in
-    let s = after-fill-hour2 .before .before .before .before .before .before .before .before .before in
+    let put = c .before .before .before .before in
+    let s = put .before .before .before .before .before .before .before .before .before .before .before in
     let p = s .pre .0 in
     hour-put _ _ _ (s .args .from) (s .args .to) _ _ _ _ _ _ _ (p .ordered) (s .pre .1)
-    (c .before .before .fill-hour .kept .1 .1 .1 .1 .1 .1 .0 ∙ mid-len (s .args .from) (s .args .to) _ (s .pre .1)) (c .before .before .fill-hour .ensures)
+    (put .fill-hour .kept .1 .1 .1 .1 .1 .1 .0 ∙ mid-len (s .args .from) (s .args .to) _ (s .pre .1)) (put .fill-hour .ensures)
 
 pub put-hour-spec : {M : Type 1} → statement M
 put-hour-spec =
@@ -95,6 +111,11 @@ put-hour-spec =
     sub-fill-hour-4
     part-fill-hour-start-4
     part-fill-hour-end-4
+    mul-fill-hour-4
+    sub-fill-hour-5
+    part-fill-hour-start-5
+    part-fill-hour-end-5
     fill-hour-requires
     same-length
+    same-length-2
     returns)

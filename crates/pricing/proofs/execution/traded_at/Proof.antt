@@ -1,6 +1,6 @@
 -- `pricing::execution::traded_at` meets its contract: what is bought over one cent below the price is what is bought at or above it. Assumes nothing.
 use native.Mathlib.Omega.{arith}
-use Rattle.pricing.proofs.ShareLaws.{traded-at-is}
+use Rattle.pricing.proofs.TradedLaws.{traded-at-is}
 use borrow.Author.Needs.{needs}
 use Rattle.pricing.proofs.execution.traded_at.Statement.{statement}
 use Rattle.pricing.proofs.execution.traded_at.Tie as tie

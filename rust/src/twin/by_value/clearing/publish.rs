@@ -1,5 +1,5 @@
 // Written by `twin_source` from crates/clearing/src/publish.rt.
-// The publication: what the steps of each hour get at its price, the welfare, and with them and the day the result's
+// The publication: what the orders of each hour get at its price, the welfare, and with them and the day the result's
 // bytes. Assumes nothing.
 use crate::twin::by_value::book::hours::change_weight;
 use crate::twin::by_value::book::hours::counted_hours;
@@ -10,13 +10,13 @@ use crate::twin::by_value::orders::layout::STEP_PLACES;
 use crate::twin::by_value::places::layout::CHANGE_ROW;
 use crate::twin::by_value::pricing::BIAS;
 use crate::twin::by_value::pricing::blocks::trades_of;
-use crate::twin::by_value::pricing::execution::amounts_at;
 use crate::twin::by_value::pricing::execution::less;
-use crate::twin::by_value::pricing::execution::share_out;
 use crate::twin::by_value::result::block_values;
 use crate::twin::by_value::result::with_rows;
 use crate::twin::by_value::result::write_result;
 use crate::twin::by_value::search::Day;
+use crate::twin::by_value::shares::amounts_at;
+use crate::twin::by_value::shares::share_out;
 
 // What quantities are worth: the value of the buys and the cost of the sells.
 #[derive(Clone, Copy)]
@@ -51,7 +51,7 @@ fn sums_of(sides: &[u8], prices: &[u32], values: &[u32]) -> Sums
     sums
 }
 
-// What the steps of an hour get, into out, and its sums.
+// What the orders of an hour get, into out, and its sums; rests is lent to work in.
 fn fill_hour(
     sides: &[u8],
     prices: &[u32],
@@ -60,11 +60,12 @@ fn fill_hour(
     buys: u64,
     price: u32,
     out: &mut [u32],
+    rests: &mut [u32],
 ) -> Sums
 {
     let net = (BIAS + sales - buys) as u32;
     let amounts = amounts_at(sides, prices, quantities, net, price);
-    share_out(sides, prices, quantities, price, amounts, out);
+    share_out(sides, prices, quantities, price, amounts, out, rests);
     sums_of(sides, prices, out)
 }
 
@@ -79,6 +80,7 @@ fn put_hour(
     buys: u64,
     price: u32,
     values: &mut [u32],
+    rests: &mut [u32],
 ) -> Sums
 {
     fill_hour(
@@ -89,6 +91,7 @@ fn put_hour(
         buys,
         price,
         &mut values[from..to],
+        &mut rests[from..to],
     )
 }
 
@@ -130,7 +133,7 @@ fn times_of(row: usize, often: u32) -> u64
     if row == CHANGE_ROW { often as u64 } else { 1 }
 }
 
-// What the steps of each hour get, hour after hour, into values, and the value and the cost of all of it, hour 3's so often.
+// What the orders of each hour get, hour after hour, into values, and the value and the cost of all of it, hour 3's so often; rests is lent to work in.
 fn fill_hours(
     often: u32,
     steps: Steps,
@@ -140,6 +143,7 @@ fn fill_hours(
     set: u32,
     middles: [u32; HOURS],
     values: &mut [u32],
+    rests: &mut [u32],
 ) -> Sums
 {
     let sides = steps.sides;
@@ -163,6 +167,7 @@ fn fill_hours(
             trades.buys,
             middles[h],
             values,
+            rests,
         );
         let times = times_of(h, often);
         value += times * sums.value;
@@ -182,7 +187,7 @@ fn where_counted(column: [u32; HOURS], often: u32) -> [u32; HOURS]
     r
 }
 
-// The row of each record: a step's value, a block's quantity if the set holds it, else 0.
+// The row of each record: what its order gets, a block's quantity if the set holds it, else 0.
 fn rows_of(
     records: &[u16],
     values: &[u32],
@@ -219,6 +224,7 @@ fn publish_columns(
     let traded = found.quantities;
     let often = change_weight(day);
     let mut values = [0; STEP_PLACES];
+    let mut rests = [0; STEP_PLACES];
     let sums = fill_hours(
         often,
         steps,
@@ -228,6 +234,7 @@ fn publish_columns(
         set,
         middles,
         &mut values,
+        &mut rests,
     );
     let worth = blocks_worth(day, bsides, bhours, bprices, bquantities, set);
     let welfare = less(sums.value + worth.value, sums.cost + worth.cost);

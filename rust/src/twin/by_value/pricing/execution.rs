@@ -1,15 +1,6 @@
 // Written by `twin_source` from crates/pricing/src/execution.rt.
-// The executed quantities of an hour at its price: strictly better steps in full, those at the price by the sharing rule, the others nothing.
-use crate::twin::by_value::pricing::BIAS;
-use crate::twin::by_value::pricing::hour::totals_at;
+// What is traded in an hour at its price.
 use crate::twin::by_value::pricing::hour::totals_between;
-
-// What is left for the steps at the price: of the buys, and of the sells.
-#[derive(Clone, Copy)]
-pub struct Amounts {
-    pub buys: u64,
-    pub sells: u64,
-}
 
 // The lesser of two numbers.
 pub fn lesser(a: u64, b: u64) -> u64
@@ -21,21 +12,6 @@ pub fn lesser(a: u64, b: u64) -> u64
 pub fn less(a: u64, b: u64) -> u64
 {
     if b <= a { a - b } else { 0 }
-}
-
-// The amounts of an hour at a price: for the buys at it what they hold or what the sells and N allow, for the sells what then balances.
-pub fn amounts_at(sides: &[u8], prices: &[u32], quantities: &[u32], net: u32, price: u32) -> Amounts
-{
-    let at = totals_at(sides, prices, quantities, price);
-    let before = totals_at(sides, prices, quantities, price - 1);
-    let held = less(before.above, at.above);
-    let room = less(at.upto + (net as u64), at.above + BIAS);
-    let buys = lesser(held, room);
-    let sells = less(at.above + buys + BIAS, before.upto + (net as u64));
-    Amounts {
-        buys: buys,
-        sells: sells,
-    }
 }
 
 // One less, or 0.
@@ -56,60 +32,4 @@ pub fn traded_at(
 {
     let totals = totals_between(sides, prices, quantities, one_less(price), price);
     lesser(totals.above + (buys as u64), totals.upto + (sales as u64)) as u32
-}
-
-impl Amounts {
-    // What a step gets.
-    fn share(self, price: u32, side: u8, limit: u32, quantity: u32) -> u32
-    {
-        let own = quantity as u64;
-        if side == 0 {
-            if price < limit {
-                return quantity;
-            }
-            if limit == price {
-                return lesser(own, self.buys) as u32;
-            }
-            return 0;
-        }
-        if limit < price {
-            return quantity;
-        }
-        if limit == price {
-            return lesser(own, self.sells) as u32;
-        }
-        0
-    }
-
-    // What is left after it.
-    fn after(mut self, price: u32, side: u8, limit: u32, quantity: u32) -> Amounts
-    {
-        if limit == price {
-            if side == 0 {
-                self.buys = less(self.buys, quantity as u64);
-            } else {
-                self.sells = less(self.sells, quantity as u64);
-            }
-        }
-        self
-    }
-}
-
-// Each step's quantity into out, in the columns' order.
-pub fn share_out(
-    sides: &[u8],
-    prices: &[u32],
-    quantities: &[u32],
-    price: u32,
-    amounts: Amounts,
-    out: &mut [u32],
-)
-{
-    let mut left = amounts;
-    let mut i: usize = 0;
-    while i < sides.len() {
-        out[i] = left.share(price, sides[i], prices[i], quantities[i]);
-        left = left.after(price, sides[i], prices[i], quantities[i]);
-        i += 1;
-    }
 }
