@@ -6,13 +6,16 @@
 
 mod answers;
 mod compared;
+mod compared_pricing;
+mod proved_texts;
 
 use auction_listing::books::{
     count, fair_shares, shared_book_on, shared_orders_on, worked_days, Dice, DAYS_AND_EDITIONS,
     FAIR_SHARES_ROWS, FAMILIES,
 };
 use auction_listing::paper::{self, Published};
-use compared::{compare_accepted, compare_any, compare_pricing, Named};
+use compared::{compare_accepted, compare_any, Named};
+use compared_pricing::compare_pricing;
 
 /// Books of the seeds, all days and editions in turn, with their names.
 fn shared_books(books: u64) -> impl Iterator<Item = Named> {
