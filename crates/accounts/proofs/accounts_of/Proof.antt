@@ -1,6 +1,8 @@
 -- `accounts_of` meets its contract. Assumes nothing.
-use mathlib.Core.Path.{refl, _∙_}
+use Prim.Native.Nat.{_≤_}
+use mathlib.Core.Path.{refl, ap₂, _∙_}
 use native.Mathlib.Omega.{arith}
+use Rattle.places.specs.Hours.{countedColumn}
 use Rattle.gains.proofs.GainLaws.{prices-small, often-few}
 use Rattle.accounts.proofs.AccountLaws.{empty-at, accounts-are}
 use borrow.Author.Needs.{needs}
@@ -19,10 +21,9 @@ prices-in-requires c κs = search needs
 counted-prices-requires : tie.Need-counted-prices-requires
 counted-prices-requires c κs =
     let start = c .before .before .before .before .before in
-    let a = start .pre .0 in (
-      rw (c .prices-in .ensures, start .pre .1) (prices-small _ a),
-      rw (c .before .change-weight .ensures) (often-few _ a _ (c .before .before .day-hours .ensures)),
-    )
+    let a = start .pre .0 in
+    let often : c .before .change-weight .result ≤ 2 = rw (c .before .change-weight .ensures) (often-few _ a _ (c .before .before .day-hours .ensures)) in
+    (rw (c .prices-in .ensures, start .pre .1) (prices-small _ a), omega arith)
 
 slice-aggregate-post-steps : tie.Need-slice-aggregate-post-steps
 slice-aggregate-post-steps c = search needs
@@ -39,7 +40,7 @@ post-steps-requires c κs =
     let day = c .before .before .before .before .before .day-hours .ensures in (
       a,
       record {
-        pricesAre = counted .0 ∙ rw (often, day, c .before .before .before .prices-in .ensures);
+        pricesAre = counted .0 ∙ ap₂ countedColumn (often ∙ rw day) (c .before .before .before .prices-in .ensures);
         pricesFit = counted .1;
         oftenIs = often ∙ rw day;
         oftenFew = rw often (often-few _ a _ day);
@@ -61,7 +62,7 @@ post-blocks-requires c κs =
     let day = c .before .before .before .before .before .before .before .before .before .day-hours .ensures in
     let posted = c .before .before .before .post-steps .ensures in (
       start .pre .0,
-      counted .0 ∙ rw (often, day, c .before .before .before .before .before .before .before .prices-in .ensures),
+      counted .0 ∙ ap₂ countedColumn (often ∙ rw day) (c .before .before .before .before .before .before .before .prices-in .ensures),
       counted .1,
       record { size = posted .size; free = λ i. omega (arith, posted .most i, empty-at i) },
     )

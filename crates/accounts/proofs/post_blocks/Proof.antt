@@ -54,7 +54,7 @@ post-block-requires c κs =
     let start = c .before .before .before .before .before .before .before .before .before .before .before in
     let loop = c .before .before .loop in
     let columns = c .before .before .before .before .before .before .blocks-of .ensures in
-    let inside = c .before .loop-test .taken in
+    let inside : loop .i < c .before .before .before .before .before .before .blocks-of .result .count = omega arith in
     let a = start .pre .0 in
     let here = record-is _ a _ _ _ _ _ _ columns (loop .i) inside in (
       start .pre .1,
@@ -81,7 +81,7 @@ loop-again c =
     let start = c .before .before .before .before .before .before .before .before .before .before .before .before .before .before in
     let loop = c .before .before .before .before .before .loop in
     let columns = c .before .before .before .before .before .before .before .before .before .blocks-of .ensures in
-    let inside = c .before .before .before .before .loop-test .taken in
+    let inside : loop .i < c .before .before .before .before .before .before .before .before .before .blocks-of .result .count = omega arith in
     let a = start .pre .0 in
     let on-list : loop .i < length (blockRecords (start .args .book .now)) = omega (arith, columns .counted) in
     let here = record-is _ a _ _ _ _ _ _ columns (loop .i) inside in
