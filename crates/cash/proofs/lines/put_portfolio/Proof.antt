@@ -10,8 +10,9 @@ number-in-requires c κs = search needs
 
 returns : tie.Need-returns
 returns c =
+    let start = c .before .before .before .before in
     let none = sym (c .before .number-in .ensures) ∙ c .if1 .taken in
-    rw (line-none _ _ none) (put-none _ _)
+    rw (line-none (start .args .accounts .now) (start .args .p) none) (put-none _ _)
 
 put-field-requires : tie.Need-put-field-requires
 put-field-requires c κs =
