@@ -37,7 +37,7 @@ abbrev pub mostWorth : ℕ
 mostWorth = 2 ^ 46
 
 -- AN HOUR out of its columns
--- What each order gets at a price, of any orders that stand for the columns' steps, and what is worth what the steps get; whatever hour the columns are of.
+-- What each order gets at a price, whichever orders stand for the columns' steps and whatever hour these are of, and the value and the cost of it.
 pub record HourDone (sides prices quantities : List ℕ) (sales purchases price : ℕ) (out : List ℕ) (value-r cost-r : ℕ) : Type 0 where
   pub gets : (h : ℕ) (orders : List Order) → stepsOf orders ≡ stepsFrom h sides prices quantities →
       out ≡ executedOf orders (execution (net (stepsOf orders) sales purchases) price)

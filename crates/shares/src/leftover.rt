@@ -13,7 +13,7 @@ ghost use Rattle.shares.specs.Shares.{stepFor, holding, holdings, LeftOv
 
 // 1 where the test passes, else 0.
 fn one(test: bool) -> u32
-    ensures { λ r. ⌜ r ≡ when test 1 ⌝ }
+    ensures { λ r. ⌜ (r ≡ when test 1) × (r ≤ 1) ⌝ }
 {
     if test { 1 } else { 0 }
 }

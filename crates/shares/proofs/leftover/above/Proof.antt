@@ -2,10 +2,8 @@
 use mathlib.Core.Path.{_≡_, _∙_}
 use Prim.Native.Nat.{suc, _+_, _-_, _≤_}
 use native.Mathlib.Omega.{arith}
-use lib.ListN.{length, drop, getD}
-use lib.Dec.{ltb}
+use lib.ListN.{length, drop}
 use Rattle.rules.specs.Execution.{atLeast}
-use Rattle.rules.proofs.ShareLaws.{when-le}
 use Rattle.shares.proofs.PassLaws.{count-more, count-done}
 use borrow.Author.Needs.{needs}
 use Rattle.shares.proofs.leftover.above.Statement.{statement}
@@ -46,8 +44,8 @@ loop-again c =
     let a = c .before .before .before .before .before .before .args in
     let i = c .before .before .before .before .loop .i in
     let more = count-more (suc (a .x)) (a .rests .now) i (c .before .before .before .loop-test .taken) in
-    let e = c .wide .ensures ∙ c .before .one .ensures in
-    (omega arith, omega (arith, when-le (ltb (a .x) (getD (a .rests .now) i 0)) 1), omega arith)
+    let e = c .wide .ensures ∙ c .before .one .ensures .0 in
+    (omega arith, omega (arith, c .before .one .ensures .1), omega arith)
 
 returns : tie.Need-returns Inv-loop μ-loop
 returns c =

@@ -1,12 +1,11 @@
 -- `shares::leftover::give` meets its contract: the first i places have one more where they should. Assumes nothing.
 use mathlib.Core.Path.{_≡_, refl, _∙_}
 use Prim.Native.Nat.{_+_, _-_}
-use mathlib.Core.Bool.{_||_, _&&_}
+use mathlib.Core.Bool.{_&&_}
 use native.Mathlib.Omega.{arith}
 use lib.Dec.{ltb, eqb}
 use lib.ListN.{length, getD, length-set}
 use Rattle.rules.specs.Hour.{when}
-use Rattle.rules.proofs.ShareLaws.{when-le}
 use Rattle.shares.proofs.PassLaws.{Giving, extraAt, giving-none, giving-at, giving-more, giving-done, room-within}
 use borrow.Author.Needs.{needs}
 use Rattle.shares.proofs.leftover.give.Statement.{statement}
@@ -42,14 +41,7 @@ add-more : tie.Need-add-more Inv-loop μ-loop
 add-more c =
     let t = c .before .before .before .before .before .before .before in
     let l = c .before .before .before .before .loop in
-    let r = getD (t .args .rests .now) (l .i) 0 in
-    omega (
-      arith,
-      giving-at _ _ _ _ (t .pre .0) _ _ _ (l .inv .1),
-      t .pre .1 (l .i),
-      c .one .ensures,
-      when-le (ltb (t .args .cut) r || (eqb r (t .args .cut) && ltb 0 (l .room))) 1,
-    )
+    omega (arith, giving-at _ _ _ _ (t .pre .0) _ _ _ (l .inv .1), t .pre .1 (l .i), c .one .ensures .1)
 
 mul-out : tie.Need-mul-out Inv-loop μ-loop
 mul-out c = search needs
@@ -70,7 +62,7 @@ sub-room c =
     omega (
       arith,
       c .wide .ensures,
-      c .before .one2 .ensures,
+      c .before .one2 .ensures .0,
       room-within (eqb (getD (a .rests .now) (l .i) 0) (a .cut)) (l .room),
     )
 
@@ -87,8 +79,8 @@ loop-again c =
     let a = t .args in
     let r = getD (a .rests .now) (l .i) 0 in
     let v : getD (l .out) (l .i) 0 + c .before .before .one .result ≡ getD (a .out .now) (l .i) 0 + extraAt (a .cut) (l .room) r =
-    rw (giving-at _ _ _ _ (t .pre .0) _ _ _ (l .inv .1), c .before .before .one .ensures) in
-    let m : c .wide .result ≡ when (eqb r (a .cut) && ltb 0 (l .room)) 1 = c .wide .ensures ∙ c .before .one2 .ensures in (
+    rw (giving-at _ _ _ _ (t .pre .0) _ _ _ (l .inv .1), c .before .before .one .ensures .0) in
+    let m : c .wide .result ≡ when (eqb r (a .cut) && ltb 0 (l .room)) 1 = c .wide .ensures ∙ c .before .one2 .ensures .0 in (
       rw length-set (l .inv .0),
       rw m (giving-more _ _ _ _ (t .pre .0) _ _ _ _ (l .inv .1) (c .before .before .before .before .before .loop-test .taken) v),
     )
