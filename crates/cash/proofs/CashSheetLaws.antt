@@ -1,20 +1,26 @@
 -- THE CASH SHEET OUT OF THE ACCOUNTS IS THE CASH SHEET OF THE RULES, and no more than 22,564 bytes are written. Assumes nothing.
-use mathlib.Core.Path.{_≡_, refl, sym, _∙_}
+use mathlib.Core.Path.{_≡_, refl, sym, ap, _∙_}
 use mathlib.Core.Bool.{cond}
 use mathlib.Core.List.{List, [], _∷_, _++_, append-assoc, append-nil}
 use Prim.Native.Nat.{ℕ, zero, suc, _+_, _*_, _≤_, _<_}
 use native.Mathlib.Omega.{arith}
 use lib.Dec.{eqb}
-use lib.ListN.{length, length-append}
+use lib.ListN.{length, take, length-append}
+use lib.Seq.{length-take-le}
 use borrow.Author.Tests.{eq-eqb, ne-eqb}
 use Rattle.rules.specs.Orders.{Orders}
 use Rattle.rules.specs.Day.{dayOf}
 use Rattle.rules.specs.Cash.{Executed, Cash, CashLine, cashOf, ownedBy, lineOf, linesTo, executedOrders, publishedPrice, cashSheet}
 use Rattle.rules.proofs.Tests.{by-eq}
+use Rattle.records.specs.Records.{recordCount}
 use Rattle.book.specs.Refusals.{refusal, Accepted}
-use Rattle.book.proofs.Accepted.{accepted-zero}
+use Rattle.book.proofs.Accepted.{accepted, accepted-zero, record-count}
 use Rattle.orders.specs.Bridge.{ordersOf}
 use Rattle.result.specs.Result.{resultBytes}
+use Rattle.result.specs.Promise.{clearRefusal, clearing, numberOf, Promise}
+use Rattle.result.specs.declared.Clearing.{Clearing}
+use Rattle.result.specs.declared.Clearing.the-variants.{Published, Refused}
+use Rattle.result.proofs.PromiseLaws.{not-refused, refused-book}
 use Rattle.text.specs.Text.{text, decimal, field, semicolon, lineFeed, HasRoom, Put}
 use Rattle.text.proofs.TextLaws.{few-digits, any-digits}
 use Rattle.sheet.specs.Sheet.{refusedLine}
@@ -158,6 +164,29 @@ pub text-refused : (b : List ℕ) (n : ℕ) → refusal b ≡ n → (n ≡ 0 →
 unfolding cashSheetOf
 text-refused b n e f = rw (e, ne-eqb n 0 f)
 
-pub refused-has-room : (n : ℕ) (out : List ℕ) → length out ≡ 22564 → HasRoom out 0 (refusedLine n)
+pub refused-has-room : (n : ℕ) (out : List ℕ) → 22564 ≤ length out → HasRoom out 0 (refusedLine n)
 unfolding HasRoom
-refused-has-room n out whole = omega (arith, refused-short n)
+refused-has-room n out large = omega (arith, refused-short n)
+
+-- THE CLEARING TELLS THE BOOK'S REFUSAL, where the result has the length for as many records as a book may have
+clearing-number : (b before : List ℕ) → numberOf (clearing b before) ≡ clearRefusal b before
+unfolding clearing
+clearing-number b before =
+    by-eq (λ t. numberOf (cond t Published (Refused (clearRefusal b before))) ≡ clearRefusal b before) (clearRefusal b before) 0 (λ e. sym e) (λ e. refl)
+
+refusal-told : (b before : List ℕ) → (Accepted b → length before ≡ 196 + 4 * recordCount b) → clearRefusal b before ≡ refusal b
+refusal-told b before fits =
+    by-eq (λ t. clearRefusal b before ≡ refusal b) (refusal b) 0 (λ e. let a = accepted b e in not-refused b before a (fits a) ∙ sym e)
+    (λ e. refused-book b before (refusal b) refl e)
+
+module _ (b space : List ℕ) (count : ℕ) (few : count ≤ 2048) (counted : recordCount b ≤ 2048 → count ≡ recordCount b) (large : 8388 ≤ length space) where
+  pub space-fits : 196 + 4 * count ≤ length space
+  space-fits = omega arith
+
+  pub space-length : 196 + 4 * count ≡ length (take (196 + 4 * count) space)
+  space-length = sym (length-take-le (196 + 4 * count) space space-fits)
+
+  pub number-told : (after : List ℕ) (answer : Clearing) → Promise b (take (196 + 4 * count) space) after answer → numberOf answer ≡ refusal b
+  number-told after answer promise =
+      ap numberOf (promise .answers) ∙ clearing-number b (take (196 + 4 * count) space)
+      ∙ refusal-told b (take (196 + 4 * count) space) (λ a. sym space-length ∙ rw (counted (record-count b a .1)))
