@@ -110,17 +110,23 @@ fn the_readme_runs_as_it_is_written() {
         let found = met.windows(3).any(|three| three == example(language));
         assert!(found, "no example in {language}");
     }
-    // The sheet that the README shows in part.
+    // What the README shows of S5: the sheet in part, the cash sheet whole.
     let sheet = fs::read_to_string(repository().join("samples/S5.sheet")).expect("a sheet");
     assert_eq!(copy.run("./auction-print < samples/S5.book"), sheet);
-    let readme = fs::read_to_string(repository().join("README.md")).expect("the README");
-    let shown: Vec<&str> = readme.lines().filter_map(|line| line.strip_prefix("    ")).collect();
-    let from = shown.iter().position(|line| *line == "hour;cents;tenths").expect("the sheet");
-    let length =
-        shown[from..].iter().position(|line| line.starts_with("welfare;")).expect("its end");
-    for line in &shown[from..=from + length] {
-        assert!(line.starts_with("..") || sheet.lines().any(|other| other == *line), "{line}");
+    for line in shown("hour;cents;tenths", "welfare;") {
+        assert!(line.starts_with("..") || sheet.lines().any(|other| other == line), "{line}");
     }
+    let cash = shown("portfolio;bought;", "all;").join("\n") + "\n";
+    assert_eq!(copy.run("./cash-print < samples/S5.book"), cash);
+}
+
+/// The indented lines of the README from one that begins so to one that begins so.
+fn shown(first: &str, last: &str) -> Vec<String> {
+    let readme = fs::read_to_string(repository().join("README.md")).expect("the README");
+    let lines: Vec<&str> = readme.lines().filter_map(|line| line.strip_prefix("    ")).collect();
+    let from = lines.iter().position(|line| line.starts_with(first)).expect(first);
+    let length = lines[from..].iter().position(|line| line.starts_with(last)).expect(last);
+    lines[from..=from + length].iter().map(|line| line.to_string()).collect()
 }
 
 /// Each page that the README leads to is there.
