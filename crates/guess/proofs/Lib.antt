@@ -1,2 +1,3 @@
--- A limit for a pass of the search: the laws of its safety.
+-- A limit for a pass of the search: the laws of its safety, and of what its private functions answer.
 pub mod GuessLaws
+pub mod SetLaws

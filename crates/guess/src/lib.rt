@@ -1,6 +1,6 @@
 // A limit for a pass of the search, by a guess: what a lawful set loses. The blocks that gain at the root prices are taken; as long as some of them miss
-// their limits, one of these is left out, by one rule or another. Any limit is right, so only safety is proved here; how many branches the search drops
-// depends on it. Assumes nothing.
+// their limits, one of these is left out, by one rule or another. Any limit is right, so of the guess only safety is proved, and of the steps on the way what
+// each answers; how many branches the search drops depends on it. Assumes nothing.
 ghost use Prim.Native.Nat.{_≤_};
 ghost use Rattle.guess.specs.Guess.{TablesHeld, mostGuess};
 use crate::sets::closed;

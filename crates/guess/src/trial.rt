@@ -1,10 +1,12 @@
 // A set tried: whether every hour clears under it, what it loses, and which of its blocks is to be left out of those that miss their limits.
 ghost use Prim.Native.Nat.{_*_, _^_, _≤_, _<_};
+ghost use mathlib.Core.Path.{_≡_};
 ghost use Rattle.book.specs.Bounds.{mostBlocks};
 ghost use Rattle.places.specs.Layout.{hourPlaces, mostLoss, mostPlace, mostAdded};
 ghost use Rattle.places.specs.Hours.{Small, DayPrices};
 ghost use Rattle.places.specs.Blocks.{BlocksSized};
 ghost use Rattle.guess.specs.Guess.{TablesHeld, mostGuess};
+ghost use Rattle.guess.specs.Urgency.{missedBy, blockSize, urgencyBy, urgencyIn};
 use places::added::moved_where;
 use places::cells::counted_gaps;
 use places::cells::counted_prices;
@@ -38,7 +40,9 @@ const BY_SMALLNESS: u32 = 2;
 const MOST: u32 = 4294967295;
 
 // How soon a block is left out by a rule.
-fn urgency(rule: u32, miss: u32, gain: u32, size: u32) -> u32 {
+fn urgency(rule: u32, miss: u32, gain: u32, size: u32) -> u32
+    ensures { λ r. ⌜ r ≡ urgencyBy rule miss gain size ⌝ }
+{
     if rule == BY_MISS {
         return miss;
     }
@@ -54,6 +58,7 @@ fn urgency(rule: u32, miss: u32, gain: u32, size: u32) -> u32 {
 // By how much a block misses its limit at prices as they count, 0 where it keeps it.
 fn miss_of(side: u32, hours: u32, limit: u32, prices: &[u32]) -> u32
     requires { ⌜ DayPrices (now prices) ⌝ }
+    ensures { λ r. ⌜ r ≡ missedBy side hours limit (now (prices .entry)) ⌝ }
 {
     let sum = price_sum(prices, hours);
     if side == 0 {
@@ -66,6 +71,7 @@ fn miss_of(side: u32, hours: u32, limit: u32, prices: &[u32]) -> u32
 // What block i trades in all its hours.
 fn size_of(blocks: &[u32], i: usize) -> u32
     requires { ⌜ BlocksSized (now blocks) × (i < mostBlocks) ⌝ }
+    ensures { λ r. ⌜ r ≡ blockSize (now (blocks .entry)) i ⌝ }
 {
     let row = BLOCK_ROWS + HOURS * i;
     let mut sum: u32 = 0;
@@ -80,6 +86,7 @@ fn size_of(blocks: &[u32], i: usize) -> u32
 // How soon block i is left out of a set by a rule, 0 where it is not taken or keeps its limit.
 fn urgency_of(rule: u32, blocks: &[u32], i: usize, taken: bool, prices: &[u32]) -> u32
     requires { ⌜ BlocksSized (now blocks) × (i < mostBlocks) × DayPrices (now prices) ⌝ }
+    ensures { λ r. ⌜ r ≡ urgencyIn rule (now (blocks .entry)) i taken (now (prices .entry)) ⌝ }
 {
     if !taken {
         return 0;

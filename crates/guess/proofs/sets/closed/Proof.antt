@@ -1,19 +1,24 @@
--- `guess::sets::closed` is safe: a parent's number is that of an earlier block. Assumes nothing.
+-- `guess::sets::closed` meets its contract: the first i blocks looked at; a parent's number is that of an earlier block. Assumes nothing.
 use Prim.Native.Nat.{_+_, _-_, _≤_}
+use mathlib.Core.Path.{_≡_, refl}
+use mathlib.Core.Logic.{⊎-elim}
 use native.Mathlib.Omega.{arith}
 use Rattle.places.specs.Layout.{parentColumn}
+use Rattle.guess.specs.Sets.{allWithParents}
+use Rattle.guess.proofs.SetLaws.{with-parents-next, with-parents-none}
 use borrow.Author.Needs.{needs}
 use Rattle.guess.proofs.sets.closed.Statement.{statement}
 use Rattle.guess.proofs.sets.closed.Tie as tie
 
 abbrev Inv-loop : tie.InvT-loop
-Inv-loop blocks count r₀ i₀ r i = i ≤ count
+Inv-loop blocks count r₀ i₀ r i = (i ≤ count) × (r ≡ allWithParents blocks r₀ i)
 
 abbrev μ-loop : tie.MeasureT-loop
 μ-loop blocks count r₀ i₀ r i = count - i
 
 loop-holds : tie.Need-loop-holds Inv-loop μ-loop
-loop-holds c = omega arith
+unfolding allWithParents
+loop-holds c = (omega arith, refl)
 
 add-parent : tie.Need-add-parent Inv-loop μ-loop
 add-parent c = search needs
@@ -48,10 +53,21 @@ loop-less : tie.Need-loop-less Inv-loop μ-loop
 loop-less c = search needs
 
 loop-again : tie.Need-loop-again Inv-loop μ-loop
-loop-again c = search needs
+loop-again c =
+    let loop = c .before .before .before in
+    let blocks = loop .before .args .blocks .now in
+    let set = loop .before .args .set in (
+      omega (arith, c .before .before .loop-test .taken),
+      ⊎-elim
+          (λ w. rw (w .1) (with-parents-next blocks set (loop .loop .i) (loop .loop .r) (loop .loop .inv .1) (w .0 .taken)))
+          (λ w. rw (w .1) (with-parents-none blocks set (loop .loop .i) (loop .loop .r) (loop .loop .inv .1) (omega (arith, w .0 .left))))
+          (c .if1 .came),
+    )
 
 returns : tie.Need-returns Inv-loop μ-loop
-returns c = tt
+returns c =
+    let all : c .before .loop .i ≡ c .before .before .args .count = omega (arith, c .before .loop .inv .0, c .loop-test .left) in
+    rw (← all) (c .before .loop .inv .1)
 
 pub closed-spec : {M : Type 1} → statement M
 closed-spec =
