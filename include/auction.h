@@ -35,19 +35,20 @@ extern "C" {
 /* The size of the result of a book with so many records, the head included. */
 #define AUCTION_RESULT_SIZE(records) (AUCTION_RESULT_HEAD + AUCTION_RESULT_RECORD * (size_t)(records))
 
-/* Answers. The first refusal whose cause holds is given, in the order 1 to 6, 9, 10, and then the call's own, 7 or 8; R is the
+/* Answers. The first refusal whose cause holds is given, in the order 1 to 6, 9 to 11, and then the call's own, 7 or 8; R is the
  * record count, the first two bytes of a book. A list has no refusal but 17. A refusal is a byte. */
 #define AUCTION_DONE 0                /* accepted, cleared, or published */
 #define AUCTION_REFUSED_LENGTH 1      /* length not 16 x R, below 16 bytes, or R outside 1 to 2048 */
-#define AUCTION_REFUSED_HEAD 2        /* head: hours not 23, 24 or 25, edition not 1, 2 or 3, or bytes 8 to 15, in edition 3 bytes 10 to 15, not all 0 */
+#define AUCTION_REFUSED_HEAD 2        /* head: hours not 23, 24 or 25, edition not 1 to 4, or bytes 8 to 15, from edition 3 on bytes 10 to 15, not all 0 */
 #define AUCTION_REFUSED_CHAIN 3       /* on a chain: an index of R or more, a kind not the chain's, or a number that does not rise */
 #define AUCTION_REFUSED_FIELD 4       /* on a chain: any other field outside its range */
 #define AUCTION_REFUSED_STRAY 5       /* a record on no chain */
-#define AUCTION_REFUSED_BLOCKS 6      /* more than 32 blocks, or of one portfolio more than 5 in edition 1, 10 in editions 2 and 3 */
+#define AUCTION_REFUSED_BLOCKS 6      /* more than 32 blocks, or of one portfolio more than 5 in edition 1, 10 in editions 2 to 4 */
 #define AUCTION_REFUSED_RESULT 7      /* a result buffer not of 196 + 4 x R bytes */
 #define AUCTION_REFUSED_CALL 8        /* an hour outside 1 to 24, hour 3 of a 23-hour day, or a set that names a block position not there */
 #define AUCTION_REFUSED_HOURS 9       /* on a 23-hour day: a step for hour 3, or a block with fewer than two other hours */
 #define AUCTION_REFUSED_LINK 10       /* a link that names a block not in the book, or whose parent's number is not below the child's */
+#define AUCTION_REFUSED_STEPS 11      /* in edition 4: more than 256 steps of a portfolio in one hour */
 #define AUCTION_REFUSED_LIST 17       /* a list longer than 4096 bytes or not a multiple of 16 bytes, a field of it out of range, or a low above its high */
 #define AUCTION_DOES_NOT_CLEAR 256    /* no price clears the hour under the set; no refusal */
 
@@ -55,24 +56,25 @@ extern "C" {
 #define AUCTION_PART_ANSWER 0         /* whether there is a price */
 #define AUCTION_PART_LOW 1            /* L, the least clearing price */
 #define AUCTION_PART_HIGH 2           /* H, the greatest clearing price */
-#define AUCTION_PART_PRICE 3          /* the price: (L + H) / 2, rounded down */
+#define AUCTION_PART_PRICE 3          /* the middle price, in every edition: (L + H) / 2, rounded down */
 
 /* The parts of a price range. */
 #define AUCTION_RANGE_ANSWER 0        /* whether there is a range */
 #define AUCTION_RANGE_LEAST 1         /* the least price */
 #define AUCTION_RANGE_GREATEST 2      /* the greatest price */
 
-/* Reads a book: AUCTION_DONE where it is accepted, or its refusal, 1 to 6, 9 or 10. */
+/* Reads a book: AUCTION_DONE where it is accepted, or its refusal, 1 to 6 or 9 to 11. */
 uint32_t auction_read(const uint8_t *book, size_t book_len);
 
 /* Prices an hour, 1 to 24, under a set of blocks, whose lowest bit is the first block of the chain; any set, whatever the links
- * say. One part of the answer: AUCTION_PART_ANSWER gives AUCTION_DONE, AUCTION_DOES_NOT_CLEAR, or the refusal, 1 to 6, 9, 10 or
- * 8; the other parts give a price in cents per MWh, or 0 where there is none. Hour 3 of a 23-hour day has no price. */
+ * say. One part of the answer: AUCTION_PART_ANSWER gives AUCTION_DONE, AUCTION_DOES_NOT_CLEAR, or the refusal, 1 to 6, 9 to 11
+ * or 8; the other parts give a price in cents per MWh, or 0 where there is none. Hour 3 of a 23-hour day has no price. */
 uint32_t auction_price(const uint8_t *book, size_t book_len, uint32_t set, uint32_t hour, uint32_t part);
 
-/* Clears the day: AUCTION_DONE where every byte of the result is written, or the refusal, 1 to 6, 9, 10 or 7, and the result
+/* Clears the day: AUCTION_DONE where every byte of the result is written, or the refusal, 1 to 6, 9 to 11 or 7, and the result
  * stays as it was. The result has AUCTION_RESULT_SIZE(R) bytes, no more and no less, whatever the length of the day; hour 3 of a
- * 23-hour day has price and quantity 0, a link has 0, and steps at the price share their side's amount in proportion. */
+ * 23-hour day has price and quantity 0, a link has 0, and steps at the price share their side's amount in proportion. The price
+ * of an hour is the middle one, from edition 4 on that at the shift of the published set, which may lie elsewhere from L to H. */
 uint32_t auction_clear(const uint8_t *book, size_t book_len, uint8_t *result, size_t result_len);
 
 /* Writes a book's sheet, or the line `refused;` and the number, to the start of `out`, and answers its length, at most

@@ -18,6 +18,9 @@ HERE = Path(__file__).resolve().parent
 ROOT = HERE.parents[1]
 SAMPLES = ROOT / "samples"
 
+# The first edition whose published prices may be others than the middle ones.
+FIRST_SHIFT_EDITION = 4
+
 
 def sample(name: str) -> bytes:
     return (SAMPLES / name).read_bytes()
@@ -102,6 +105,18 @@ class Calls(unittest.TestCase):
         self.assertEqual(outcome.rows[6], auction.Row("link", 2, 0))
         outcome = auction.clear(sample("linked-left-out.book"))
         self.assertEqual((outcome.welfare, outcome.taken, outcome.block(2)), (400_000, (), 0))
+
+    def test_prices_that_give_way(self):
+        book = sample("shift-alone.book")
+        outcome = auction.clear(book)
+        self.assertEqual((outcome.welfare, outcome.taken), (200_000, (1, 2)))
+        self.assertEqual({hour.price for hour in outcome.hours}, {4_800})
+        # A single hour is answered with the middle price.
+        self.assertEqual(auction.price(book, 3, 1), auction.Price(1, 300_000, 150_000))
+        outcome = auction.clear(sample("shift-above.book"))
+        self.assertEqual([outcome.hours[at].price for at in (0, 1, 2)], [188_700, 5_258, 5_774])
+        outcome = auction.clear(sample("shift-linked.book"))
+        self.assertEqual((outcome.welfare, outcome.taken), (60_000, (3, 4)))
 
     def test_the_shares_of_steps_at_the_price(self):
         outcome = auction.clear(sample("S10.book"))
@@ -188,7 +203,11 @@ class Calls(unittest.TestCase):
             lines = ["hour;cents;tenths", *hours, "block;taken", *taken, f"welfare;{outcome.welfare}", ""]
             self.assertEqual(sheet.split("\n"), lines, name)
             priced = [outcome.hours[hour - 1].price for hour in hours_of(book)]
-            self.assertEqual([price.price for price in prices], priced, name)
+            if book[7] < FIRST_SHIFT_EDITION:
+                self.assertEqual([price.price for price in prices], priced, name)
+            for price, published in zip(prices, priced):
+                self.assertTrue(price.low <= published <= price.high, name)
+                self.assertEqual(price.price, (price.low + price.high) // 2, name)
 
     def test_prices_under_sets(self):
         both, opposite = sample("S6.book"), sample("opposite-blocks.book")
@@ -201,7 +220,7 @@ class Calls(unittest.TestCase):
     def test_each_refusal(self):
         names = {f"refused-{number}": number for number in range(1, 7)}
         names.update({"refused-4-edition-2": 4, "refused-6-edition-2": 6, "refused-9-step": 9, "refused-9-block": 9})
-        names.update({"refused-2-edition-3": 2, "refused-10": 10, "refused-10-order": 10})
+        names.update({"refused-2-edition-3": 2, "refused-10": 10, "refused-10-order": 10, "refused-11": 11})
         for name, number in names.items():
             book = sample(f"{name}.book")
             calls = (auction.read,), (auction.clear,), (auction.price, 0, 1), (auction.families,), (auction.cash,)

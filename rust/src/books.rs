@@ -10,6 +10,8 @@
 //! - `portfolios`: books for the cash sheet, with few portfolios or all of them;
 //! - `lists`: lists of steps whose quantities are uncertain, right and wrong;
 //! - `shares`: books with large groups of steps at one price;
+//! - `shifts`: books in which prices give way;
+//! - `step_limit`: books with as many steps of a portfolio in an hour as there may be;
 //! - `families`: large books for the benchmark;
 //! - `expected`: what is expected of the books in `bench-books`;
 //! - `worked`: the days of documents 01 and 02 that are checked by hand;
@@ -27,6 +29,8 @@ mod lists;
 mod portfolios;
 mod random;
 mod shares;
+mod shifts;
+mod step_limit;
 mod worked;
 
 pub use builder::{hour_bits, hours_in, BlockOrder, LinkOrder, Orders, StepOrder};
@@ -53,9 +57,11 @@ pub use random::{
     tiny_book, tiny_book_of,
 };
 pub use shares::{shared_book_on, shared_orders_on};
+pub use shifts::{shift_edges, shifted_book_on, shifted_orders_on, tiny_shifted_book_on};
+pub use step_limit::{step_limit_book, step_limit_edges, MOST_STEPS};
 pub use worked::{
     block_beside_the_day, cash_days, day_of_23_hours, day_of_25_hours, edition_2_day, fair_shares,
-    head_alone, link_upwards, link_without_parent, linked_days, opposite_blocks,
-    step_beside_the_day, thirty_two_blocks, worked_days, CHAIN_OF_32_TAKEN, EDITION_2_BLOCKS,
-    FAIR_SHARES_ROWS, THIRTY_TWO_BLOCKS_TAKEN,
+    head_alone, link_upwards, link_without_parent, linked_days, opposite_blocks, shifted_days,
+    step_beside_the_day, steps_256, thirty_two_blocks, worked_days, CHAIN_OF_32_TAKEN,
+    EDITION_2_BLOCKS, FAIR_SHARES_ROWS, THIRTY_TWO_BLOCKS_TAKEN,
 };

@@ -1,10 +1,11 @@
 //! Documents 01 and 02, implemented by their own words.
 //!
-//! - `read`: any bytes to a book or its first refusal, 1 to 6, 9 or 10, by the limits of its
+//! - `read`: any bytes to a book or its first refusal, 1 to 6 or 9 to 11, by the limits of its
 //!   edition and the hours of its day;
 //! - `hour`: the price of one hour under a set of blocks, or refusal 8, and what its steps
 //!   get there;
 //! - `shares`: what each step at the price gets of its side's amount;
+//! - `shift`: where a set's prices stand between L and H;
 //! - `day`: lawful sets that hold their blocks' parents, welfare, the published result, or
 //!   refusal 7;
 //! - `contenders`: demand 3 taken literally, for tiny books;
@@ -23,6 +24,7 @@ mod hour;
 mod read;
 mod shares;
 mod sheet;
+mod shift;
 mod texts;
 mod uncertain;
 
@@ -42,6 +44,7 @@ pub use read::{
 };
 pub use shares::{fair_shares, SharingRule};
 pub use sheet::{sheet, sheet_of};
+pub use shift::{prices_at_shift, shift_of, shifted, shifts, Ends, MIDDLE_SHIFT};
 pub use texts::{texts, Texts};
 pub use uncertain::{
     price_of, price_range, price_range_by_choices, range_part, read_list, PriceRange, UncertainStep,

@@ -9,19 +9,19 @@
 //! block buy hours 1-8,21-24 price 4100 quantity 10 portfolio 3
 //! ```
 //!
-//! - A line `edition 2` or `edition 3` in front of all orders makes a book of that edition.
-//!   Without one the book is of edition 1.
+//! - A line `edition 2`, `edition 3` or `edition 4` in front of all orders makes a book of
+//!   that edition. Without one the book is of edition 1.
 //! - A line `day 23` or `day 25` in front of all orders makes the book of a day of so many
 //!   hours. Without one the day has 24.
 //! - A line of an order begins with `step` or `block` and `buy` or `sell`. The fields
 //!   follow, each a word and its value, in any order.
 //! - Prices are whole cents per MWh, 1 to 300000. Quantities are whole tenths of
-//!   a MW: 1 to 99999 for a step, for a block 1 to 50 in edition 1 and 1 to 250 in
-//!   editions 2 and 3.
+//!   a MW: 1 to 99999 for a step, for a block 1 to 50 in edition 1 and 1 to 250 in the
+//!   later ones.
 //! - `number` may be left out: an order then gets one more than the order of
 //!   its kind on the line before it; the first gets 1. Steps and blocks are
 //!   numbered separately.
-//! - In edition 3 a line `link child 4 parent 2` says that block 4 may be taken only with
+//! - From edition 3 on a line `link child 4 parent 2` says that block 4 may be taken only with
 //!   block 2. The parent has the lower number, and a block is a child once at most; the
 //!   blocks may stand on later lines.
 //! - The first order or link stands in record 1 of the book, the second in record 2, and
@@ -53,15 +53,16 @@ impl fmt::Display for TextError {
 pub fn refusal_meaning(refusal: u8) -> &'static str {
     match refusal {
         1 => "the length is not 16 x R, below 16 bytes, or R is outside 1 to 2048",
-        2 => "head: hours not 23, 24 or 25, edition not 1 to 3, or bytes 8 to 15, in edition 3 bytes 10 to 15, not all 0",
+        2 => "head: hours not 23, 24 or 25, edition not 1 to 4, or bytes 8 to 15, from edition 3 on bytes 10 to 15, not all 0",
         3 => "on a chain: an index of R or more, a kind not the chain's, or a number that does not rise",
         4 => "on a chain: a field outside its range",
         5 => "a record is on no chain",
-        6 => "more than 32 blocks, or of one portfolio more than 5 in edition 1, 10 in editions 2 and 3",
+        6 => "more than 32 blocks, or of one portfolio more than 5 in edition 1, 10 in editions 2 to 4",
         7 => "the result buffer is not 196 + 4 x R bytes",
         8 => "the hour is outside 1 to 24, or 3 on a day of 23 hours, or the set names a block position not there",
         9 => "on a day of 23 hours: a step for hour 3, or a block with fewer than two other hours",
         10 => "a link that names a block not in the book, or whose parent's number is not below the child's",
+        11 => "in edition 4: more than 256 steps of a portfolio in one hour",
         _ => "not a refusal of documents 01 and 02",
     }
 }
@@ -76,7 +77,7 @@ struct Line<T> {
 
 /// The edition of a text that names none, and the latest that it can name.
 const FIRST_EDITION: u32 = 1;
-const LAST_EDITION: u32 = 3;
+const LAST_EDITION: u32 = 4;
 
 /// The first edition with links.
 const LINKED_EDITION: u32 = 3;
@@ -132,7 +133,7 @@ impl Lines {
             }
             other => {
                 return Err(format!(
-                    "`{other}` where an order begins; expected `step` or `block`, `link` in edition 3, or `edition` or `day` in front of them"
+                    "`{other}` where an order begins; expected `step` or `block`, `link` from edition 3 on, or `edition` or `day` in front of them"
                 ))
             }
         }
@@ -199,11 +200,20 @@ impl Lines {
         hours.iter().filter(|hour| day.contains(hour)).count()
     }
 
-    /// Refusal 9 at a step.
+    /// Refusals 9 and 11 at a step.
     fn check_step(&self, order: &StepOrder) -> Result<(), String> {
         let (hour, day) = (order.hour, self.day());
         if self.hours_within(&[hour]) == 0 {
             return Err(format!("`hour {hour}` is not on a day of {day} hours; expected another"));
+        }
+        let Some(most) = self.limits().steps_in_an_hour else { return Ok(()) };
+        let portfolio = order.portfolio;
+        let same = |it: &&Line<StepOrder>| (it.order.portfolio, it.order.hour) == (portfolio, hour);
+        if self.steps.iter().filter(same).count() == most {
+            let number = most + 1;
+            return Err(format!(
+                "step {number} of portfolio {portfolio} in hour {hour}; expected at most {most}"
+            ));
         }
         Ok(())
     }
@@ -339,7 +349,7 @@ fn block_of(words: &[&str], default_number: u32, limits: Limits) -> Result<Block
 fn link_of(words: &[&str], edition: u32) -> Result<LinkOrder, String> {
     if edition < LINKED_EDITION {
         return Err(format!(
-            "`link` in edition {edition}; expected `edition 3` in front of all orders"
+            "`link` in edition {edition}; expected `edition 3` or `edition 4` in front of all orders"
         ));
     }
     let fields = Fields::new(words, &LINK_FIELDS)?;

@@ -138,7 +138,7 @@ fn refusals_are_those_of_the_sheet() {
     assert_eq!(cash(b""), b"refused;1\n");
     let mut refused = 0;
     for seed in 0..count("BOOKS", 2_000) {
-        let (day, edition) = DAYS_AND_EDITIONS[seed as usize % 9];
+        let (day, edition) = DAYS_AND_EDITIONS[seed as usize % DAYS_AND_EDITIONS.len()];
         let book = reader_book_on(day, edition, seed);
         if read(&book).is_ok_and(|accepted| accepted.blocks.len() > 9) {
             continue; // the listing of all sets takes too long
@@ -250,7 +250,7 @@ impl Variety {
 fn sheets_of_random_books() {
     let mut met = Variety::default();
     for seed in 0..count("BOOKS", 1_800) {
-        let (day, edition) = DAYS_AND_EDITIONS[seed as usize % 9];
+        let (day, edition) = DAYS_AND_EDITIONS[seed as usize % DAYS_AND_EDITIONS.len()];
         let on = format!("on({day}, {edition}, {seed})");
         met.look_at(&format!("small_book_{on}"), &small_book_on(day, edition, seed));
         met.look_at(&format!("cash_book_{on}"), &cash_book_on(day, edition, seed));
@@ -269,7 +269,7 @@ fn sheets_of_random_books() {
 fn a_line_is_of_its_own_orders() {
     let mut changed = 0;
     for seed in 0..count("BOOKS", 900) {
-        let (day, edition) = DAYS_AND_EDITIONS[seed as usize % 9];
+        let (day, edition) = DAYS_AND_EDITIONS[seed as usize % DAYS_AND_EDITIONS.len()];
         let mut dice = Dice::new(seed);
         let orders = cash_orders_on(day, edition, &mut dice);
         let Some(own) = orders.steps.first().map(|step| step.portfolio) else { continue };
@@ -296,7 +296,7 @@ fn a_line_is_of_its_own_orders() {
     assert!(changed >= 200);
 }
 
-/// The edition says what may be entered, and nothing of cash.
+/// Editions 1 to 3 say what may be entered, and nothing of cash.
 #[test]
 fn the_same_orders_in_each_edition() {
     for (seed, day) in (0..300).flat_map(|seed| DAYS.map(|day| (seed, day))) {

@@ -54,21 +54,25 @@ fn quantities_of_a_block() {
     ] {
         let orders = blocks(quantity, &[1]);
         assert_eq!(refusal_in(1, &orders), in_edition_1, "{quantity} in edition 1");
-        assert_eq!(refusal_in(2, &orders), in_edition_2, "{quantity} in edition 2");
-        assert_eq!(refusal_in(3, &orders), in_edition_2, "{quantity} in edition 3");
+        for edition in [2, 3, 4] {
+            let found = refusal_in(edition, &orders);
+            assert_eq!(found, in_edition_2, "{quantity} in edition {edition}");
+        }
         // The last of several blocks as well as the first.
         let mut last = blocks(7, &[4]);
         last.blocks[3].quantity = quantity;
         assert_eq!(refusal_in(1, &last), in_edition_1, "{quantity} last in edition 1");
-        assert_eq!(refusal_in(2, &last), in_edition_2, "{quantity} last in edition 2");
-        assert_eq!(refusal_in(3, &last), in_edition_2, "{quantity} last in edition 3");
+        for edition in [2, 3, 4] {
+            let found = refusal_in(edition, &last);
+            assert_eq!(found, in_edition_2, "{quantity} last in edition {edition}");
+        }
     }
 }
 
 /// A step's quantity has its range in every edition.
 #[test]
 fn quantities_of_a_step() {
-    for edition in [1, 2, 3] {
+    for edition in [1, 2, 3, 4] {
         for (quantity, expected) in [(1, 0), (251, 0), (99_999, 0), (100_000, 4), (0, 4)] {
             let orders = Orders::new().step(Buy, 1, 5_000, quantity, 1);
             assert_eq!(refusal_in(edition, &orders), expected, "{quantity} in edition {edition}");
@@ -85,8 +89,10 @@ fn blocks_of_a_portfolio() {
         for portfolios in [vec![count], vec![1, count], vec![count, 5, 5]] {
             let orders = blocks(50, &portfolios);
             assert_eq!(refusal_in(1, &orders), in_edition_1, "{portfolios:?} in edition 1");
-            assert_eq!(refusal_in(2, &orders), in_edition_2, "{portfolios:?} in edition 2");
-            assert_eq!(refusal_in(3, &orders), in_edition_2, "{portfolios:?} in edition 3");
+            for edition in [2, 3, 4] {
+                let found = refusal_in(edition, &orders);
+                assert_eq!(found, in_edition_2, "{portfolios:?} in edition {edition}");
+            }
         }
     }
     // A portfolio's steps are not counted with them.
@@ -102,12 +108,12 @@ fn blocks_of_a_portfolio() {
 fn blocks_in_all() {
     let fives = [5, 5, 5, 5, 5, 5, 2];
     let tens = [10, 10, 10, 2];
-    for edition in [1, 2, 3] {
+    for edition in [1, 2, 3, 4] {
         assert_eq!(refusal_in(edition, &blocks(50, &fives)), 0, "32 in edition {edition}");
         let more = [&fives[..], &[1]].concat();
         assert_eq!(refusal_in(edition, &blocks(50, &more)), 6, "33 in edition {edition}");
     }
-    for edition in [2, 3] {
+    for edition in [2, 3, 4] {
         assert_eq!(refusal_in(edition, &blocks(250, &tens)), 0);
         assert_eq!(refusal_in(edition, &blocks(250, &[10, 10, 10, 3])), 6);
         assert_eq!(refusal_in(edition, &blocks(250, &[11, 10, 10])), 6);
@@ -115,12 +121,12 @@ fn blocks_in_all() {
     assert_eq!(refusal_in(1, &blocks(50, &tens)), 6);
 }
 
-/// Of all bytes only 1, 2 and 3 are an edition.
+/// Of all bytes only 1 to 4 are an edition.
 #[test]
 fn edition_bytes() {
     let orders = blocks(50, &[5]).step(Buy, 1, 100, 10, 1);
     for edition in 0..=255 {
-        let expected = if (1..=3).contains(&edition) { 0 } else { 2 };
+        let expected = if (1..=4).contains(&edition) { 0 } else { 2 };
         assert_eq!(refusal_in(edition, &orders), expected, "edition {edition}");
         assert_eq!(refusal_in(edition, &Orders::new()), expected, "the head alone");
     }
@@ -139,8 +145,8 @@ fn two_causes_at_once() {
         // (edition, quantity, of one portfolio, refusal)
         (0, 251, 1, 2),
         (0, 50, 11, 2),
-        (4, 251, 11, 2),
-        (4, 50, 5, 2),
+        (5, 251, 11, 2),
+        (5, 50, 5, 2),
         (255, 251, 11, 2),
         (1, 51, 6, 4),
         (1, 250, 10, 4),
@@ -156,6 +162,11 @@ fn two_causes_at_once() {
         (3, 250, 11, 6),
         (3, 251, 10, 4),
         (3, 251, 11, 4),
+        (4, 51, 6, 0),
+        (4, 250, 10, 0),
+        (4, 250, 11, 6),
+        (4, 251, 10, 4),
+        (4, 251, 11, 4),
     ];
     for (edition, quantity, count, expected) in cases {
         let orders = blocks(quantity, &[count]);
@@ -183,7 +194,7 @@ fn every_boundary_with_every_other() {
     let expected = |edition: u32, quantity: u32, of_one: usize, in_all: usize| {
         let (most_quantity, most_of_one) = match edition {
             1 => (50, 5),
-            2 | 3 => (250, 10),
+            2..=4 => (250, 10),
             _ => return 2,
         };
         if quantity < 1 || quantity > most_quantity {
@@ -195,7 +206,7 @@ fn every_boundary_with_every_other() {
         0
     };
     let mut met = Met::default();
-    for edition in [0, 1, 2, 3, 4, 255] {
+    for edition in [0, 1, 2, 3, 4, 5, 255] {
         for quantity in [0, 1, 50, 51, 250, 251] {
             for of_one in [1, 5, 6, 10, 11] {
                 for in_all in [of_one, 31, 32, 33] {

@@ -86,26 +86,26 @@ fn links_are_read() {
 }
 
 /// "Edition 3 has all of edition 2 and a third chain"; "head bytes 10-15 stay 0"; editions 1
-/// and 2 keep 8 to 15.
+/// and 2 keep 8 to 15; edition 4 "has all of edition 3".
 #[test]
 fn head_bytes() {
-    for (edition, at, value) in (1..=3)
+    for (edition, at, value) in (1..=4)
         .flat_map(|edition| (8..16).flat_map(move |at| [1, 6, 255].map(|v| (edition, at, v))))
     {
         let mut book = unlinked(&base()).of_edition(edition).book();
         assert_eq!(refusal(&book), 0, "edition {edition}");
         book[at] = value;
-        let expected = if edition == 3 && at < 10 { 3 } else { 2 };
+        let expected = if edition >= 3 && at < 10 { 3 } else { 2 };
         assert_eq!(refusal(&book), expected, "edition {edition}, byte {at}");
     }
     for at in 10..16 {
         assert_eq!(base_byte(0, at, 1), 2, "byte {at}");
     }
-    // With links in it, a book is of edition 3 and no other.
+    // With links in it, a book is of edition 3 or 4 and no other.
     for edition in 0..=255 {
-        let expected = if edition == 3 { 0 } else { 2 };
+        let expected = if [3, 4].contains(&edition) { 0 } else { 2 };
         assert_eq!(refusal(&base().of_edition(edition).book()), expected, "edition {edition}");
-        let none = if (1..=3).contains(&edition) { 0 } else { 2 };
+        let none = if (1..=4).contains(&edition) { 0 } else { 2 };
         let book = unlinked(&base()).of_edition(edition).book();
         assert_eq!(refusal(&book), none, "edition {edition} without links");
     }
@@ -182,7 +182,7 @@ fn four_on_the_links() {
 /// 5: a link on no chain, in every edition.
 #[test]
 fn a_link_on_no_chain() {
-    for edition in [1, 2, 3] {
+    for edition in [1, 2, 3, 4] {
         let orders = unlinked(&base()).of_edition(edition);
         let mut book = [&orders.book()[..], &[3, 0, 0, 0, 0, 4, 0, 2], &[0; 8]].concat();
         book[1] += 1;
@@ -393,7 +393,7 @@ fn families_without_links() {
     assert_eq!(report("S3"), "block;gain\n1;0\n");
     assert_eq!(report("S5"), "block;gain\n1;10000\n");
     assert_eq!(report("S6"), "block;gain\n1;10000\n2;0\n");
-    for edition in [1, 2, 3] {
+    for edition in [1, 2, 3, 4] {
         assert_eq!(families(&Orders::new().of_edition(edition).book()), b"block;gain\n");
     }
     assert_eq!(families(b""), b"refused;1\n");

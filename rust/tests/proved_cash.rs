@@ -26,7 +26,7 @@ fn made(
     on: fn(u32, u32, u64) -> Vec<u8>,
 ) -> impl Iterator<Item = Named> {
     (0..books).map(move |seed| {
-        let (day, edition) = DAYS_AND_EDITIONS[seed as usize % 9];
+        let (day, edition) = DAYS_AND_EDITIONS[seed as usize % DAYS_AND_EDITIONS.len()];
         (format!("{name}({day}, {edition}, {seed})"), on(day, edition, seed))
     })
 }

@@ -4,7 +4,7 @@
 //! Compiled with the feature `proved` only.
 //!
 //! The environment variable BOOKS raises the count of generated books (at least
-//! 828, and those of [`CHOSEN`]).
+//! 1012, and those of [`CHOSEN`]).
 
 mod answers;
 mod large_stack;
@@ -81,8 +81,11 @@ fn agreed(name: &str, book: &[u8]) -> (Book, Published, u32) {
         let HourAnswer::Cleared { low, high, price } = answer else {
             panic!("{name}, hour {hour}: {answer:?}");
         };
-        assert_eq!(price, published.prices[hour as usize - 1], "{name}, hour {hour}");
         assert_eq!(price, (low + high) / 2, "{name}, hour {hour}");
+        // Up to edition 3 the middle price is published, from then on that at the set's shift.
+        let at_shift = paper::shifted(low, high, outcome.shift);
+        assert_eq!(at_shift, published.prices[hour as usize - 1], "{name}, hour {hour}");
+        assert!(accepted.edition > 3 || price == at_shift, "{name}, hour {hour}");
         assert_eq!(answer, paper::price_hour(book, set, hour), "{name}, hour {hour}");
     }
     (accepted, published, set)

@@ -6,8 +6,9 @@
 //! BOOKS for all others.
 
 use auction_listing::books::{
-    count, pricing_case_of, pricing_case_on, raised, shared_book_on, small_book_of, small_book_on,
-    tiny_book_of, tiny_book_on, DAYS_AND_EDITIONS,
+    count, pricing_case_of, pricing_case_on, raised, shared_book_on, shifted_book_on,
+    small_book_of, small_book_on, tiny_book_of, tiny_book_on, tiny_shifted_book_on, DAYS,
+    DAYS_AND_EDITIONS,
 };
 use auction_listing::paper::{
     beyond_totals, candidates, clear, clears, contenders, executed, for_each_contender,
@@ -96,7 +97,7 @@ fn compare_with_the_scan(case: fn(u64) -> Case) {
 
 /// A number of seeds for each of the editions.
 fn of_all_editions(seeds: u64) -> impl Iterator<Item = (u32, u64)> {
-    [1, 2, 3].into_iter().flat_map(move |edition| (0..seeds).map(move |seed| (edition, seed)))
+    [1, 2, 3, 4].into_iter().flat_map(move |edition| (0..seeds).map(move |seed| (edition, seed)))
 }
 
 /// Every price from L to H clears and executes the same quantities, so the
@@ -134,6 +135,10 @@ fn results_obey_the_outcome_properties() {
         let of_seed = format!("on({day}, {edition}, {seed})");
         check_outcome(&small_book_on(day, edition, seed), &format!("small_book_{of_seed}"));
         check_outcome(&shared_book_on(day, edition, seed), &format!("shared_book_{of_seed}"));
+        // Their blocks are too large for edition 1.
+        let edition = edition.max(2);
+        let name = format!("shifted_book_on({day}, {edition}, {seed})");
+        check_outcome(&shifted_book_on(day, edition, seed), &name);
     }
 }
 
@@ -233,6 +238,16 @@ fn clearing_agrees_with_all_contenders_in_edition_2() {
 fn clearing_agrees_with_all_contenders_in_edition_3() {
     compare_with_contenders(count("BOOKS", 400), |seed| {
         (format!("tiny_book_of(3, {seed})"), tiny_book_of(3, seed))
+    });
+}
+
+/// Contenders, too, are held to the prices at a set's shift.
+#[test]
+fn clearing_agrees_with_all_contenders_in_edition_4() {
+    compare_with_contenders(count("BOOKS", 400), |seed| {
+        let day = DAYS[seed as usize % DAYS.len()];
+        let name = format!("tiny_shifted_book_on({day}, 4, {seed})");
+        (name, tiny_shifted_book_on(day, 4, seed))
     });
 }
 

@@ -5,8 +5,8 @@ mod sample_files;
 
 use auction_listing::books::{
     block_beside_the_day, cash_days, day_of_23_hours, day_of_25_hours, edition_2_day, fair_shares,
-    head_alone, link_upwards, link_without_parent, linked_days, opposite_blocks,
-    step_beside_the_day, thirty_two_blocks, worked_days, Orders, CHAIN_OF_32_TAKEN,
+    head_alone, link_upwards, link_without_parent, linked_days, opposite_blocks, shifted_days,
+    step_beside_the_day, steps_256, thirty_two_blocks, worked_days, Orders, CHAIN_OF_32_TAKEN,
     THIRTY_TWO_BLOCKS_TAKEN,
 };
 use auction_listing::paper::{clear, outcome, read, result_bytes, result_length, texts, Texts};
@@ -26,11 +26,13 @@ fn accepted_samples() -> Vec<(&'static str, Orders)> {
     samples.extend(linked_days());
     samples.extend(cash_days());
     samples.push(("fair-shares", fair_shares()));
+    samples.extend(shifted_days());
+    samples.push(("steps-256", steps_256()));
     samples
 }
 
 /// Each with its refusal.
-const REFUSED_SAMPLES: [(&str, u8); 13] = [
+const REFUSED_SAMPLES: [(&str, u8); 14] = [
     ("refused-1", 1),
     ("refused-2", 2),
     ("refused-3", 3),
@@ -44,6 +46,7 @@ const REFUSED_SAMPLES: [(&str, u8); 13] = [
     ("refused-2-edition-3", 2),
     ("refused-10", 10),
     ("refused-10-order", 10),
+    ("refused-11", 11),
 ];
 
 #[test]
@@ -150,6 +153,18 @@ fn refused_samples_of_edition_3() {
         }
         assert!(read(&book).is_ok(), "{name}");
     }
+}
+
+/// One step of portfolio 2 given to portfolio 1: in edition 4 that is its 257th in hour 1, and
+/// in edition 3 it is accepted.
+#[test]
+fn refused_sample_of_edition_4() {
+    let (mut book, portfolio) = (sample("refused-11", "book"), 16 * 257 + 7);
+    assert_eq!((book[7], book[portfolio]), (4, 1));
+    book[7] = 3;
+    assert!(read(&book).is_ok());
+    (book[7], book[portfolio]) = (4, 2);
+    assert_eq!(book, sample("steps-256", "book"));
 }
 
 /// No sample without a test.

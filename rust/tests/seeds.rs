@@ -1,7 +1,10 @@
 //! The books of a seed stay as they are: a failing comparison names its book by the
 //! seed, and the numbers of the benchmark are those of its books.
 
-use auction_listing::books::{edge_books, pricing_case, small_book, tiny_book, FAMILIES};
+use auction_listing::books::{
+    edge_books, pricing_case, small_book, small_book_on, tiny_book, DAYS, FAMILIES,
+};
+use auction_listing::paper::{clear, result_length};
 
 /// A sum of bytes (FNV-1a) in which their order counts.
 struct Sum(u64);
@@ -50,4 +53,18 @@ fn the_families_of_edition_1_are_those_of_before() {
         let books = (0..20).map(|seed| (family.book)(seed, family.usual_blocks));
         assert_eq!(Sum::of(books), sum, "{name}");
     }
+}
+
+/// A book of edition 1, 2 or 3 with its result behind it.
+fn book_and_result(seed: u64) -> Vec<u8> {
+    let (day, edition) = (DAYS[seed as usize % 3], 1 + seed as u32 / 3 % 3);
+    let book = small_book_on(day, edition, seed);
+    let result = clear(&book, result_length(book.len() / 16)).expect("cleared");
+    [book, result].concat()
+}
+
+/// What is published of editions 1 to 3 is what was published before there was another.
+#[test]
+fn the_results_of_editions_1_to_3_are_those_of_before() {
+    assert_eq!(Sum::of((0..5_000).map(book_and_result)), 0xe70a_59f1_9e1c_d6b3);
 }

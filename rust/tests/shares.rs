@@ -262,7 +262,7 @@ fn the_rule_of_document_01_gives_the_same_prices_blocks_and_welfare() {
 #[test]
 fn rows_away_from_the_price_stay() {
     for seed in 0..count("BOOKS", 300) {
-        let (day, edition) = DAYS_AND_EDITIONS[seed as usize % 9];
+        let (day, edition) = DAYS_AND_EDITIONS[seed as usize % DAYS_AND_EDITIONS.len()];
         let book = read(&shared_book_on(day, edition, seed)).expect("accepted");
         let (new, old) = (best_outcome(&book, fair_shares), best_outcome(&book, filled_in_turn));
         let rows = new.executed.iter().zip(&old.executed);
@@ -363,7 +363,7 @@ fn books_with_groups_at_one_price_are_varied() {
 #[test]
 fn one_side_is_served_in_full() {
     for seed in 0..count("BOOKS", 600) {
-        let (day, edition) = DAYS_AND_EDITIONS[seed as usize % 9];
+        let (day, edition) = DAYS_AND_EDITIONS[seed as usize % DAYS_AND_EDITIONS.len()];
         let book = read(&shared_book_on(day, edition, seed)).expect("accepted");
         for set in 0..1 << book.blocks.len() {
             let Some(outcome) = outcome(&book, set) else { continue };

@@ -49,7 +49,7 @@ fn numbers_and_records() {
 
 #[test]
 fn every_accepted_book_comes_back_to_the_byte() {
-    for (edition, seed) in (0..2_000).flat_map(|seed| [1, 2, 3].map(|edition| (edition, seed))) {
+    for (edition, seed) in (0..2_000).flat_map(|seed| [1, 2, 3, 4].map(|edition| (edition, seed))) {
         let book = small_book_of(edition, seed);
         let text = to_text(&book).unwrap();
         assert_eq!(to_book(&text).unwrap(), book, "small_book_of({edition}, {seed})\n{text}");
@@ -156,9 +156,9 @@ fn errors_of_editions() {
     let block = "block buy hours 1,2 price 10 quantity 1 portfolio 9";
     for (text, message) in [
         ("edition", "line 1: `edition` has no value; expected one after it"),
-        ("edition 0", "line 1: `edition 0`; expected a whole number from 1 to 3"),
-        ("edition 4", "line 1: `edition 4`; expected a whole number from 1 to 3"),
-        ("edition two", "line 1: `edition two`; expected a whole number from 1 to 3"),
+        ("edition 0", "line 1: `edition 0`; expected a whole number from 1 to 4"),
+        ("edition 5", "line 1: `edition 5`; expected a whole number from 1 to 4"),
+        ("edition two", "line 1: `edition two`; expected a whole number from 1 to 4"),
         ("edition 2 3", "line 1: `3` after the edition; expected the end of the line"),
         ("edition 2\nedition 2", "line 2: `edition` stands twice; expected it once"),
         (
@@ -238,7 +238,7 @@ fn errors_of_links() {
     for edition in [1, 2] {
         let error = to_book(&format!("edition {edition}\n{blocks}link child 2 parent 1"));
         let message = format!(
-            "line 5: `link` in edition {edition}; expected `edition 3` in front of all orders"
+            "line 5: `link` in edition {edition}; expected `edition 3` or `edition 4` in front of all orders"
         );
         assert_eq!(error.unwrap_err().to_string(), message);
     }

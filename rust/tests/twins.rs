@@ -5,8 +5,9 @@ mod large_stack;
 
 use auction_listing::books::{
     count, day_edges, edge_books, edition_edges, link_edges, linked_day, linked_days,
-    reader_book_of, reader_book_on, shared_book_on, small_book_of, small_book_on, worked_days,
-    Dice, Shape, DAYS, DAYS_AND_EDITIONS, FAMILIES,
+    reader_book_of, reader_book_on, shared_book_on, shift_edges, shifted_book_on, shifted_days,
+    small_book_of, small_book_on, step_limit_edges, worked_days, Dice, Shape, DAYS,
+    DAYS_AND_EDITIONS, FAMILIES,
 };
 use auction_listing::paper::{self, result_length_for, Published};
 use auction_listing::twin::by_value::{clearing, result::Clearing};
@@ -75,11 +76,12 @@ fn the_twins_clear_small_books_as_the_listing() {
     with_stack(|| {
         let mut space = Workspace::default();
         let linked = linked_days().into_iter().filter(|(name, _)| *name != "linked-chain");
-        for (name, orders) in worked_days().into_iter().chain(linked) {
+        for (name, orders) in worked_days().into_iter().chain(linked).chain(shifted_days()) {
             let book = orders.book();
             compare(name, &book, result_length_for(&book), &mut space);
         }
-        for (edition, seed) in (0..1000).flat_map(|seed| [1, 2, 3].map(|edition| (edition, seed))) {
+        let editions = [1, 2, 3, 4];
+        for (edition, seed) in (0..1000).flat_map(|seed| editions.map(|edition| (edition, seed))) {
             let book = small_book_of(edition, seed);
             let name = format!("small_book_of({edition}, {seed})");
             compare(&name, &book, result_length_for(&book), &mut space);
@@ -92,9 +94,9 @@ fn the_twins_refuse_as_the_listing() {
     with_stack(|| {
         let mut space = Workspace::default();
         let damaged =
-            (0..400).flat_map(|seed| [1, 2, 3].map(|edition| reader_book_of(edition, seed)));
-        let edges = edge_books().into_iter().chain(edition_edges()).chain(link_edges());
-        for (i, book) in edges.chain(damaged).enumerate() {
+            (0..400).flat_map(|seed| [1, 2, 3, 4].map(|edition| reader_book_of(edition, seed)));
+        let limits = edition_edges().into_iter().chain(link_edges()).chain(step_limit_edges());
+        for (i, book) in edge_books().into_iter().chain(limits).chain(damaged).enumerate() {
             compare_sizes(&format!("damaged book {i}"), &book, &mut space);
         }
     });
@@ -127,6 +129,24 @@ fn the_twins_count_the_hours_as_the_listing() {
                 let book = reader_book_on(day, edition, seed);
                 compare_sizes(&format!("reader_book_{of_seed}"), &book, &mut space);
             }
+        }
+    });
+}
+
+/// Prices that give way: blocks that trade with each other, and limits at the edges.
+#[test]
+fn the_twins_shift_as_the_listing() {
+    with_stack(|| {
+        let mut space = Workspace::default();
+        for (i, book) in shift_edges().iter().enumerate() {
+            let name = format!("edge {i} of the shift");
+            compare(&name, book, result_length_for(book), &mut space);
+        }
+        for seed in 0..count("BOOKS", 3_000) {
+            let day = DAYS[seed as usize % DAYS.len()];
+            let book = shifted_book_on(day, 4, seed);
+            let name = format!("shifted_book_on({day}, 4, {seed})");
+            compare(&name, &book, result_length_for(&book), &mut space);
         }
     });
 }

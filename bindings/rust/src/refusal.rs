@@ -18,12 +18,13 @@ pub enum Refusal {
     Call = header::REFUSED_CALL,
     Hours = header::REFUSED_HOURS,
     Link = header::REFUSED_LINK,
+    Steps = header::REFUSED_STEPS,
     List = header::REFUSED_LIST,
 }
 
 impl Refusal {
     /// All of them, in rising number.
-    pub const ALL: [Refusal; 11] = [
+    pub const ALL: [Refusal; 12] = [
         Refusal::Length,
         Refusal::Head,
         Refusal::Chain,
@@ -34,6 +35,7 @@ impl Refusal {
         Refusal::Call,
         Refusal::Hours,
         Refusal::Link,
+        Refusal::Steps,
         Refusal::List,
     ];
 

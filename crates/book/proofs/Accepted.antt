@@ -10,6 +10,7 @@ use lib.Dec.{eqb, leb, ltb}
 use lib.ListN.{length}
 use Rattle.records.specs.Bytes.{nonzero}
 use Rattle.records.specs.Layout.{recordSize, headRestOffset, headRestSize, stepKind, blockKind, linkKind, lastSide, lastHour}
+use Rattle.book.specs.Bounds.{firstStepLimitEdition, hourNumbers, mostStepsInHour}
 use Rattle.book.specs.Bounds.{mostRecords, firstEdition, lastEdition, lastPortfolio, portfolioNumbers, mostStepQuantity, fewestHours, mostBlocks}
 use Rattle.book.specs.Tests.{within, someBelow, countIn, member}
 use Rattle.rules.specs.Orders.{maxPrice, Limits, limits}
@@ -21,6 +22,7 @@ use Rattle.book.specs.Chains.{chainFrom, firstOn, kindOn, chainOf, isOn,
 use Rattle.book.specs.Refusals.{wrongSize, linksTooEarly, wrongHead, brokenChain, wrongFieldOn, wrongField, stray, strayRecord}
 use Rattle.book.specs.Refusals.{ownedBy, tooManyOf, tooManyBlocks}
 use Rattle.book.specs.Refusals.{uncounted, uncountedOn, wrongHours, hasBlock, misnamed, wrongLink, firstCause, ownCauses, refusal, Accepted}
+use Rattle.book.specs.Refusals.{stepsFor, tooManySteps}
 use Rattle.book.specs.Refusals.{stepFits, blockFits, stepInRange, blockInRange, linkInRange, recordInRange, outOfRange}
 use Rattle.records.specs.declared.Step.{Step}
 use Rattle.records.specs.declared.Block.{Block}
@@ -33,6 +35,7 @@ use Rattle.book.proofs.Members.{Each, each-map, each-both, each-member,
 use Rattle.book.proofs.Distinct.{Placed, placed, Rising, rising, distinct, apart, chain-positive, chain-short, chain-whole}
 use Rattle.book.proofs.Distinct.{on-some, on-none, unbroken, chains-fit, stray-short}
 use Rattle.book.proofs.Refused.{bounds, count-bounds}
+use Rattle.book.proofs.StepCounts.{within-limit}
 
 -- A cause passed over does not hold
 passed : (holds : Bool) (n after : ℕ) → cond holds (suc n) after ≡ 0 → (holds ≡ false) × (after ≡ 0)
@@ -51,6 +54,7 @@ accepted b e =
     let p6 = passed (tooManyBlocks b) 5 _ (p5 .1) in
     let p9 = passed (wrongHours b) 8 _ (p6 .1) in
     let p10 = passed (wrongLink b) 9 _ (p9 .1) in
+    let p11 = passed (tooManySteps b) 10 _ (p10 .1) in
     record {
       rightSize = p1 .0;
       rightHead = p2 .0;
@@ -60,12 +64,24 @@ accepted b e =
       notTooMany = p6 .0;
       rightHours = p9 .0;
       rightLinks = p10 .0;
+      notTooManySteps = p11 .0;
     }
 
 -- .. and the number of an accepted book is 0
 pub accepted-zero : (b : List ℕ) → Accepted b → refusal b ≡ 0
 unfolding refusal ownCauses firstCause
-accepted-zero b a = rw (a .rightSize, a .rightHead, a .unbroken, a .inRange, a .noStray, a .notTooMany, a .rightHours, a .rightLinks)
+accepted-zero b a =
+    rw (
+      a .rightSize,
+      a .rightHead,
+      a .unbroken,
+      a .inRange,
+      a .noStray,
+      a .notTooMany,
+      a .rightHours,
+      a .rightLinks,
+      a .notTooManySteps,
+    )
 
 -- The length is 16 × R
 pub size : (b : List ℕ) → Accepted b → length b ≡ recordSize * recordCount b
@@ -156,6 +172,11 @@ unfolding tooManyBlocks tooManyOf blockOrder
 portfolio-few b a p h =
     ltb-false (limits (edition b) .blocksOfPortfolio) (countIn (chainOf b chain-of.Blocks) (ownedBy b p))
     (none-below portfolioNumbers (tooManyOf b) (or-right (ltb mostBlocks (countOn b chain-of.Blocks)) _ (a .notTooMany)) p h)
+
+-- .. nor, from edition 4 on, more than 256 steps in one hour
+pub hour-few : (b : List ℕ) → Accepted b → firstStepLimitEdition ≤ edition b → (h p : ℕ) → h < hourNumbers → p < portfolioNumbers
+    → stepsFor b h p ≤ mostStepsInHour
+hour-few b a limited h p = within-limit b (a .notTooManySteps) limited h p
 
 -- A record of one chain is on no other
 only-on : (b : List ℕ) → Accepted b → (c d : Chain) → (kindOn c ≡ kindOn d → ⊥) → (i : ℕ) → member i (chainOf b c) ≡ true → member i (chainOf b d) ≡ false

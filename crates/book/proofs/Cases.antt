@@ -1,8 +1,9 @@
--- Small books decided by the definitions alone, among them document 01's head alone, the record that is its own next, hour 3 on each day, and links.
--- Each line of bytes is a record. Assumes nothing.
+-- Small books decided by the definitions alone, among them document 01's head alone, the record that is its own next, hour 3 on each day, links, and steps
+-- of one portfolio and hour. Each line of bytes is a record. Assumes nothing.
 use Prim.Native.Nat.{ℕ, zero, suc, _+_}
 use mathlib.Core.Path.{_≡_, refl}
 use mathlib.Core.List.{List, [], _∷_}
+use mathlib.Core.Bool.{true, false}
 use Rattle.records.specs.Bytes.{u16At, u24At, u32At, nonzero}
 use Rattle.book.specs.Tests.{within, someBelow, someIn, countIn}
 use Rattle.rules.specs.Orders.{limits}
@@ -12,7 +13,7 @@ use Rattle.book.specs.Chains.{chainFrom, chains, isOn, stepOrder, blockO
 use Rattle.book.specs.Refusals.{wrongSize, linksTooEarly, wrongHead, misplaced, broken, brokenOn, brokenChain, stepFits, blockFits, stepInRange}
 use Rattle.book.specs.Refusals.{blockInRange, linkInRange, recordInRange, outOfRange, wrongFieldOn, wrongField, stray, strayRecord, ownedBy}
 use Rattle.book.specs.Refusals.{tooManyOf, tooManyBlocks, uncounted, uncountedOn, wrongHours, isNumber, hasBlock, misnamed, wrongLink}
-use Rattle.book.specs.Refusals.{firstCause, ownCauses, refusal}
+use Rattle.book.specs.Refusals.{isFor, stepsFor, moreStepsIn, moreSteps, tooManySteps, firstCause, ownCauses, refusal}
 use Rattle.book.specs.Hours.{countedHours}
 use Rattle.book.specs.Answers.{reading}
 use Rattle.book.specs.declared.Reading.the-variants as reading-of
@@ -120,7 +121,7 @@ unfolding
     recordAt hoursSet chainFrom chains isOn stepOrder blockOrder linkOrder links wrongSize linksTooEarly wrongHead misplaced broken brokenOn brokenChain
     stepFits blockFits stepInRange
     blockInRange recordInRange outOfRange wrongFieldOn wrongField stray strayRecord ownedBy tooManyOf tooManyBlocks weight isCounted sumTo daySum countedHours
-    uncounted uncountedOn wrongHours wrongLink firstCause ownCauses refusal reading
+    uncounted uncountedOn wrongHours wrongLink tooManySteps firstCause ownCauses refusal reading
 decided = record {
   head = refl;
   orders = refl;
@@ -144,7 +145,9 @@ decided = record {
 pub record Editions : Type 0 where
   pub second : reading (headOf 2) ≡ reading-of.Accepted 0 0
   pub third : reading (headOf 3) ≡ reading-of.Accepted 0 0
-  pub fourth : reading (headOf 4) ≡ reading-of.Refused 2
+  pub fourth : reading (headOf 4) ≡ reading-of.Accepted 0 0
+  pub fifth : reading (headOf 5) ≡ reading-of.Refused 2
+  pub zeroth : reading (headOf 0) ≡ reading-of.Refused 2
   pub most : reading (blockOf 1 50) ≡ reading-of.Accepted 0 1
   pub tooMuch : reading (blockOf 1 51) ≡ reading-of.Refused 4
   pub mostOfNotice : reading (blockOf 2 250) ≡ reading-of.Accepted 0 1
@@ -155,18 +158,26 @@ pub record Editions : Type 0 where
   pub tenOfNotice : reading (portfolioOf 2 10) ≡ reading-of.Accepted 0 10
   pub elevenOfNotice : reading (portfolioOf 2 11) ≡ reading-of.Refused 6
   pub elevenWithLinks : reading (portfolioOf 3 11) ≡ reading-of.Refused 6
+  -- edition 4 has all of edition 3
+  pub mostOfFourth : reading (blockOf 4 250) ≡ reading-of.Accepted 0 1
+  pub tooMuchOfFourth : reading (blockOf 4 251) ≡ reading-of.Refused 4
+  pub tenOfFourth : reading (portfolioOf 4 10) ≡ reading-of.Accepted 0 10
+  pub elevenOfFourth : reading (portfolioOf 4 11) ≡ reading-of.Refused 6
 
 pub at-the-limits : Editions
 unfolding
     headOf blockOf blocksFrom portfolioOf u16At u24At u32At nonzero within someBelow someIn countIn limits stepAt blockAt recordAt hoursSet
     chainFrom chains isOn stepOrder blockOrder linkOrder links wrongSize linksTooEarly wrongHead misplaced broken brokenOn brokenChain stepFits blockFits
     stepInRange blockInRange
-    recordInRange outOfRange wrongFieldOn wrongField stray strayRecord ownedBy tooManyOf tooManyBlocks wrongHours wrongLink firstCause ownCauses refusal reading
+    recordInRange outOfRange wrongFieldOn wrongField stray strayRecord ownedBy tooManyOf tooManyBlocks wrongHours wrongLink
+    isFor stepsFor moreStepsIn moreSteps tooManySteps firstCause ownCauses refusal reading
 at-the-limits =
     record {
       second = refl;
       third = refl;
       fourth = refl;
+      fifth = refl;
+      zeroth = refl;
       most = refl;
       tooMuch = refl;
       mostOfNotice = refl;
@@ -177,6 +188,10 @@ at-the-limits =
       tenOfNotice = refl;
       elevenOfNotice = refl;
       elevenWithLinks = refl;
+      mostOfFourth = refl;
+      tooMuchOfFourth = refl;
+      tenOfFourth = refl;
+      elevenOfFourth = refl;
     }
 
 -- LINKS
@@ -199,12 +214,14 @@ linked child parent = familyOf 24 3 3 3 (linkBytes 0 0 child parent 0)
 
 pub record Links : Type 0 where
   pub good : reading (linked 4 2) ≡ reading-of.Accepted 0 2
+  pub goodInFourth : reading (familyOf 24 4 3 3 (linkBytes 0 0 4 2 0)) ≡ reading-of.Accepted 0 2
   -- 10: the parent is 0, the parent or the child is not in the book, the parent is the child, or has the higher number
   pub noParent : reading (linked 4 0) ≡ reading-of.Refused 10
   pub parentMissing : reading (linked 4 3) ≡ reading-of.Refused 10
   pub childMissing : reading (linked 3 2) ≡ reading-of.Refused 10
   pub ownParent : reading (linked 4 4) ≡ reading-of.Refused 10
   pub parentAbove : reading (linked 2 4) ≡ reading-of.Refused 10
+  pub noParentInFourth : reading (familyOf 24 4 3 3 (linkBytes 0 0 4 0 0)) ≡ reading-of.Refused 10
   -- 9 and 10 together: blocks over hours 2 and 3 on 23 hours
   pub nineFirst : reading (familyOf 23 3 6 3 (linkBytes 0 0 4 0 0)) ≡ reading-of.Refused 9
   -- 2: editions without links
@@ -224,15 +241,18 @@ unfolding
     familyOf linkBytes linked u16At u24At u32At nonzero within someBelow someIn countIn limits stepAt blockAt linkAt linkRest recordAt hoursSet
     chainFrom chains isOn stepOrder blockOrder linkOrder links wrongSize linksTooEarly wrongHead misplaced broken brokenOn brokenChain stepFits blockFits
     stepInRange blockInRange linkInRange recordInRange outOfRange wrongFieldOn wrongField stray strayRecord ownedBy tooManyOf tooManyBlocks weight isCounted
-    sumTo daySum countedHours uncounted uncountedOn wrongHours isNumber hasBlock misnamed wrongLink firstCause ownCauses refusal reading
+    sumTo daySum countedHours uncounted uncountedOn wrongHours isNumber hasBlock misnamed wrongLink
+    isFor stepsFor moreStepsIn moreSteps tooManySteps firstCause ownCauses refusal reading
 links-decided =
     record {
       good = refl;
+      goodInFourth = refl;
       noParent = refl;
       parentMissing = refl;
       childMissing = refl;
       ownParent = refl;
       parentAbove = refl;
+      noParentInFourth = refl;
       nineFirst = refl;
       second = refl;
       childZero = refl;
@@ -242,3 +262,28 @@ links-decided =
       lastSet = refl;
       offChain = refl;
     }
+
+-- STEPS OF A PORTFOLIO IN AN HOUR
+-- In edition 4 a buy and a sell, each of an hour and a portfolio
+pub twoSteps : (buyHour buyer sellHour seller : ℕ) → List ℕ
+twoSteps buyHour buyer sellHour seller =
+    0 ∷ 3 ∷ 0 ∷ 1 ∷ 0 ∷ 0 ∷ 24 ∷ 4 ∷ 0 ∷ 0 ∷ 0 ∷ 0 ∷ 0 ∷ 0 ∷ 0 ∷ 0
+    ∷ 1 ∷ 0 ∷ 0 ∷ 2 ∷ 0 ∷ 1 ∷ buyHour ∷ buyer ∷ 0 ∷ 0 ∷ 19 ∷ 136 ∷ 0 ∷ 0 ∷ 0 ∷ 100
+    ∷ 1 ∷ 1 ∷ 0 ∷ 0 ∷ 0 ∷ 2 ∷ sellHour ∷ seller ∷ 0 ∷ 0 ∷ 11 ∷ 184 ∷ 0 ∷ 0 ∷ 0 ∷ 100
+    ∷ []
+
+-- More than one step of a portfolio in one hour, or more than two
+pub record StepsInHour : Type 0 where
+  -- both sides count together, and a limit is kept by as many steps
+  pub together : moreSteps 1 (twoSteps 7 3 7 3) ≡ true
+  pub asMany : moreSteps 2 (twoSteps 7 3 7 3) ≡ false
+  -- each hour and each portfolio by itself
+  pub otherHour : moreSteps 1 (twoSteps 7 3 8 3) ≡ false
+  pub otherPortfolio : moreSteps 1 (twoSteps 7 3 7 4) ≡ false
+  -- the first and the last hour and portfolio
+  pub first : moreSteps 1 (twoSteps 1 1 1 1) ≡ true
+  pub last : moreSteps 1 (twoSteps 24 255 24 255) ≡ true
+
+pub steps-counted : StepsInHour
+unfolding twoSteps u16At someBelow countIn chainFrom ownedBy isFor stepsFor moreStepsIn moreSteps
+steps-counted = record { together = refl; asMany = refl; otherHour = refl; otherPortfolio = refl; first = refl; last = refl }

@@ -2,6 +2,7 @@
 pub mod Laws
 pub mod HourLaws
 pub mod Members
+pub mod StepCounts
 pub mod Distinct
 pub mod Surveys
 pub mod Refused

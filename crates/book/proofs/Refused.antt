@@ -12,9 +12,9 @@ use Rattle.book.specs.Tests.{within, someBelow}
 use Rattle.records.specs.Layout.{recordSize}
 use Rattle.records.specs.Records.{recordCount}
 use Rattle.book.specs.Bounds.{mostRecords, portfolioNumbers, mostBlocks}
-use Rattle.book.specs.Chains.{stepOrder, blockOrder}
+use Rattle.book.specs.Chains.{countOn, stepOrder, blockOrder}
 use Rattle.book.specs.Refusals.{wrongSize, wrongHead, brokenOn, brokenChain, wrongFieldOn, wrongField, strayRecord, tooManyOf, tooManyBlocks}
-use Rattle.book.specs.Refusals.{wrongHours, wrongLink, firstCause, ownCauses, refusal}
+use Rattle.book.specs.Refusals.{wrongHours, wrongLink, tooManySteps, firstCause, ownCauses, refusal}
 use Rattle.book.specs.Passes.{surveyed, nextFound}
 use Rattle.book.specs.Answers.{reading, numberOf}
 use Rattle.book.specs.declared.Chain.the-variants as chain-of
@@ -83,7 +83,8 @@ refusal-size b e = rw e
 -- .. and without it the others are looked for
 pub without-size : (b : List ℕ) → wrongSize b ≡ false
     → Left b 0
-    ((wrongHead b, 2) ∷ (brokenChain b, 3) ∷ (wrongField b, 4) ∷ (strayRecord b, 5) ∷ (tooManyBlocks b, 6) ∷ (wrongHours b, 9) ∷ (wrongLink b, 10) ∷ [])
+    ((wrongHead b, 2) ∷ (brokenChain b, 3) ∷ (wrongField b, 4) ∷ (strayRecord b, 5) ∷ (tooManyBlocks b, 6) ∷ (wrongHours b, 9) ∷ (wrongLink b, 10)
+    ∷ (tooManySteps b, 11) ∷ [])
 unfolding refusal ownCauses firstCause Left
 without-size b e = rw e
 
@@ -110,6 +111,11 @@ pub many-found : (b : List ℕ) (t : Surveyed) (crowded : Bool) → t ≡ survey
     → (ltb mostBlocks (t .length) || crowded) ≡ tooManyBlocks b
 unfolding tooManyBlocks surveyed
 many-found b t crowded q e = rw (q, e)
+
+-- The length of the chain of steps, for 11
+pub steps-long : (b : List ℕ) (s : Surveyed) → s ≡ surveyed b chain-of.Steps → s .length ≡ countOn b chain-of.Steps
+unfolding surveyed
+steps-long b s p = rw p
 
 -- THE ANSWER
 -- The lengths of their chains are how many steps and blocks there are
@@ -212,7 +218,8 @@ first-append m (cause ∷ l) n o = at (cause .0) (first-append (cause .1) l n (o
 
 own-ordered : (b : List ℕ) → Ordered 0 (ownCauses b)
 unfolding ownCauses
-own-ordered b = (omega arith, (omega arith, (omega arith, (omega arith, (omega arith, (omega arith, (omega arith, (omega arith, tt))))))))
+own-ordered b =
+    (omega arith, (omega arith, (omega arith, (omega arith, (omega arith, (omega arith, (omega arith, (omega arith, (omega arith, tt)))))))))
 
 -- None is given without its cause ..
 pub with-cause : (b : List ℕ) → (refusal b ≡ 0 → ⊥) → holds (ownCauses b) (refusal b) ≡ true

@@ -6,16 +6,20 @@ use Prim.Native.Nat.{ℕ}
 abbrev pub mostRecords : ℕ
 mostRecords = 2048
 
--- The editions that there are, in the head: 1 to 3
+-- The editions that there are, in the head: 1 to 4
 abbrev pub firstEdition : ℕ
 firstEdition = 1
 
 abbrev pub lastEdition : ℕ
-lastEdition = 3
+lastEdition = 4
 
 -- The first edition with links
 abbrev pub firstLinkEdition : ℕ
 firstLinkEdition = 3
+
+-- The first edition with a limit on steps
+abbrev pub firstStepLimitEdition : ℕ
+firstStepLimitEdition = 4
 
 -- The last portfolio: 1 to 255
 abbrev pub lastPortfolio : ℕ
@@ -28,6 +32,14 @@ portfolioNumbers = 256
 -- The largest quantity of a step: 1 to 99,999
 abbrev pub mostStepQuantity : ℕ
 mostStepQuantity = 99999
+
+-- The numbers that a step's hour, 1 to 24, can be: below 25
+abbrev pub hourNumbers : ℕ
+hourNumbers = 25
+
+-- The most steps of a portfolio in one hour: 256
+abbrev pub mostStepsInHour : ℕ
+mostStepsInHour = 256
 
 -- The fewest hours of a block: at least two are set
 abbrev pub fewestHours : ℕ

@@ -1,4 +1,4 @@
--- The causes for which a book is refused, 1 to 6 in the words of document 01, "Refused books and calls", 9 and 10 in those of document 02.
+-- The causes for which a book is refused, 1 to 6 in the words of document 01, "Refused books and calls", 9 to 11 in those of document 02.
 -- The causes of a call (7 a result buffer, 8 an hour or a set) belong to the calls; they are looked for after these. Assumes nothing.
 use Prim.Native.Nat.{ℕ, _*_}
 use mathlib.Core.Path.{_≡_}
@@ -12,8 +12,8 @@ use Rattle.book.specs.Tests.{within, someBelow, someIn, countIn}
 use Rattle.rules.specs.Orders.{maxPrice, Limits, limits}
 use Rattle.rules.specs.Day.{springHours, autumnHours, isCounted}
 use Rattle.records.specs.Records.{recordCount, firstLink, dayHours, edition, kind, sideByte, number, hourByte, portfolio, recordAt, linkRest, hoursSet}
-use Rattle.book.specs.Bounds.{mostRecords, firstEdition, lastEdition, firstLinkEdition, lastPortfolio, portfolioNumbers}
-use Rattle.book.specs.Bounds.{mostStepQuantity, fewestHours, mostBlocks}
+use Rattle.book.specs.Bounds.{mostRecords, firstEdition, lastEdition, firstLinkEdition, firstStepLimitEdition, lastPortfolio, portfolioNumbers}
+use Rattle.book.specs.Bounds.{mostStepQuantity, hourNumbers, mostStepsInHour, fewestHours, mostBlocks}
 use Rattle.book.specs.Hours.{countedHours}
 use Rattle.book.specs.Chains.{chains, kindOn, numbered, chainOf, isOn, countOn, blockOrder, links}
 use Rattle.records.specs.declared.Step.{Step}
@@ -148,6 +148,26 @@ misnamed b l = not (hasBlock b (l .child)) || not (hasBlock b (l .parent)) || le
 unfoldable pub wrongLink : List ℕ → Bool
 wrongLink b = someIn (links b) (misnamed b)
 
+-- Record i is for hour h, of portfolio p
+unfoldable pub isFor : List ℕ → (h p i : ℕ) → Bool
+isFor b h p i = eqb (hourByte b i) h && ownedBy b p i
+
+-- How many steps portfolio p has in hour h, both sides together
+unfoldable pub stepsFor : List ℕ → (h p : ℕ) → ℕ
+stepsFor b h p = countIn (chainOf b chain-of.Steps) (isFor b h p)
+
+-- Some portfolio has more than so many steps in hour h
+unfoldable pub moreStepsIn : ℕ → List ℕ → ℕ → Bool
+moreStepsIn most b h = someBelow portfolioNumbers (λ p. ltb most (stepsFor b h p))
+
+-- Some portfolio has more than so many steps in one hour
+unfoldable pub moreSteps : ℕ → List ℕ → Bool
+moreSteps most b = someBelow hourNumbers (moreStepsIn most b)
+
+-- 11: more than 256 steps of a portfolio in one hour, in an edition with this limit
+unfoldable pub tooManySteps : List ℕ → Bool
+tooManySteps b = leb firstStepLimitEdition (edition b) && moreSteps mostStepsInHour b
+
 -- The number of the first cause of a list that holds; 0 where none does
 unfoldable pub firstCause : List (Bool × ℕ) → ℕ
 firstCause [] = 0
@@ -164,6 +184,7 @@ ownCauses b =
     ∷ (tooManyBlocks b, 6)
     ∷ (wrongHours b, 9)
     ∷ (wrongLink b, 10)
+    ∷ (tooManySteps b, 11)
     ∷ []
 
 -- The number for which a book by itself is refused; 0, which is ours, where it is accepted
@@ -180,3 +201,4 @@ pub record Accepted (b : List ℕ) : Type 0 where
   pub notTooMany : tooManyBlocks b ≡ false
   pub rightHours : wrongHours b ≡ false
   pub rightLinks : wrongLink b ≡ false
+  pub notTooManySteps : tooManySteps b ≡ false

@@ -1,4 +1,4 @@
-// The causes for which a book by itself is refused, 1 to 6 (document 01, "Refused books and calls"), 9 and 10 (document 02), and the first
+// The causes for which a book by itself is refused, 1 to 6 (document 01, "Refused books and calls"), 9 to 11 (document 02), and the first
 // of them that holds. Assumes nothing.
 ghost use mathlib.Core.Path.{_≡_};
 ghost use mathlib.Core.Bool.{false};
@@ -6,7 +6,8 @@ ghost use Prim.Native.Nat.{_+_};
 ghost use lib.Dec.{ltb};
 ghost use Rattle.book.specs.Bounds.{portfolioNumbers};
 ghost use Rattle.book.specs.Tests.{someBelow};
-ghost use Rattle.book.specs.Refusals.{wrongSize, linksTooEarly, wrongHead, tooManyOf, wrongHours, wrongLink, refusal};
+ghost use Rattle.book.specs.Chains.{countOn};
+ghost use Rattle.book.specs.Refusals.{wrongSize, linksTooEarly, wrongHead, tooManyOf, wrongHours, wrongLink, tooManySteps, refusal};
 ghost use Rattle.book.specs.Passes.{surveyed, nextFound};
 ghost use Rattle.book.specs.declared.Chain.the-variants.{Steps, Blocks, Links};
 use crate::Chain;
@@ -14,9 +15,11 @@ use crate::Surveyed;
 use crate::bounds::AUTUMN_HOURS;
 use crate::bounds::FIRST_EDITION;
 use crate::bounds::FIRST_LINK_EDITION;
+use crate::bounds::FIRST_STEP_LIMIT_EDITION;
 use crate::bounds::LAST_EDITION;
 use crate::bounds::MOST_BLOCKS;
 use crate::bounds::MOST_RECORDS;
+use crate::bounds::MOST_STEPS_IN_HOUR;
 use crate::bounds::PORTFOLIO_NUMBERS;
 use crate::bounds::SPRING_HOURS;
 use crate::chains::counts_by_portfolio;
@@ -24,6 +27,7 @@ use crate::chains::is_uncounted_on;
 use crate::links::has_wrong_link;
 use crate::ranges::is_within;
 use crate::ranges::most_blocks_of_portfolio;
+use crate::steps::has_more_steps;
 use records::HEAD_REST_OFFSET;
 use records::HEAD_REST_SIZE;
 use records::RECORD_SIZE;
@@ -114,6 +118,22 @@ fn finds_wrong_link(book: &[u8], before: u8) -> bool
     has_wrong_link(book)
 }
 
+// 11, looked for only where no other cause holds, in an edition with this limit, and where the chain has more steps than one portfolio may have in one hour.
+fn finds_too_many_steps(book: &[u8], steps: u16, before: u8) -> bool
+    ensures { λ r. ⌜ (before ≡ 0 → steps ≡ countOn (now (book .entry)) Steps → r ≡ tooManySteps (now (book .entry))) ⌝ }
+{
+    if before != 0 {
+        return false;
+    }
+    if edition_of(book) < FIRST_STEP_LIMIT_EDITION {
+        return false;
+    }
+    if steps <= MOST_STEPS_IN_HOUR {
+        return false;
+    }
+    has_more_steps(book)
+}
+
 // One cause more: the number that those before it gave, else, where it holds, its own.
 fn next_found(before: u8, holds: bool, number: u8) -> u8
     ensures { λ r. ⌜ r ≡ nextFound before holds number ⌝ }
@@ -145,5 +165,7 @@ pub fn refusal_of(book: &[u8], steps: Surveyed, blocks: Surveyed, links: Surveye
     let many = (MOST_BLOCKS < blocks.length) | has_crowded_portfolio(book);
     let crowded = next_found(stray, many, 6);
     let uncounted = next_found(crowded, has_wrong_hours(book), 9);
-    next_found(uncounted, finds_wrong_link(book, uncounted), 10)
+    let misnamed = next_found(uncounted, finds_wrong_link(book, uncounted), 10);
+    let too_many = finds_too_many_steps(book, steps.length, misnamed);
+    next_found(misnamed, too_many, 11)
 }

@@ -5,11 +5,12 @@ ghost use Rattle.book.specs.Answers.{reading};
 use crate::chains::survey_of;
 
 mod bounds; // how large a book and its fields may be
-mod causes; // the causes 1 to 6, 9 and 10, and the first of them that holds
+mod causes; // the causes 1 to 6 and 9 to 11, and the first of them that holds
 mod chains; // records that hang together by `next`
 pub mod hours; // which hours count on their day, and how often
 mod links; // cause 10, along the links
 mod ranges; // the ranges of a record's fields
+mod steps; // cause 11, along the steps
 
 pub use bounds::MAX_PRICE;
 pub use bounds::MOST_BLOCKS;
@@ -35,7 +36,7 @@ pub enum Reading {
     Refused(u8),
 }
 
-// Whether a book is accepted, and if not the lowest of the numbers 1 to 6, 9 and 10 whose cause holds.
+// Whether a book is accepted, and if not the lowest of the numbers 1 to 6 and 9 to 11 whose cause holds.
 pub fn read(book: &[u8]) -> Reading
     ensures { λ r. ⌜ r ≡ reading (now (book .entry)) ⌝ }
 {

@@ -20,6 +20,7 @@ use orders::layout::HOURS;
 use orders::parents_of;
 use orders::steps_of;
 use records::day_hours;
+use records::edition_of;
 use records::record_count;
 use result::Clearing;
 use result::RECORD_ROW;
@@ -52,6 +53,7 @@ fn clear_within(
         × BlocksFit (rowWidth (now «unit_prices»)) blocks ⌝ }
     ensures { λ _. ⌜ now (result .exit) ≡ resultBytes (now (book .entry)) ⌝ }
 {
+    let edition = edition_of(book);
     let day = day_hours(book);
     let count = record_count(book) as usize;
     let sides = steps.sides;
@@ -60,6 +62,7 @@ fn clear_within(
     let ends = steps.ends;
     let parents = parents_of(book);
     let prepared = prepare(
+        edition,
         day,
         &sides,
         &prices,

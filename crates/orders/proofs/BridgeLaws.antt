@@ -47,6 +47,11 @@ pub day-blocks : (b : List ℕ) → dayFrom b .blocks ≡ map (blockOn b) (block
 unfolding dayFrom dayOf ordersOf canonical
 day-blocks b = blocks-on b (blockOrder b)
 
+-- The day follows the book's edition
+pub day-edition : (b : List ℕ) → dayFrom b .edition ≡ edition b
+unfolding dayFrom dayOf ordersOf canonical
+day-edition b = refl
+
 -- The day has as many hours as the head says, 23 to 25
 pub day-hours-read : (b : List ℕ) → dayFrom b .hours ≡ dayHours b
 unfolding dayFrom dayOf ordersOf canonical

@@ -1,5 +1,5 @@
--- S1 TO S10, THE DAYS OF 23 AND 25 HOURS AND LINKS, FROM BOOK BYTES: each book is accepted, its orders are those of the rules' table, and so what is published
--- of it is what the table says. Reading computes; the rules are not computed again. Assumes nothing.
+-- S1 TO S10, THE DAYS OF 23 AND 25 HOURS, LINKS AND SHIFTED PRICES, FROM BOOK BYTES: each book is accepted, its orders are those of the rules' table, and so
+-- what is published of it is what the table says. Reading computes; the rules are not computed again. Assumes nothing.
 use Prim.Native.Nat.{ℕ}
 use mathlib.Core.Path.{_≡_, refl, ap, _∙_}
 use mathlib.Core.List.{List, [], _∷_}
@@ -38,6 +38,11 @@ use Rattle.book.specs.Refusals.{
   hasBlock,
   misnamed,
   wrongLink,
+  isFor,
+  stepsFor,
+  moreStepsIn,
+  moreSteps,
+  tooManySteps,
   firstCause,
   ownCauses,
   refusal,
@@ -45,11 +50,11 @@ use Rattle.book.specs.Refusals.{
 use Rattle.book.specs.Hours.{countedHours}
 use Rattle.rules.specs.Day.{weight, isCounted, sumTo, daySum}
 use Rattle.rules.specs.Outcome.{published}
-use Rattle.rules.specs.WorkedDays.{WorkedDay, workedDays, changeDays, linkedDays, Hold}
-use Rattle.rules.proofs.WorkedDayLaws.{worked-days-hold, change-days-hold, linked-days-hold}
+use Rattle.rules.specs.WorkedDays.{WorkedDay, workedDays, changeDays, linkedDays, shiftedDays, Hold}
+use Rattle.rules.proofs.WorkedDayLaws.{worked-days-hold, change-days-hold, linked-days-hold, shifted-days-hold}
 use Rattle.orders.specs.Bridge.{stepFrom, orderFrom, blockFrom, linkFrom, ordersOf}
 use Rattle.orders.specs.Columns.{blockRecords, padded, parentAmong, placeAmong, parentPlaceIn, parentPlaceAt, parentColumn}
-use Rattle.orders.specs.WorkedBooks.{chained, bookWith, workedBooks, changeBooks, linkedBooks, familyBook, EachWorked}
+use Rattle.orders.specs.WorkedBooks.{chained, bookWith, workedBooks, changeBooks, linkedBooks, shiftedBooks, familyBook, EachWorked}
 
 -- Every book of a list is accepted
 AllAccepted : List (List ℕ) → Type 0
@@ -78,6 +83,7 @@ books-accepted : AllAccepted workedBooks
 unfolding AllAccepted workedBooks bookWith chained refusal ownCauses firstCause wrongSize linksTooEarly wrongHead brokenChain brokenOn broken misplaced wrongField wrongFieldOn
     outOfRange recordInRange stepInRange blockInRange stepFits blockFits strayRecord stray tooManyBlocks tooManyOf ownedBy within someBelow someIn countIn
     nonzero limits hoursSet recordAt stepAt blockAt chainFrom chains isOn linkOrder links u16At u24At u32At wrongHours wrongLink
+    tooManySteps
 books-accepted = (refl, (refl, (refl, (refl, (refl, (refl, (refl, (refl, (refl, (refl, tt))))))))))
 
 books-read : AllRead workedBooks workedDays
@@ -93,7 +99,7 @@ change-books-accepted : AllAccepted changeBooks
 unfolding AllAccepted changeBooks bookWith chained refusal ownCauses firstCause wrongSize linksTooEarly wrongHead brokenChain brokenOn broken misplaced wrongField wrongFieldOn
     outOfRange recordInRange stepInRange blockInRange stepFits blockFits strayRecord stray tooManyBlocks tooManyOf ownedBy within someBelow someIn countIn
     nonzero limits hoursSet recordAt stepAt blockAt chainFrom chains isOn linkOrder links u16At u24At u32At
-    wrongLink wrongHours uncountedOn uncounted countedHours isCounted weight daySum sumTo
+    wrongLink tooManySteps wrongHours uncountedOn uncounted countedHours isCounted weight daySum sumTo
 change-books-accepted = (refl, (refl, (refl, (refl, tt))))
 
 change-books-read : AllRead changeBooks changeDays
@@ -108,7 +114,7 @@ linked-books-accepted : AllAccepted linkedBooks
 unfolding AllAccepted linkedBooks bookWith chained refusal ownCauses firstCause wrongSize linksTooEarly wrongHead brokenChain brokenOn broken misplaced wrongField
     wrongFieldOn outOfRange recordInRange stepInRange blockInRange linkInRange stepFits blockFits strayRecord stray tooManyBlocks tooManyOf ownedBy within someBelow someIn
     countIn nonzero limits hoursSet recordAt stepAt blockAt linkAt linkRest chainFrom chains isOn blockOrder linkOrder links u16At u24At u32At wrongHours
-    isNumber hasBlock misnamed wrongLink
+    isNumber hasBlock misnamed wrongLink tooManySteps
 linked-books-accepted = (refl, (refl, (refl, (refl, (refl, tt)))))
 
 linked-books-read : AllRead linkedBooks linkedDays
@@ -118,6 +124,22 @@ linked-books-read = (refl, (refl, (refl, (refl, (refl, tt)))))
 
 pub linked-books-hold : EachWorked linkedBooks linkedDays
 linked-books-hold = worked linkedBooks linkedDays linked-books-accepted linked-books-read linked-days-hold
+
+-- THE DAYS WHOSE PRICES CAN GIVE WAY
+shifted-books-accepted : AllAccepted shiftedBooks
+unfolding AllAccepted shiftedBooks bookWith chained refusal ownCauses firstCause wrongSize linksTooEarly wrongHead brokenChain brokenOn broken misplaced wrongField
+    wrongFieldOn outOfRange recordInRange stepInRange blockInRange stepFits blockFits strayRecord stray tooManyBlocks tooManyOf ownedBy within someBelow someIn
+    countIn nonzero limits hoursSet recordAt stepAt blockAt chainFrom chains isOn linkOrder links u16At u24At u32At
+    wrongLink isFor stepsFor moreStepsIn moreSteps tooManySteps wrongHours uncountedOn uncounted countedHours isCounted weight daySum sumTo
+shifted-books-accepted = (refl, (refl, (refl, (refl, (refl, (refl, (refl, tt)))))))
+
+shifted-books-read : AllRead shiftedBooks shiftedDays
+unfolding AllRead shiftedBooks shiftedDays bookWith chained ordersOf orderFrom stepFrom blockFrom stepAt blockAt stepOrder blockOrder linkOrder chainFrom u16At
+    u24At u32At
+shifted-books-read = (refl, (refl, (refl, (refl, (refl, (refl, (refl, tt)))))))
+
+pub shifted-books-hold : EachWorked shiftedBooks shiftedDays
+shifted-books-hold = worked shiftedBooks shiftedDays shifted-books-accepted shifted-books-read shifted-days-hold
 
 -- LINKS
 -- The book of a family is accepted, its links are those written, and the parents' column has for block 4 one more than the place of block 2, for block 5
@@ -131,5 +153,5 @@ pub family-read : FamilyRead
 unfolding familyBook bookWith chained refusal ownCauses firstCause wrongSize linksTooEarly wrongHead brokenChain brokenOn broken misplaced wrongField
     wrongFieldOn outOfRange recordInRange stepInRange blockInRange linkInRange stepFits blockFits strayRecord stray tooManyBlocks tooManyOf ownedBy within someBelow someIn
     countIn nonzero limits hoursSet recordAt stepAt blockAt linkAt linkRest chainFrom chains isOn blockOrder linkOrder links u16At u24At u32At wrongHours
-    isNumber hasBlock misnamed wrongLink ordersOf linkFrom blockRecords padded parentAmong placeAmong parentPlaceIn parentPlaceAt parentColumn
+    isNumber hasBlock misnamed wrongLink tooManySteps ordersOf linkFrom blockRecords padded parentAmong placeAmong parentPlaceIn parentPlaceAt parentColumn
 family-read = record { accepted = refl; linksRead = refl; parentsRead = refl }

@@ -2,7 +2,7 @@
 -- Definitions only. Assumes nothing.
 use Prim.Native.Nat.{ℕ}
 use mathlib.Core.List.{List, map}
-use Rattle.records.specs.Records.{dayHours, stepAt, blockAt, linkAt, holdsHour}
+use Rattle.records.specs.Records.{edition, dayHours, stepAt, blockAt, linkAt, holdsHour}
 use Rattle.book.specs.Chains.{stepOrder, blockOrder, linkOrder}
 use Rattle.records.specs.declared.Side as read
 use Rattle.records.specs.declared.Side.the-variants as read-side
@@ -48,10 +48,11 @@ blockOn b k = onDay (dayHours b) (blockFrom b k)
 unfoldable pub linkFrom : List ℕ → ℕ → Link
 linkFrom b k = record { child = linkAt b k .child; parent = linkAt b k .parent }
 
--- The orders of a book: the steps, the blocks and the links, each in their order.
+-- The orders of a book: its edition and hours, and the steps, the blocks and the links, each in their order.
 unfoldable pub ordersOf : List ℕ → Orders
 ordersOf b =
     record {
+      edition = edition b;
       hours = dayHours b;
       steps = map (orderFrom b) (stepOrder b);
       blocks = map (blockFrom b) (blockOrder b);

@@ -1,5 +1,5 @@
--- THE WORKED DAYS S1 TO S10 AS BOOKS (document 01, "Days to check by hand", "The book in bytes"), and those of 23 and 25 hours: each day of the rules' tables
--- written out in bytes.
+-- THE WORKED DAYS S1 TO S10 AS BOOKS (document 01, "Days to check by hand", "The book in bytes"), those of 23 and 25 hours, with links, and with
+-- prices that can give way: each day of the rules' tables written out in bytes.
 -- The numbers and portfolios of the base book are decision 23's. `proofs/WorkedBookLaws.antt` proves the whole table. Definitions only. Assumes nothing.
 use Prim.Native.Nat.{ℕ, suc, _+_, _/_, _%_}
 use mathlib.Core.Path.{_≡_}
@@ -7,7 +7,7 @@ use mathlib.Core.List.{List, [], _∷_, _++_}
 use lib.ListN.{length, replicate}
 use Rattle.records.specs.Layout.{stepKind, blockKind, linkKind, headRestSize, linkRestSize}
 use Rattle.book.specs.Bounds.{firstEdition, firstLinkEdition}
-use Rattle.rules.specs.Day.{normalHours, springHours, autumnHours}
+use Rattle.rules.specs.Day.{normalHours, springHours, autumnHours, firstShiftEdition}
 use Rattle.book.specs.Refusals.{refusal}
 use Rattle.rules.specs.Outcome.{published}
 use Rattle.rules.specs.WorkedDays.{WorkedDay, Answered}
@@ -142,6 +142,24 @@ linkedBooks =
     ∷ pairBook (sellBlock 1 4500) (sellBlock 2 2900)
     ∷ pairBook (halfBlock 1 3000) (halfBlock 2 3000)
     ∷ pairBook (halfBlock 1 3001) (halfBlock 2 3000)
+    ∷ []
+
+-- A sell block and a buy block alone, of 50 each over the same hours, given as bits: edition, the day's hours, the two prices.
+abbrev pub twoBlockBook : (edition hours bits sells buys : ℕ) → List ℕ
+twoBlockBook edition hours bits sells buys =
+    bookWith edition hours [] (blockRecord 1 1 3 bits 50 sells ∷ blockRecord 2 0 3 bits 50 buys ∷ []) []
+
+-- The books of the days whose prices can give way, in the order of the rules' table.
+unfoldable pub shiftedBooks : List (List ℕ)
+shiftedBooks =
+    twoBlockBook firstShiftEdition normalHours 3 3000 5000
+    ∷ twoBlockBook firstLinkEdition normalHours 3 3000 5000
+    ∷ twoBlockBook firstShiftEdition normalHours 3 295000 299000
+    ∷ twoBlockBook firstShiftEdition normalHours 3 149000 151000
+    ∷ twoBlockBook firstShiftEdition normalHours 3 5000 3000
+    ∷ twoBlockBook firstShiftEdition springHours 14 3000 5000
+    ∷ bookWith firstShiftEdition normalHours
+    (buyStep 1 1 150 5000 ∷ sellStep 2 1 100 3000 ∷ buyStep 3 2 150 5000 ∷ sellStep 4 2 100 3000 ∷ []) (sellBlock 1 4500 ∷ []) []
     ∷ []
 
 -- A book is accepted, all that is published of it is what a worked day says, and so are the prices told of it.

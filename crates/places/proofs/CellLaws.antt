@@ -1,21 +1,23 @@
 -- What the tables have at the hours' places: their gaps, their prices, their least gaps within reach, hour by hour. Assumes nothing.
-use Prim.Native.Nat.{ℕ, suc, _+_, _-_, _*_, _/_, _^_, _≤_, _<_}
-use mathlib.Core.Path.{_≡_, refl, _∙_}
+use Prim.Native.Nat.{ℕ, zero, suc, _+_, _-_, _*_, _/_, _^_, _≤_, _<_}
+use mathlib.Core.Path.{_≡_, refl, ap, _∙_}
 use mathlib.Core.List.{List}
 use mathlib.Core.Bool.{true, false, _||_}
 use native.Mathlib.Omega.{arith}
 use native.Mathlib.Numerals.{add-one, sub-one}
-use native.Mathlib.Nat.{mul-le-mul-right, suc-mul}
+use native.Mathlib.Nat.{mul-le-mul-left, mul-le-mul-right, suc-mul}
 use lib.Dec.{ltb}
 use lib.ListN.{length, getD, set, length-set, replicate}
 use lib.Seq.{getD-set-same, getD-set-other}
 use borrow.Author.Tests.{ltb-false, le-ltb}
 use Rattle.rules.specs.Orders.{maxPrice}
+use Rattle.rules.specs.Hour.{middle}
 use Rattle.rules.specs.Day.{sumTo}
+use Rattle.rules.specs.Shift.{lastShift, shifted}
 use Rattle.rules.proofs.Tests.{clash}
 use Rattle.book.proofs.Laws.{or-left, or-right}
 use Rattle.places.specs.Layout.{hourPlaces, lastPlace, mostGaps}
-use Rattle.places.specs.Hours.{Small, rowWidth, lastIn, HasRows, cell, ofHour, PlacesClear, GapsOf, PricesOf, nearest, leastGap}
+use Rattle.places.specs.Hours.{Small, rowWidth, lastIn, HasRows, cell, ofHour, PlacesClear, GapsOf, endAbove, PricesOf, nearest, leastGap}
 use Rattle.orders.proofs.ColumnLaws.{zeros}
 use Rattle.places.proofs.NumberLaws.{below-next}
 
@@ -89,9 +91,15 @@ module _ (gap first last places : List ℕ) where
         fits = omega (arith, g .fits);
       }
 
-module _ (unitPrices places : List ℕ) where
-  abbrev priceHere : ℕ → ℕ
-  priceHere k = (getD unitPrices (k * rowWidth unitPrices + getD places k 0) 0 + getD unitPrices (k * rowWidth unitPrices + getD places k 0 + 1) 0) / 2
+-- PRICES, each made of L and H, which stand one above the other
+-- made of two prices it is a price
+abbrev pub Priced : ((low high : ℕ) → ℕ) → Type 0
+Priced price = (low high : ℕ) → low ≤ maxPrice → high ≤ maxPrice → price low high ≤ maxPrice
+
+module _ (price : (low high : ℕ) → ℕ) (unitPrices places : List ℕ) where
+  abbrev pub priceHere : ℕ → ℕ
+  priceHere k =
+      price (getD unitPrices (k * rowWidth unitPrices + getD places k 0 + 1) 0) (getD unitPrices (k * rowWidth unitPrices + getD places k 0) 0)
 
   pub record PricesTo (h : ℕ) (prices : List ℕ) : Type 0 where
     pub inside : h ≤ hourPlaces
@@ -102,19 +110,20 @@ module _ (unitPrices places : List ℕ) where
   pub prices-start : PricesTo 0 (replicate hourPlaces 0)
   prices-start = record { inside = omega arith; size = refl; done = λ k a. absurd (omega arith); ahead = λ k a. zeros hourPlaces k }
 
-  pub prices-next : (h : ℕ) (prices : List ℕ) → PricesTo h prices → h < hourPlaces → PricesTo (h + 1) (set prices h (priceHere h))
-  prices-next h prices g k =
+  pub prices-next : (h p : ℕ) (prices : List ℕ) → PricesTo h prices → h < hourPlaces → p ≡ priceHere h → PricesTo (h + 1) (set prices h p)
+  prices-next h p prices g k e =
       let inside : h < length prices = omega (arith, g .size) in
       record {
         inside = omega arith;
         size = rw length-set (g .size);
-        done = λ j a. below-next (λ i. getD (set prices h (priceHere h)) i 0 ≡ priceHere i) h j
-            (λ b. getD-set-other prices h j _ 0 (omega arith) ∙ g .done j b) (getD-set-same prices h _ 0 inside) (rw add-one at a);
+        done = λ j a. below-next (λ i. getD (set prices h p) i 0 ≡ priceHere i) h j
+            (λ b. getD-set-other prices h j _ 0 (omega arith) ∙ g .done j b) (getD-set-same prices h _ 0 inside ∙ e) (rw add-one at a);
         ahead = λ j a. getD-set-other prices h j _ 0 (omega arith) ∙ g .ahead j (omega arith);
       }
 
-  pub prices-all : (h : ℕ) (prices : List ℕ) → PricesTo h prices → hourPlaces ≤ h → Small maxPrice unitPrices → PricesOf unitPrices places prices
-  prices-all h prices g k small =
+  pub prices-all : (h : ℕ) (prices : List ℕ) → Priced price → PricesTo h prices → hourPlaces ≤ h → Small maxPrice unitPrices →
+      PricesOf price unitPrices places prices
+  prices-all h prices priced g k small =
       let e : h ≡ hourPlaces = omega (arith, g .inside) in
       record {
         are = λ j a b.
@@ -127,12 +136,30 @@ module _ (unitPrices places : List ℕ) where
       fits : (i : ℕ) → Dec (hourPlaces ≤ i) → getD prices i 0 ≤ maxPrice
       fits i (yes a) = omega (arith, g .ahead i (omega (arith, g .inside)))
       fits i (no a) =
-          omega (
-            arith,
-            g .done i (omega (arith, native.Mathlib.Nat.lt-of-not-le a)),
-            small (i * rowWidth unitPrices + getD places i 0),
-            small (i * rowWidth unitPrices + getD places i 0 + 1),
-          )
+          rw (g .done i (omega (arith, native.Mathlib.Nat.lt-of-not-le a)))
+          (priced _ _ (small (i * rowWidth unitPrices + getD places i 0 + 1)) (small (i * rowWidth unitPrices + getD places i 0)))
+
+-- the middle of two prices is a price, an end of the two, and a shifted one
+pub middle-priced : Priced middle
+middle-priced low high a b = omega arith
+
+pub end-priced : (above : ℕ) → Priced (endAbove above)
+end-priced zero low high a b = b
+end-priced (suc above) low high a b = a
+
+pub shifted-priced : (t : ℕ) → t ≤ lastShift → Priced (shifted t)
+unfolding shifted
+shifted-priced t k low high a b =
+    let part : (high - low) * t ≤ (high - low) * lastShift = mul-le-mul-left (high - low) k in
+    omega (arith, part)
+
+-- an end stands so many entries above its place
+pub end-above : (above : ℕ) (unitPrices places : List ℕ) (k : ℕ) → above ≤ 1 →
+    getD unitPrices (k * rowWidth unitPrices + getD places k 0 + above) 0 ≡ priceHere (endAbove above) unitPrices places k
+end-above zero unitPrices places k few = ap (λ at. getD unitPrices at 0) (omega arith)
+end-above (suc above) unitPrices places k few =
+    let one : suc above ≡ 1 = omega arith in
+    ap (λ n. getD unitPrices (k * rowWidth unitPrices + getD places k 0 + n) 0) one
 
 -- places in range are small
 pub places-small : (m : ℕ) (first last places : List ℕ) → PlacesClear first last places → Small m last → length places ≡ hourPlaces → Small m places

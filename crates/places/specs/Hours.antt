@@ -1,6 +1,6 @@
 -- THE HOURS: the cells of their tables, their columns, and what stands at their places. Definitions only. Assumes nothing.
-use Prim.Native.Nat.{ℕ, _+_, _-_, _*_, _/_, _≤_, _<_}
-use mathlib.Core.Bool.{Bool, true, false, cond}
+use Prim.Native.Nat.{ℕ, zero, suc, _+_, _-_, _*_, _/_, _≤_, _<_}
+use mathlib.Core.Bool.{Bool, true, false, cond, not}
 use mathlib.Core.List.{List}
 use mathlib.Core.Path.{_≡_}
 use lib.Dec.{leb, eqb}
@@ -9,7 +9,7 @@ use Rattle.rules.specs.Orders.{maxPrice}
 use Rattle.rules.specs.Hour.{when}
 use Rattle.rules.specs.Day.{changeHour, sumTo}
 use Rattle.records.specs.Records.{holdsHour}
-use Rattle.places.specs.Layout.{hourPlaces, lastPlace, lastAndAbove, mostCounted, turnColumn, changePlace, changeRow}
+use Rattle.places.specs.Layout.{hourPlaces, lastPlace, lastAndAbove, mostCounted, turnColumn, changePlace, shiftsPlace, changeRow}
 
 -- Every number of a list is at most m.
 abbrev pub Small : ℕ → List ℕ → Type 0
@@ -59,8 +59,8 @@ cell table h i = getD table ((h - 1) * rowWidth table + i) 0
 abbrev pub ofHour : List ℕ → ℕ → ℕ
 ofHour column h = getD column (h - 1) 0
 
--- THE HOURS: three columns: the first and the last place at which each clears, and the place of its least gap, where its gaps turn; and how often hour 3
--- counts.
+-- THE HOURS: three columns: the first and the last place at which each clears, and the place of its least gap, where its gaps turn; then how often hour 3
+-- counts, and whether prices can give way (edition 4).
 abbrev pub clearsFirst : List ℕ → List ℕ
 clearsFirst hours = take hourPlaces hours
 
@@ -73,6 +73,9 @@ gapsTurn hours = take hourPlaces (drop turnColumn hours)
 abbrev pub changeOften : List ℕ → ℕ
 changeOften hours = getD hours changePlace 0
 
+abbrev pub givesWayIn : List ℕ → Bool
+givesWayIn hours = not (eqb (getD hours shiftsPlace 0) 0)
+
 -- Each hour clears at its place, the place lying from the hour's first to its last.
 abbrev pub PlacesClear : List ℕ → List ℕ → List ℕ → Type 0
 PlacesClear first last places = (h : ℕ) → 1 ≤ h → h ≤ hourPlaces → (ofHour first h ≤ ofHour places h) × (ofHour places h ≤ ofHour last h)
@@ -84,9 +87,21 @@ pub record GapsOf (sumOf : (ℕ → ℕ) → ℕ) (most : ℕ) (gap first last p
   pub sumIs : clears ≡ true → sum ≡ sumOf (λ h. cell gap h (ofHour places h))
   pub fits : sum ≤ most
 
--- The prices at the places: the middle of the two neighbouring entries.
-pub record PricesOf (unitPrices places prices : List ℕ) : Type 0 where
-  pub are : (h : ℕ) → 1 ≤ h → h ≤ hourPlaces → ofHour prices h ≡ (cell unitPrices h (ofHour places h) + cell unitPrices h (ofHour places h + 1)) / 2
+-- A PRICE OF L AND H: either end; the middle and the shifted price are those of the rules.
+abbrev pub lowEnd : (low high : ℕ) → ℕ
+lowEnd low high = low
+
+abbrev pub highEnd : (low high : ℕ) → ℕ
+highEnd low high = high
+
+-- The end that stands in a row so many entries above a place: H at the place itself, L behind it.
+abbrev pub endAbove : ℕ → (low high : ℕ) → ℕ
+endAbove zero low high = high
+endAbove (suc above) low high = low
+
+-- The prices at the places, each made of L and H of its hour: a place has H, and the one above it L.
+pub record PricesOf (price : (low high : ℕ) → ℕ) (unitPrices places prices : List ℕ) : Type 0 where
+  pub are : (h : ℕ) → 1 ≤ h → h ≤ hourPlaces → ofHour prices h ≡ price (cell unitPrices h (ofHour places h + 1)) (cell unitPrices h (ofHour places h))
   pub size : length prices ≡ hourPlaces
   pub small : Small maxPrice prices
 

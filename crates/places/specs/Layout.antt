@@ -53,7 +53,7 @@ lastLimit = 549755813888
 abbrev pub lastAndAbove : ℕ
 lastAndAbove = 2
 
--- THE HOURS: the columns first, last and turn in one list, and how often hour 3 counts.
+-- THE HOURS: the columns first, last and turn in one list, how often hour 3 counts, and whether prices can give way.
 abbrev pub lastColumn : ℕ
 lastColumn = hourPlaces
 
@@ -63,8 +63,11 @@ turnColumn = lastColumn + hourPlaces
 abbrev pub changePlace : ℕ
 changePlace = turnColumn + hourPlaces
 
+abbrev pub shiftsPlace : ℕ
+shiftsPlace = changePlace + 1
+
 abbrev pub hourListSize : ℕ
-hourListSize = changePlace + 1
+hourListSize = shiftsPlace + 1
 
 -- THE BLOCKS: nine columns in one list, from sides to twins, then a row of 24 hours for each block.
 abbrev pub sideColumn : ℕ

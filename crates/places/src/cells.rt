@@ -1,15 +1,18 @@
 // What the tables have at the hours' places: gaps, prices, and the least gaps within reach. The price table has the unit price of the N before each
-// place: the price at a place is the middle of two neighbours. An hour that has a buy of 2 at 5000, a sell of 1 at 3000 and no block that buys has the row
+// place: H at a place is its own entry, L the next one, and the price is the middle of the two, or in edition 4 a shifted one. An hour that has a buy of 2 at 5000, a sell of 1 at 3000 and no block that buys has the row
 // 5000, 5000, 3000, 1, ..: at place 0 its price is 5000, at place 1 the middle of 5000 and 3000.
 ghost use mathlib.Core.Path.{_≡_};
 ghost use Prim.Native.Nat.{ℕ, _+_, _*_, _≤_, _<_};
 ghost use lib.ListN.{length, getD};
 ghost use Rattle.rules.specs.Orders.{maxPrice};
+ghost use Rattle.rules.specs.Hour.{middle};
+ghost use Rattle.rules.specs.Shift.{lastShift, shifted};
 ghost use Rattle.rules.specs.Day.{sumTo};
 ghost use Rattle.places.specs.Layout.{hourPlaces, mostGaps, mostCountedGaps};
-ghost use Rattle.places.specs.Hours.{Small, DayPrices, sumOver, countedColumn, HasRows, lastIn, GapsOf, PricesOf, leastGap};
+ghost use Rattle.places.specs.Hours.{Small, DayPrices, sumOver, countedColumn, HasRows, lastIn, GapsOf, lowEnd, highEnd, endAbove, PricesOf, leastGap};
 use crate::layout::CHANGE_ROW;
 use crate::layout::HOURS;
+use crate::layout::LAST_SHIFT;
 use crate::numbers::larger;
 use crate::numbers::smaller;
 
@@ -45,10 +48,10 @@ fn gaps_at(gap: &[u32], first: &[u32], last: &[u32], places: [u32; HOURS]) -> Ga
     }
 }
 
-// The price of each hour at its place.
+// The middle price of each hour at its place.
 pub fn prices_at(unit_prices: &[u32], places: [u32; HOURS]) -> [u32; HOURS]
     requires { ⌜ HasRows (now «unit_prices») × Small maxPrice (now «unit_prices») × Small (lastIn (now «unit_prices»)) places ⌝ }
-    ensures { λ r. ⌜ PricesOf (now («unit_prices» .entry)) places r ⌝ }
+    ensures { λ r. ⌜ PricesOf middle (now («unit_prices» .entry)) places r ⌝ }
 {
     let width = unit_prices.len() / HOURS;
     let mut prices = [0; HOURS];
@@ -56,6 +59,65 @@ pub fn prices_at(unit_prices: &[u32], places: [u32; HOURS]) -> [u32; HOURS]
     while h < HOURS {
         let at = h * width + (places[h] as usize);
         prices[h] = (unit_prices[at] + unit_prices[at + 1]) / 2;
+        h += 1;
+    }
+    prices
+}
+
+// An end of each hour's price at its place: H, or L where it is read one entry above.
+fn ends_at(unit_prices: &[u32], places: [u32; HOURS], above: usize) -> [u32; HOURS]
+    requires { ⌜ HasRows (now «unit_prices») × Small maxPrice (now «unit_prices») × Small (lastIn (now «unit_prices»)) places × (above ≤ 1) ⌝ }
+    ensures { λ r. ⌜ PricesOf (endAbove above) (now («unit_prices» .entry)) places r ⌝ }
+{
+    let width = unit_prices.len() / HOURS;
+    let mut prices = [0; HOURS];
+    let mut h: usize = 0;
+    while h < HOURS {
+        let at = h * width + (places[h] as usize);
+        prices[h] = unit_prices[at + above];
+        h += 1;
+    }
+    prices
+}
+
+// H of each hour at its place.
+pub fn highs_at(unit_prices: &[u32], places: [u32; HOURS]) -> [u32; HOURS]
+    requires { ⌜ HasRows (now «unit_prices») × Small maxPrice (now «unit_prices») × Small (lastIn (now «unit_prices»)) places ⌝ }
+    ensures { λ r. ⌜ PricesOf highEnd (now («unit_prices» .entry)) places r ⌝ }
+{
+    ends_at(unit_prices, places, 0)
+}
+
+// L of each hour at its place.
+pub fn lows_at(unit_prices: &[u32], places: [u32; HOURS]) -> [u32; HOURS]
+    requires { ⌜ HasRows (now «unit_prices») × Small maxPrice (now «unit_prices») × Small (lastIn (now «unit_prices»)) places ⌝ }
+    ensures { λ r. ⌜ PricesOf lowEnd (now («unit_prices» .entry)) places r ⌝ }
+{
+    ends_at(unit_prices, places, 1)
+}
+
+// The price at shift t between L and H, whichever of the two is more.
+fn shifted_price(t: u32, low: u32, high: u32) -> u32
+    requires { ⌜ (t ≤ lastShift) × (low ≤ maxPrice) × (high ≤ maxPrice) ⌝ }
+    ensures { λ r. ⌜ r ≡ shifted t low high ⌝ }
+{
+    if high <= low {
+        return low;
+    }
+    low + (high - low) * t / LAST_SHIFT
+}
+
+// The price at shift t of each hour at its place.
+pub fn shifted_prices(unit_prices: &[u32], places: [u32; HOURS], t: u32) -> [u32; HOURS]
+    requires { ⌜ HasRows (now «unit_prices») × Small maxPrice (now «unit_prices») × Small (lastIn (now «unit_prices»)) places × (t ≤ lastShift) ⌝ }
+    ensures { λ r. ⌜ PricesOf (shifted t) (now («unit_prices» .entry)) places r ⌝ }
+{
+    let width = unit_prices.len() / HOURS;
+    let mut prices = [0; HOURS];
+    let mut h: usize = 0;
+    while h < HOURS {
+        let at = h * width + (places[h] as usize);
+        prices[h] = shifted_price(t, unit_prices[at + 1], unit_prices[at]);
         h += 1;
     }
     prices

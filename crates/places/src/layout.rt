@@ -16,7 +16,12 @@ pub const MOST_BLOCKS: usize = BLOCK_PLACES;
 // What a row has beyond the places below the last that the blocks reach: that one, and the one above it.
 pub const LAST_AND_ABOVE: usize = 2;
 
-// THE HOURS: three columns in one list, and a number of the day.
+// THE SHIFT of prices: 0 to this; the middle one.
+pub const LAST_SHIFT: u32 = 1000;
+
+pub const MIDDLE_SHIFT: u32 = 500;
+
+// THE HOURS: three columns in one list, and two numbers of the day.
 // The first place at which an hour clears.
 pub const FIRST: usize = 0;
 
@@ -29,8 +34,11 @@ pub const TURN: usize = LAST + HOURS;
 // How often hour 3 counts.
 pub const CHANGE: usize = TURN + HOURS;
 
-// The three columns and that number.
-pub const HOUR_LIST: usize = CHANGE + 1;
+// 1 where prices can give way (edition 4), else 0.
+pub const SHIFTS: usize = CHANGE + 1;
+
+// The three columns and these numbers.
+pub const HOUR_LIST: usize = SHIFTS + 1;
 
 // THE BLOCKS: nine columns and the rows in one list.
 // The side: 0 buys.

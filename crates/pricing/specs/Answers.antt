@@ -44,7 +44,7 @@ wrongCall b set hour = not (hasHour (dayHours b) hour) || leb (2 ^ length (block
 unfoldable pub priceCauses : List ℕ → ℕ → ℕ → List (Bool × ℕ)
 priceCauses b set hour = ownCauses b ++ ((wrongCall b set hour, 8) ∷ [])
 
--- The hour of the book's day under the set, the lowest bit for the first block.
+-- The hour of the book's day under the set, the lowest bit for the first block. Its price is the middle one in every edition, whatever shift the set has.
 unfoldable pub hourAnswered : List ℕ → ℕ → ℕ → Pricing
 hourAnswered b set hour =
     pricing (hourOf (dayFrom b) (taken (dayFrom b .blocks) (decisions (length (dayFrom b .blocks)) set)) hour)

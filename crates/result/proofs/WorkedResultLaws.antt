@@ -63,7 +63,7 @@ counts = rw s5-hours hour-1
 pub price-changed : ¬ Demands s5Book (withByte 11 185 s5Result)
 unfolding s5Result takenIn priceIn rowIn blockAt u16At u24At u32At stepOrder blockOrder chainFrom bookWith chained
 price-changed d =
-    let same : _≡_ {A = ℕ} 3001 3000 = d .obeys .middlePrice 1 counts ∙ sym (s5-meets .obeys .middlePrice 1 counts) in
+    let same : _≡_ {A = ℕ} 3001 3000 = d .obeys .setPrice 1 counts ∙ sym (s5-meets .obeys .setPrice 1 counts) in
     absurd (omega (arith, same))
 
 -- hour 1 traded 99, where its buy step got 100

@@ -1,6 +1,6 @@
 -- How large the numbers get that are chosen, multiplied, moved on and stored. Assumes nothing.
 use Prim.Native.Nat.{ℕ, suc, _+_, _-_, _*_, _≤_, _<_}
-use mathlib.Core.Path.{_≡_}
+use mathlib.Core.Path.{_≡_, refl}
 use mathlib.Core.List.{List}
 use mathlib.Core.Bool.{Bool, true, false, cond}
 use native.Mathlib.Omega.{arith}
@@ -25,10 +25,14 @@ pub side-le : (side : Side) (a b m : ℕ) → a ≤ m → b ≤ m → bySide sid
 side-le buy a b m x y = x
 side-le sell a b m x y = y
 
+-- one number or the other stays below what both do
+pub either-le : (t : Bool) (r a b m : ℕ) → r ≡ cond t a b → a ≤ m → b ≤ m → r ≤ m
+either-le true r a b m e x y = rw e x
+either-le false r a b m e x y = rw e y
+
 -- a number or 0 stays below what the number does
 pub chosen-le : (t : Bool) (a m : ℕ) → a ≤ m → cond t a 0 ≤ m
-chosen-le true a m x = x
-chosen-le false a m x = omega arith
+chosen-le t a m x = either-le t _ a 0 m refl x (omega arith)
 
 pub product-fits : (q x : ℕ) → q ≤ mostQuantity → x ≤ mostLimit → q * x ≤ mostQuantity * mostLimit
 product-fits q x a b = omega (arith, mul-le-mul a b)
@@ -45,13 +49,9 @@ limit-fits price day x few a = omega (arith, mul-le-mul a (counted-few day x few
 -- what an hour loses up and down, as it counts
 pub lost-fits : (t : Bool) (often times up down m : ℕ) → times ≡ cond t often 1 → often ≤ 2 → up ≤ m → down ≤ m → times * (up + down) ≤ 4 * m
 lost-fits t often times up down m e few a b =
-    let twice : times ≤ 2 = rw e (at t) in
+    let twice : times ≤ 2 = either-le t times often 1 2 e few (omega arith) in
     let both : up + down ≤ 2 * m = omega arith in
     omega (arith, mul-le-mul twice both)
-  where
-    at : (t : Bool) → cond t often 1 ≤ 2
-    at true = few
-    at false = omega arith
 
 -- places moved on by a quantity in some hours
 pub moved-most : (x q : ℕ) (places more : List ℕ) → length more ≡ hourPlaces →

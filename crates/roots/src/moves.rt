@@ -7,6 +7,8 @@ ghost use Rattle.book.specs.Bounds.{mostBlocks};
 ghost use Rattle.places.specs.Layout.{mostQuantity, lastPlace};
 ghost use Rattle.places.specs.Hours.{Small, FirstSmall, HasRows};
 ghost use Rattle.roots.specs.Roots.{allMoves, roundMoves};
+use crate::held::Bounds;
+use crate::held::held;
 use places::added::moved;
 use places::cells::counted_prices;
 use places::cells::prices_at;
@@ -106,11 +108,13 @@ pub fn moved_on(
     trail: Trail,
     n: u32,
     often: u32,
+    bounds: Bounds,
 ) -> Trail
     requires tables { ⌜ HasRows (now «unit_prices») × Small maxPrice (now «unit_prices») ⌝ }
     requires blocks { ⌜ (count ≤ mostBlocks) × FirstSmall count mostQuantity quantities ⌝ }
     requires trail { ⌜ (1 ≤ n) × (n < allMoves) × Small maxPrice (trail .prices) × Small (n * lastPlace) (trail .sum) ⌝ }
     requires often { ⌜ often ≤ 2 ⌝ }
+    requires bounds { ⌜ Small maxPrice (bounds .least) × Small maxPrice (bounds .most) ⌝ }
     ensures { λ r. ⌜ Small maxPrice (r .prices) × Small ((n + roundMoves) * lastPlace) (r .sum) ⌝ }
 {
     let last = (unit_prices.len() / HOURS - LAST_AND_ABOVE) as u32;
@@ -121,7 +125,7 @@ pub fn moved_on(
         let more = added_places(sum, count, hours, limits, quantities, root, often);
         let mean = averaged(more, k + 1, last);
         let there = prices_at(unit_prices, mean);
-        let next = closer(root, there);
+        let next = closer(root, held(there, bounds));
         sum = more;
         root = next;
         k += 1;

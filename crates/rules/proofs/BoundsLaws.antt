@@ -36,6 +36,7 @@ use Rattle.rules.specs.Day.{
 }
 use Rattle.rules.specs.Contender.{Each, Within, PricesInRange}
 use Rattle.rules.specs.OutcomeRules.{EachBlock}
+use Rattle.rules.proofs.SetPriceLaws.{dayShift, is-shift, shift-fits, price-at-shift, shift-price-small}
 use Rattle.rules.proofs.Tests.{by-test}
 use Rattle.rules.proofs.PricingLaws.{Priced, pricing-is}
 use Rattle.rules.proofs.ExecutionLaws.{execution-within}
@@ -190,12 +191,8 @@ within-small (x ∷ l) (q ∷ qs) s w = (le-trans (w .0) (s .1), within-small l 
 
 -- no price is above 300000, also where the hour does not clear
 pub price-small : (day : Day) → PricesInRange (day .steps) → (set : List Block) (h : ℕ) → setPrices day set h ≤ maxPrice
-unfolding setPrices
-price-small day prices set h = at (pricing (hourOf day set h)) (pricing-is (hourOf day set h) (prices-in h (day .steps) prices))
-  where
-    at : (a : Pricing) → Priced (hourOf day set h) a → answeredPrice a ≤ maxPrice
-    at (cleared l u p) c = omega (arith, c .isMiddle, c .ordered, c .inRange)
-    at doesNotClear c = omega arith
+price-small day prices set h =
+    rw (price-at-shift day prices set h) (shift-price-small day prices set (dayShift day set) (shift-fits (is-shift day set)) h)
 
 -- THE DAY under a set of its blocks
 module _ (day : Day) (small : SmallDay day) (set : List Bool) where

@@ -57,7 +57,8 @@ use Rattle.rules.specs.Contender.{
   HoursInRange,
 }
 use Rattle.rules.proofs.Tests.{both}
-use Rattle.rules.proofs.PricingLaws.{Clears, Clearable, Priced, pricing-is, middle-clears}
+use Rattle.rules.proofs.PricingLaws.{Clears, Clearable, Priced, pricing-is}
+use Rattle.rules.proofs.SetPriceLaws.{dayShift, is-shift, shift-fits, price-at-shift, shift-clears}
 use Rattle.rules.proofs.ExecutionLaws.{execution-within, execution-balances}
 use Rattle.rules.proofs.DualityLaws.{value, cost, execution-attains, execution-greatest}
 use Rattle.rules.proofs.HourSums.{daySum-le, daySum-same, daySum-add, daySum-times, daySum-zero, everyHour-at, everyHour-all}
@@ -192,12 +193,9 @@ module _ (day : Day) (prices : PricesInRange (day .steps)) (hours : HoursInRange
   module _ (set : List Block) where
     -- THE LAW OF `setPrices`: the price of an hour that clears clears it
     pub setPrices-clear : (h : ℕ) → hourClears day set h ≡ true → Clears (hourOf day set h) (setPrices day set h)
-    unfolding hourClears setPrices
-    setPrices-clear h = go (pricing (hourOf day set h)) (pricing-is (hourOf day set h) (prices-in h (day .steps) prices))
-      where
-        go : (a : Pricing) → Priced (hourOf day set h) a → isCleared a ≡ true → Clears (hourOf day set h) (answeredPrice a)
-        go (cleared l u p) s e = middle-clears (hourOf day set h) l u p s
-        go doesNotClear s e = absurd (false≢true e)
+    setPrices-clear h e =
+        rw (price-at-shift day prices set h)
+        (shift-clears day prices set (dayShift day set) (shift-fits (is-shift day set)) h e)
 
     pub clearable-clears : (h : ℕ) → Clearable (hourOf day set h) → hourClears day set h ≡ true
     unfolding hourClears

@@ -3,12 +3,14 @@ use Prim.Native.Nat.{ℕ}
 use mathlib.Core.Bool.{true, false, _||_}
 use mathlib.Core.Path.{_≡_, refl}
 use mathlib.Core.List.{[], _∷_}
+use mathlib.Core.Option.{some}
 use lib.Dec.{eqb}
 use lib.ListN.{getD}
 use Rattle.rules.specs.Orders.{Side, buy, sell, Block, limits}
-use Rattle.rules.specs.Hour.{Hour, buysAbove, buysFrom, sellsTo, sellsBelow, clears, middle}
+use Rattle.rules.specs.Hour.{Hour, buysAbove, buysFrom, sellsTo, sellsBelow, clears, middle, cleared, pricing}
+use Rattle.rules.specs.Shift.{shifted, nearestShift}
 use Rattle.rules.specs.Execution.{floors, remainders, atLeast, extras, inProportion, shares, fillInTurn}
-use Rattle.rules.specs.Day.{weight, sumTo, daySum, hourCount, priceSum, keepsLimit}
+use Rattle.rules.specs.Day.{Day, weight, sumTo, daySum, hourOf, hourCount, priceSum, keepsLimit, givesWay, pricesAtShift}
 use Rattle.rules.specs.Outcome.{allSets}
 
 -- an hour of the base book: buy 100 at 5000, sell 100 at 3000, no blocks
@@ -32,6 +34,29 @@ high-end = (refl, refl)
 -- the price between 3000 and 4001 is rounded down
 rounded-down : middle 3000 4001 ≡ 3500
 rounded-down = refl
+
+-- the shifted price is rounded down: a third of the way from 1 to 11; at 16 from 1 to 300000 it is 4800, at 500 the middle
+shifted-down : (shifted 333 1 11 ≡ 4) × (shifted 16 1 300000 ≡ 4800) × (shifted 500 3000 4001 ≡ 3500)
+unfolding shifted
+shifted-down = (refl, refl, refl)
+
+-- the shift nearest 500, of two the smaller; not the other end of those that pass; prices can give way from edition 4 on
+nearest-smaller : nearestShift (λ t. eqb t 501 || eqb t 499) 3 ≡ some 499
+unfolding nearestShift
+nearest-smaller = refl
+
+nearest-end : nearestShift (λ t. eqb t 498 || eqb t 499) 3 ≡ some 499
+unfolding nearestShift
+nearest-end = refl
+
+way-from-4 : (givesWay 3 ≡ false) × (givesWay 4 ≡ true)
+unfolding givesWay
+way-from-4 = (refl, refl)
+
+-- at shift 16 every hour moves, also one without orders, from 1 to 300000
+empty-hour-moves : (day : Day) → pricing (hourOf day [] 3) ≡ cleared 1 300000 150000 → pricesAtShift day [] 16 3 ≡ 4800
+unfolding pricesAtShift shifted
+empty-hour-moves day e = rw e refl
 
 -- a block of hours 1 and 2 at 3000
 block : Side → Block

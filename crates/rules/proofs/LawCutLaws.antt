@@ -1,21 +1,24 @@
 -- WHERE A BRANCH CAN END. Prices fall as N rises; so a lawful set whose place in each hour lies in a range has its prices from those of the range's last
--- place to those of its first, and each block it takes keeps its limit at the best of these prices. Assumes nothing.
+-- place at the least shift to those of its first at the greatest (L and H where prices can give way, else the middle), and each block it takes keeps its
+-- limit at the best of these prices. Assumes nothing.
 use Prim.Native.Nat.{ℕ, zero, suc, _*_, _≤_, _<_}
 use mathlib.Core.Bool.{Bool, true, false}
 use mathlib.Core.Path.{_≡_, refl}
 use mathlib.Core.List.{List, [], _∷_}
 use native.Mathlib.Omega.{arith}
+use native.Mathlib.Nat.{le-trans}
 use lib.Dec.{leb}
 use lib.ListN.{length, getD}
 use borrow.Author.Tests.{leb-true, le-leb}
 use Rattle.rules.specs.Orders.{Side, buy, sell, Block}
-use Rattle.rules.specs.Hour.{when}
 use Rattle.rules.specs.Execution.{testSide}
 use Rattle.rules.specs.Day.{Day, stepsIn, taken, overBlocks, buys, hourCount, priceSum, keepsLimit, everyBlock, lawful}
 use Rattle.rules.specs.Contender.{Counts, PricesInRange, HoursInRange}
 use Rattle.rules.proofs.Tests.{both, clash}
-use Rattle.rules.proofs.HourSums.{daySum-le}
-use Rattle.rules.proofs.TableLaws.{table-falls}
+use Rattle.rules.proofs.TableLaws.{tablePrice, table-falls}
+use Rattle.rules.proofs.ShiftLaws.{shifted-rises}
+use Rattle.rules.proofs.SetShiftLaws.{priceSum-le}
+use Rattle.rules.proofs.SetPriceLaws.{leastShift, mostShift, most-small, shift-fits, dayShift, is-shift}
 use Rattle.rules.proofs.PlaceLaws.{place, pricesAt, lawful-limits}
 
 -- BLOCKS AT THEIR BEST: a block could keep its limit at prices from floor to cap
@@ -24,14 +27,6 @@ couldKeep hours cap floor b =
     testSide (b .side)
     (leb (priceSum hours floor b) (b .price * hourCount hours b))
     (leb (b .price * hourCount hours b) (priceSum hours cap b))
-
-when-below : (t : Bool) (a b : ℕ) → a ≤ b → when t a ≤ when t b
-when-below true a b k = k
-when-below false a b k = omega arith
-
-pub priceSum-le : (hours : ℕ) (f g : ℕ → ℕ) (b : Block) → ((h : ℕ) → Counts hours h → f h ≤ g h) → priceSum hours f b ≤ priceSum hours g b
-unfolding priceSum
-priceSum-le hours f g b k = daySum-le hours _ _ (λ h c. when-below (b .runs h) (f h) (g h) (k h c))
 
 module _ (hours : ℕ) (price cap floor : ℕ → ℕ)
     (under : (h : ℕ) → Counts hours h → price h ≤ cap h) (over : (h : ℕ) → Counts hours h → floor h ≤ price h) where
@@ -66,22 +61,34 @@ module _ (day : Day) (prices : PricesInRange (day .steps)) (hours : HoursInRange
   abbrev at : ℕ → ℕ
   at = place (day .blocks) set
 
+  abbrev T : List Block
+  T = taken (day .blocks) set
+
+  abbrev own : ℕ
+  own = dayShift day T
+
   abbrev all-buys : ℕ → ℕ
   all-buys h = overBlocks (buys h) (day .blocks)
 
   module _ (h : ℕ) (k : Counts (day .hours) h) where
-    -- its price is at most that of lo, and at least that of hi
-    pub price-under : pricesAt day (place (day .blocks) set) h ≤ pricesAt day lo h
-    unfolding pricesAt
-    price-under = table-falls (stepsIn h (day .steps)) (lo h) (all-buys h) (at h) (all-buys h) (omega (arith, reach .from h k))
+    -- its price is at most that of lo at the greatest shift of the edition, and at least that of hi at the least
+    pub price-under : pricesAt day own (place (day .blocks) set) h ≤ pricesAt day (mostShift (day .edition)) lo h
+    unfolding pricesAt tablePrice
+    price-under =
+        le-trans (shifted-rises own (mostShift (day .edition)) _ _ (is-shift day T .most))
+        (table-falls (mostShift (day .edition)) (most-small (day .edition)) (stepsIn h (day .steps)) (lo h) (all-buys h) (at h) (all-buys h)
+        (omega (arith, reach .from h k)))
 
-    pub price-over : pricesAt day hi h ≤ pricesAt day (place (day .blocks) set) h
-    unfolding pricesAt
-    price-over = table-falls (stepsIn h (day .steps)) (at h) (all-buys h) (hi h) (all-buys h) (omega (arith, reach .to h k))
+    pub price-over : pricesAt day (leastShift (day .edition)) hi h ≤ pricesAt day own (place (day .blocks) set) h
+    unfolding pricesAt tablePrice
+    price-over =
+        le-trans (shifted-rises (leastShift (day .edition)) own _ _ (is-shift day T .least))
+        (table-falls own (shift-fits (is-shift day T)) (stepsIn h (day .steps)) (at h) (all-buys h) (hi h) (all-buys h) (omega (arith, reach .to h k)))
 
   -- each block taken could keep its limit at the best prices of the ranges: a sell at those of lo, a buy at those of hi
   pub taken-could : (j : ℕ) (other : Block) → j < length (day .blocks) → getD set j false ≡ true →
-      couldKeep (day .hours) (pricesAt day lo) (pricesAt day hi) (getD (day .blocks) j other) ≡ true
+      couldKeep (day .hours) (pricesAt day (mostShift (day .edition)) lo) (pricesAt day (leastShift (day .edition)) hi) (getD (day .blocks) j other) ≡ true
   taken-could j other k is =
-      keeps-could (day .hours) (pricesAt day at) (pricesAt day lo) (pricesAt day hi) price-under price-over (getD (day .blocks) j other)
-      (taken-passes (keepsLimit (day .hours) (pricesAt day at)) (day .blocks) set (lawful-limits day set size prices hours law) j other k is)
+      keeps-could (day .hours) (pricesAt day own at) (pricesAt day (mostShift (day .edition)) lo) (pricesAt day (leastShift (day .edition)) hi)
+      price-under price-over (getD (day .blocks) j other)
+      (taken-passes (keepsLimit (day .hours) (pricesAt day own at)) (day .blocks) set (lawful-limits day set size prices hours law) j other k is)

@@ -3,6 +3,9 @@ pub mod Edges
 pub mod Tests
 pub mod CurveLaws
 pub mod PricingLaws
+pub mod ShiftLaws
+pub mod ChoiceLaws
+pub mod SetShiftLaws
 pub mod CertifiedHours
 pub mod UncertainCases
 pub mod UncertainLaws
@@ -10,12 +13,15 @@ pub mod HourSums
 pub mod ContenderCases
 pub mod NotBest
 pub mod OutcomeRulesCases
+pub mod ShiftedCases
 pub mod ShareLaws
 pub mod CutLaws
 pub mod ExecutionLaws
+pub mod SetPriceLaws
 pub mod DualityLaws
 pub mod ChainLaws
 pub mod DayLaws
+pub mod LawfulShiftLaws
 pub mod BestLaws
 pub mod SearchLaws
 pub mod BoundLaws

@@ -4,14 +4,14 @@
 use Prim.Native.Nat.{ℕ, _*_, _≤_}
 use mathlib.Core.Bool.{true, false≢true}
 use mathlib.Core.Path.{_≡_, refl, ap}
-use mathlib.Core.List.{[], _∷_}
+use mathlib.Core.List.{List, [], _∷_}
 use mathlib.Core.Option.{Option, none, some}
 use native.Mathlib.Omega.{arith}
 use lib.Dec.{leb}
 use borrow.Author.Tests.{lt-ltb}
-use Rattle.rules.specs.Orders.{buy, sell, maxPrice, canonical}
+use Rattle.rules.specs.Orders.{buy, sell, Block, maxPrice, canonical}
 use Rattle.rules.specs.Hour.{Hour, clears, least, doesNotClear, pricing, isCleared, answeredPrice}
-use Rattle.rules.specs.Day.{dayOf, eachOnDay, weight, everyHour, taken, hourOf}
+use Rattle.rules.specs.Day.{dayOf, eachOnDay, weight, everyHour, taken, hourOf, setPrices}
 use Rattle.rules.specs.Contender.{Counts}
 use Rattle.rules.specs.Cases.{
   Case,
@@ -43,16 +43,16 @@ use Rattle.rules.specs.Cases.{
 use Rattle.rules.proofs.CurveLaws.{when-zero}
 use Rattle.rules.proofs.PricingLaws.{Clears, clears-means, LeastOf, least-is}
 use Rattle.rules.proofs.HourSums.{everyHour-at, HourByHour, each-hour, each-counted}
-use Rattle.rules.proofs.CertifiedHours.{computed, tested, tested-is, hour-counts}
+use Rattle.rules.proofs.CertifiedHours.{computed, tested, tested-is, testedPrices, price-tested, hour-counts}
 
 -- EACH RULE BROKEN
-pub off-middle-between : Breaks offMiddleBetween (λ o. o .middlePrice)
+pub off-middle-between : Breaks offMiddleBetween (λ o. o .setPrice)
 unfolding computed
-off-middle-between middle = omega (arith, rw tested-is at (middle 23 (hour-counts 23 refl)))
+off-middle-between middle = omega (arith, rw price-tested at (middle 23 (hour-counts 23 refl)))
 
-pub off-middle : Breaks offMiddle (λ o. o .middlePrice)
+pub off-middle : Breaks offMiddle (λ o. o .setPrice)
 unfolding computed
-off-middle middle = omega (arith, rw tested-is at (middle 1 (hour-counts 1 refl)))
+off-middle middle = omega (arith, rw price-tested at (middle 1 (hour-counts 1 refl)))
 
 pub worse-sell-served : Breaks worseSellServed (λ o. o .sellsAbove)
 unfolding computed
@@ -127,7 +127,7 @@ unfolding dayOf eachOnDay canonical weight nothingHour
 sold-at-nothing all = false≢true (rw no-price at (all 24 (hour-counts 24 refl)))
 
 -- ALL RULES KEPT
--- the hours of a case clear, and their prices are the middle, where the tested ones do and are
+-- the hours of a case clear, and their prices are the set's, where the tested ones do and are
 abbrev hourIn : Case → ℕ → Hour
 hourIn c h = hourOf (c .day) (taken (c .day .blocks) (c .set)) h
 
@@ -135,9 +135,12 @@ all-clear : (c : Case) → everyHour (c .day .hours) (λ h. isCleared (tested (h
     (h : ℕ) → Counts (c .day .hours) h → isCleared (pricing (hourIn c h)) ≡ true
 all-clear c e h k = rw tested-is (everyHour-at (c .day .hours) (λ h. isCleared (tested (hourIn c h))) e h k)
 
-all-middle : (c : Case) → HourByHour 24 (λ h. c .price h ≡ answeredPrice (tested (hourIn c h))) →
-    (h : ℕ) → Counts (c .day .hours) h → c .price h ≡ answeredPrice (pricing (hourIn c h))
-all-middle c e h k = rw tested-is (each-hour (λ h. c .price h ≡ answeredPrice (tested (hourIn c h))) e h k)
+abbrev setOf : Case → List Block
+setOf c = taken (c .day .blocks) (c .set)
+
+all-middle : (c : Case) → HourByHour 24 (λ h. c .price h ≡ testedPrices (c .day) (setOf c) h) →
+    (h : ℕ) → Counts (c .day .hours) h → c .price h ≡ setPrices (c .day) (taken (c .day .blocks) (c .set)) h
+all-middle c e h k = rw price-tested (each-hour (λ h. c .price h ≡ testedPrices (c .day) (setOf c) h) e h k)
 
 -- a buy is no sell
 buy-no-sell : buy ≡ sell → 1 ≤ 0
@@ -153,7 +156,7 @@ pub right-obeys : Obeys right
 unfolding computed
 right-obeys = record {
   clearsAll = all-clear right refl;
-  middlePrice = all-middle right (omega arith);
+  setPrice = all-middle right (omega arith);
   sellsAbove = omega sides;
   buysBelow = omega sides;
   sellsBelow = omega sides;
@@ -168,15 +171,15 @@ right-obeys = record {
 
 -- on a day of 23 hours hour 3 needs neither a price nor balance: an outcome that sells in it where nobody buys
 all-middle-counted : (c : Case) →
-    HourByHour 24 (λ h. weight (c .day .hours) h * c .price h ≡ weight (c .day .hours) h * answeredPrice (tested (hourIn c h))) →
-    (h : ℕ) → Counts (c .day .hours) h → c .price h ≡ answeredPrice (pricing (hourIn c h))
-all-middle-counted c e h k = rw tested-is (each-counted (λ h. c .price h) (λ h. answeredPrice (tested (hourIn c h))) e h k)
+    HourByHour 24 (λ h. weight (c .day .hours) h * c .price h ≡ weight (c .day .hours) h * testedPrices (c .day) (setOf c) h) →
+    (h : ℕ) → Counts (c .day .hours) h → c .price h ≡ setPrices (c .day) (taken (c .day .blocks) (c .set)) h
+all-middle-counted c e h k = rw price-tested (each-counted (λ h. c .price h) (testedPrices (c .day) (setOf c)) e h k)
 
 pub across-obeys : Obeys (acrossTaken 23)
 unfolding computed
 across-obeys = record {
   clearsAll = all-clear (acrossTaken 23) refl;
-  middlePrice = all-middle-counted (acrossTaken 23) (omega arith);
+  setPrice = all-middle-counted (acrossTaken 23) (omega arith);
   sellsAbove = omega sides;
   buysBelow = omega sides;
   sellsBelow = omega sides;
@@ -326,8 +329,8 @@ pub wrong-outcomes-refused : (¬ Obeys offMiddleBetween) × (¬ Obeys offMiddle)
     × (¬ Obeys unbalanced) × (¬ Obeys blockUnmet) × (¬ Obeys oneTooMany) × (¬ Obeys buyBlockForgotten) × (¬ Obeys nobodySells)
     × (¬ Obeys soldAtNothing)
 wrong-outcomes-refused = (
-  λ o. off-middle-between (o .middlePrice),
-  λ o. off-middle (o .middlePrice),
+  λ o. off-middle-between (o .setPrice),
+  λ o. off-middle (o .setPrice),
   λ o. worse-sell-served (o .sellsAbove),
   λ o. worse-buy-served (o .buysBelow),
   λ o. better-sell-cut (o .sellsBelow),

@@ -115,7 +115,7 @@ module _ (day : Day) (prices : PricesInRange (day .steps)) (hours : HoursInRange
         ((h : ℕ) → Counts (day .hours) h → price h ≡ setPrices day (taken (day .blocks) (outcome day)) h) →
         ((h : ℕ) → Counts (day .hours) h → trade h ≡ traded day (taken (day .blocks) (outcome day)) h) →
         OutcomeRules day (outcome day) price trade (executed day (taken (day .blocks) (outcome day)))
-    unfolding setPrices hourClears keepsLimits traded
+    unfolding hourClears keepsLimits traded
     outcome-obeys-as count same-price same-trade =
         let law = outcome-first day (empty-lawful day prices hours) .isLawful in
         let c = lawful-contends day prices hours (outcome day) law (outcome-first day (empty-lawful day prices hours) .ofBlocks) in
@@ -127,7 +127,7 @@ module _ (day : Day) (prices : PricesInRange (day .steps)) (hours : HoursInRange
         record {
           clearsAll = λ h k. clearable-clears day prices hours S h
               (clearable (hourOf day S h) (setPrices day S h) (all-clear day prices hours (outcome day) law h k));
-          middlePrice = same-price;
+          setPrice = same-price;
           sellsAbove = each-so (FollowsHour price) _ (λ s q e side above. e .nothing (rw side above)) l qs f;
           buysBelow = each-so (FollowsHour price) _ (λ s q e side below. e .nothing (rw side below)) l qs f;
           sellsBelow = each-so (FollowsHour price) _ (λ s q e side below. e .full (rw side below)) l qs f;

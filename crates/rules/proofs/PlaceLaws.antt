@@ -3,7 +3,7 @@
 -- loses, is read off the tables. Assumes nothing.
 use Prim.Native.Nat.{ℕ, _+_}
 use mathlib.Core.Bool.{Bool, true, false}
-use mathlib.Core.Path.{_≡_, refl}
+use mathlib.Core.Path.{_≡_, refl, sym, _∙_}
 use mathlib.Core.List.{List, [], _∷_, _++_}
 use native.Mathlib.Omega.{arith}
 use native.Mathlib.Nat.{suc-inj}
@@ -24,16 +24,18 @@ use Rattle.rules.specs.Day.{
   priceSum,
   keepsLimit,
   everyBlock,
-  keepsLimits,
+  pricesAtShift,
+  keepsAll,
   allowed,
   lawful,
 }
 use Rattle.rules.specs.Contender.{Counts, PricesInRange, HoursInRange}
-use Rattle.rules.proofs.PricingLaws.{Clearable, clearable, net}
+use Rattle.rules.proofs.PricingLaws.{Clearable, clearable, net, pricing-net}
 use Rattle.rules.proofs.HourSums.{daySum-same, everyHour-all}
 use Rattle.rules.proofs.ChainLaws.{prices-in}
 use Rattle.rules.proofs.DayLaws.{clearable-clears, all-clear, lawful-contends}
-use Rattle.rules.proofs.TableLaws.{priceOf, clearable-net, price-net, tablePrice, price-is-table}
+use Rattle.rules.proofs.TableLaws.{clearable-net, tablePrice, price-is-table}
+use Rattle.rules.proofs.SetPriceLaws.{IsShift, dayShift, price-at-shift, limits-at-shift, some-shift-keeps}
 use Rattle.rules.proofs.NeighbourLaws.{slack, slack-net}
 use Rattle.rules.proofs.LossLaws.{daySum-counted, gaps}
 
@@ -88,9 +90,9 @@ module _ (l : List Block) (d : List Bool) (b : Block) (after : List Block) (next
 abbrev pub hourAt : Day → ℕ → ℕ → Hour
 hourAt day h i = net (stepsIn h (day .steps)) i (overBlocks (buys h) (day .blocks))
 
--- the prices of a table at one place for each hour
-unfoldable pub pricesAt : Day → (ℕ → ℕ) → ℕ → ℕ
-pricesAt day at h = tablePrice (stepsIn h (day .steps)) (at h) (overBlocks (buys h) (day .blocks))
+-- the prices of a table at shift t, at one place for each hour
+unfoldable pub pricesAt : Day → ℕ → (ℕ → ℕ) → ℕ → ℕ
+pricesAt day t at h = tablePrice t (stepsIn h (day .steps)) (at h) (overBlocks (buys h) (day .blocks))
 
 -- the gaps at one place for each hour
 unfoldable pub gapsAt : Day → (ℕ → ℕ) → (ℕ → ℕ) → ℕ → ℕ
@@ -136,35 +138,43 @@ module _ (day : Day) (set : List Bool) (size : length set ≡ length (day .block
   gaps-by-place p = daySum-same (day .hours) _ _ (λ h. slack-at-place h (p h))
 
   module _ (prices : PricesInRange (day .steps)) (hours : HoursInRange (day .steps)) where
-    -- THE LAW OF `setPrices` for tables: the price of an hour that clears is that of its place
-    pub price-at-place : (h : ℕ) → Clearable (hourAt day h (place (day .blocks) set h)) →
-        setPrices day (taken (day .blocks) set) h ≡ pricesAt day (place (day .blocks) set) h
-    unfolding setPrices pricesAt priceOf
-    price-at-place h c =
-        rw (price-net (stepsIn h (day .steps)) _ _ (place (day .blocks) set h) (all-buys h) (same-N h))
-        (price-is-table (stepsIn h (day .steps)) (prices-in h (day .steps) prices) (place (day .blocks) set h) (all-buys h) c)
+    -- THE LAW OF `pricesAtShift` for tables: at each shift the price of an hour that clears is that of its place
+    pub price-at-place : (t h : ℕ) → Clearable (hourAt day h (place (day .blocks) set h)) →
+        pricesAtShift day (taken (day .blocks) set) t h ≡ pricesAt day t (place (day .blocks) set) h
+    unfolding pricesAtShift pricesAt
+    price-at-place t h c =
+        rw (pricing-net (stepsIn h (day .steps)) _ _ (place (day .blocks) set h) (all-buys h) (same-N h))
+        (price-is-table (stepsIn h (day .steps)) (prices-in h (day .steps) prices) (place (day .blocks) set h) (all-buys h) t c)
 
-    -- LAWFUL, by places: every hour clears there, and each block keeps its limit at the prices there
-    limits-same : ((h : ℕ) → Counts (day .hours) h → Clearable (hourAt day h (place (day .blocks) set h))) →
-        keepsLimits day T ≡ everyBlock (keepsLimit (day .hours) (pricesAt day (place (day .blocks) set))) T
-    unfolding keepsLimits
-    limits-same clear = keep-limits-same (day .hours) _ _ (λ h k. price-at-place h (clear h k)) T
+    -- the set's own price
+    pub set-price-at-place : (h : ℕ) → Clearable (hourAt day h (place (day .blocks) set h)) →
+        setPrices day (taken (day .blocks) set) h ≡ pricesAt day (dayShift day (taken (day .blocks) set)) (place (day .blocks) set) h
+    set-price-at-place h c = price-at-shift day prices T h ∙ price-at-place (dayShift day T) h c
 
+    -- each block keeps its limit at a shift exactly where it does at the prices of the places there
+    pub keeps-at-places : (t : ℕ) → ((h : ℕ) → Counts (day .hours) h → Clearable (hourAt day h (place (day .blocks) set h))) →
+        keepsAll day (taken (day .blocks) set) t ≡ everyBlock (keepsLimit (day .hours) (pricesAt day t (place (day .blocks) set))) (taken (day .blocks) set)
+    unfolding keepsAll
+    keeps-at-places t clear = keep-limits-same (day .hours) _ _ (λ h k. price-at-place t h (clear h k)) T
+
+    -- LAWFUL, by places: every hour clears there, and each block keeps its limit at the prices there, at a shift of the edition
     pub lawful-by-places : allowed day set ≡ true →
-        ((h : ℕ) → Counts (day .hours) h → Clearable (hourAt day h (place (day .blocks) set h))) →
-        everyBlock (keepsLimit (day .hours) (pricesAt day (place (day .blocks) set))) (taken (day .blocks) set) ≡ true → lawful day set ≡ true
+        ((h : ℕ) → Counts (day .hours) h → Clearable (hourAt day h (place (day .blocks) set h))) → {t : ℕ} → IsShift (day .edition) t →
+        everyBlock (keepsLimit (day .hours) (pricesAt day t (place (day .blocks) set))) (taken (day .blocks) set) ≡ true → lawful day set ≡ true
     unfolding lawful
-    lawful-by-places may clear keep =
+    lawful-by-places may clear {t} shift keep =
         rw (
           may,
           everyHour-all (day .hours) (hourClears day T) (λ h k. clearable-clears day prices hours T h (place-clearable h (clear h k))),
-          limits-same clear,
-          keep,
+          some-shift-keeps day prices T shift (keeps-at-places t clear ∙ keep),
         )
 
     module _ (law : lawful day set ≡ true) where
       pub lawful-clears : (h : ℕ) → Counts (day .hours) h → Clearable (hourAt day h (place (day .blocks) set h))
       lawful-clears h k = clearable-at-place h (clearable (hourOf day T h) (setPrices day T h) (all-clear day prices hours set law h k))
 
-      pub lawful-limits : everyBlock (keepsLimit (day .hours) (pricesAt day (place (day .blocks) set))) (taken (day .blocks) set) ≡ true
-      lawful-limits = rw (limits-same lawful-clears) at (lawful-contends day prices hours set law size .limits)
+      pub lawful-limits : everyBlock (keepsLimit (day .hours) (pricesAt day (dayShift day (taken (day .blocks) set)) (place (day .blocks) set)))
+          (taken (day .blocks) set) ≡ true
+      lawful-limits =
+          sym (keeps-at-places (dayShift day T) lawful-clears) ∙ sym (limits-at-shift day prices T)
+          ∙ lawful-contends day prices hours set law size .limits

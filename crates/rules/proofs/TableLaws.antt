@@ -11,9 +11,11 @@ use native.Mathlib.Decide.{decLe}
 use lib.Dec.{leb}
 use borrow.Author.Tests.{leb-true, leb-false}
 use Rattle.rules.specs.Orders.{Step, maxPrice}
-use Rattle.rules.specs.Hour.{Hour, buysAbove, sellsTo, least, Pricing, cleared, doesNotClear, middle, pricing, answeredPrice}
+use Rattle.rules.specs.Hour.{Hour, buysAbove, sellsTo, least, Pricing, cleared, doesNotClear, pricing, answeredPrice}
+use Rattle.rules.specs.Shift.{lastShift, shifted, shiftedPrice}
 use Rattle.rules.specs.Contender.{PricesInRange}
 use Rattle.rules.proofs.CurveLaws.{buysAbove-max, sellsTo-max}
+use Rattle.rules.proofs.ShiftLaws.{shifted-ends}
 use Rattle.rules.proofs.PricingLaws.{
   DemandMet,
   SupplyMet,
@@ -138,13 +140,18 @@ unit-falls l s b s′ b′ less =
 pub unit-net : (l : List Step) (s b s′ b′ : ℕ) → s + b′ ≡ s′ + b → unitPrice (net l s b) ≡ unitPrice (net l s′ b′)
 unit-net l s b s′ b′ same = omega (arith, unit-falls l s b s′ b′ (omega arith), unit-falls l s′ b′ s b (omega arith))
 
--- the price that a table of unit prices has for N; where the hour clears it is its price
-unfoldable pub tablePrice : List Step → ℕ → ℕ → ℕ
-tablePrice l s b = middle (unitPrice (net l s b)) (unitPrice (net l s (suc b)))
+-- L is at most H, as a table of unit prices has them for N
+pub unit-ordered : (l : List Step) (s b : ℕ) → unitPrice (net l s b) ≤ unitPrice (net l s (suc b))
+unit-ordered l s b = unit-falls l s (suc b) s b (omega arith)
 
-pub table-falls : (l : List Step) (s b s′ b′ : ℕ) → s + b′ ≤ s′ + b → tablePrice l s′ b′ ≤ tablePrice l s b
+-- the price that such a table has for N at shift t; where the hour clears it is its price there
+unfoldable pub tablePrice : ℕ → List Step → ℕ → ℕ → ℕ
+tablePrice t l s b = shifted t (unitPrice (net l s b)) (unitPrice (net l s (suc b)))
+
+pub table-falls : (t : ℕ) → t ≤ lastShift → (l : List Step) (s b s′ b′ : ℕ) → s + b′ ≤ s′ + b → tablePrice t l s′ b′ ≤ tablePrice t l s b
 unfolding tablePrice
-table-falls l s b s′ b′ less = omega (arith, unit-falls l s b s′ b′ less, unit-falls l s (suc b) s′ (suc b′) (omega arith))
+table-falls t k l s b s′ b′ less =
+    shifted-ends t _ _ _ _ k (unit-ordered l s′ b′) (unit-ordered l s b) (unit-falls l s b s′ b′ less) (unit-falls l s (suc b) s′ (suc b′) (omega arith))
 
 -- the greatest price meets the demand of a clearable hour
 met-in-range : (h : Hour) → PricesInRange (h .steps) → Clearable h → (u : ℕ) → u ≤ maxPrice → (u < maxPrice → DemandMet h u) → DemandMet h u
@@ -219,6 +226,7 @@ module _ (l : List Step) (r : PricesInRange l) (s b : ℕ) where
       rw (high-net l s b (suc s) (suc b) (omega arith))
       (unit-high l r s (suc b) (clearable-net l s b (suc s) (suc b) (omega arith) c))
 
-  pub price-is-table : Clearable (net l s b) → priceOf (net l s b) ≡ tablePrice l s b
-  unfolding tablePrice
-  price-is-table c = rw (← (unit-low (net l s b) r c), ← (unit-high-before c)) (answered (net l s b) r c .isMiddle)
+  pub price-is-table : (t : ℕ) → Clearable (net l s b) → shiftedPrice t (pricing (net l s b)) ≡ tablePrice t l s b
+  unfolding tablePrice lowOf highOf
+  price-is-table t c =
+      rw (← (unit-low (net l s b) r c), ← (unit-high-before c)) (let a = answer (net l s b) r c in rw (a .is))

@@ -25,6 +25,7 @@ use Rattle.rules.proofs.DayLaws.{lawful-contends, empty-lawful}
 use Rattle.rules.proofs.BoundLaws.{gain}
 use Rattle.rules.proofs.LossLaws.{against, losses, lossOf, welfare-and-loss}
 use Rattle.rules.proofs.PlaceLaws.{place, pricesAt, gaps-by-place, lawful-by-places, lawful-clears, lawful-limits}
+use Rattle.rules.proofs.SetPriceLaws.{dayShift, is-shift}
 use Rattle.rules.proofs.LawCutLaws.{taken-passes}
 use Rattle.rules.proofs.LinkLaws.{Closed, Parents}
 
@@ -308,12 +309,16 @@ module _ (day : Day) (p : ℕ → ℕ) (a b : ℕ) (ahead : Ahead day p a b) (se
       omega (arith, exchange-loses)
 
   module _ (prices : PricesInRange (day .steps)) (hours : HoursInRange (day .steps)) (law : lawful day set ≡ true) where
+    -- the shift of the set serves the exchanged set too
+    abbrev own : ℕ
+    own = dayShift day (taken (day .blocks) set)
+
     -- each block of the exchanged set keeps its limit: the first since the second did
-    exchanged-keeps : everyBlock (keepsLimit (day .hours) (pricesAt day (place (day .blocks) set))) (taken (day .blocks) exchanged) ≡ true
+    exchanged-keeps : everyBlock (keepsLimit (day .hours) (pricesAt day own (place (day .blocks) set))) (taken (day .blocks) exchanged) ≡ true
     exchanged-keeps = passes-taken (ahead .first) keeps (day .blocks) exchanged each
       where
         keeps : Block → Bool
-        keeps = keepsLimit (day .hours) (pricesAt day (place (day .blocks) set))
+        keeps = keepsLimit (day .hours) (pricesAt day own (place (day .blocks) set))
 
         before : (j : ℕ) (other : Block) → j < length (day .blocks) → getD set j false ≡ true → keeps (getD (day .blocks) j other) ≡ true
         before = taken-passes keeps (day .blocks) set (lawful-limits day set size prices hours law)
@@ -333,7 +338,7 @@ module _ (day : Day) (p : ℕ → ℕ) (a b : ℕ) (ahead : Ahead day p a b) (se
     exchanged-lawful =
         lawful-by-places day exchanged exchanged-size prices hours
         (exchanged-allowed (lawful-contends day prices hours set law size .permitted))
-        (λ h k. rw (same-place h) (lawful-clears day set size prices hours law h k))
+        (λ h k. rw (same-place h) (lawful-clears day set size prices hours law h k)) (is-shift day (taken (day .blocks) set))
         (rw same-places exchanged-keeps)
 
     -- the exchanged set's welfare is no less, and more where the first has the higher number

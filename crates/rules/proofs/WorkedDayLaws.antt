@@ -6,7 +6,7 @@ use mathlib.Core.List.{List, [], _∷_, map}
 use Rattle.rules.specs.Orders.{Block, Orders, executedOf}
 use Rattle.rules.specs.Day.{Day, dayOf, taken, hourOf, keepsLimits, lawful, executed, welfare, traded}
 use Rattle.rules.specs.Outcome.{allSets, bestOf, outcome, forHours, PublishedOutcome, published}
-use Rattle.rules.specs.WorkedDays.{PriceFact, WorkedDay, workedDays, furtherDays, changeDays, linkedDays, Answered, Hold}
+use Rattle.rules.specs.WorkedDays.{PriceFact, WorkedDay, workedDays, furtherDays, changeDays, linkedDays, shiftedDays, Answered, Hold}
 use Rattle.rules.specs.WorkedCash.{cashCases}
 use Rattle.rules.proofs.CertifiedHours.{tested, tested-is, clears-tested, price-tested, prices-tested, computed}
 
@@ -144,6 +144,22 @@ linked-days-hold =
       refl,
       (refl, (refl, tt)),
       (refl, refl, (refl, tt), (refl, refl, (refl, tt), (refl, refl, tt, (refl, refl, tt, tt)))),
+    )
+
+-- THE DAYS WHOSE PRICES CAN GIVE WAY
+pub shifted-days-hold : Hold shiftedDays
+unfolding rowsCompute shiftedDays
+shifted-days-hold =
+    hold shiftedDays (
+      refl,
+      refl,
+      (refl, tt),
+      (
+        refl,
+        refl,
+        (refl, tt),
+        (refl, refl, (refl, tt), (refl, refl, (refl, tt), (refl, refl, (refl, tt), (refl, refl, tt, (refl, refl, (refl, tt), tt))))),
+      ),
     )
 
 -- THE DAYS OF THE WORKED CASH SHEETS

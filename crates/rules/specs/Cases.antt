@@ -33,7 +33,7 @@ uneven = baseDayOf (block12 1 2900 ∷ block12 2 2800 ∷ [])
 
 -- The day of a book of steps and blocks.
 abbrev pub dayWith : List Order → List Block → Day
-dayWith steps blocks = dayOf (record { hours = 24; steps = steps; blocks = blocks; links = [] })
+dayWith steps blocks = dayOf (record { edition = 1; hours = 24; steps = steps; blocks = blocks; links = [] })
 
 -- A block that brings one tenth of a cent: it costs 3000 in hours 1 and 2, the steps that it displaces cost 3000 and 3001.
 abbrev pub narrow : Day
@@ -57,6 +57,7 @@ apart = dayWith (step 1 sell 1 10 6000 ∷ step 2 buy 1 10 2000 ∷ []) []
 abbrev pub s5Autumn : Day
 s5Autumn =
     dayOf (record {
+      edition = 1;
       hours = 25;
       steps = step 1 buy 2 100 5000 ∷ step 2 sell 2 100 3000 ∷ step 3 buy 3 100 5000 ∷ step 4 sell 3 100 3000 ∷ [];
       blocks = block23 2900 ∷ [];
@@ -72,6 +73,7 @@ autumn limit = dayOf (autumnOrders limit)
 abbrev pub across : ℕ → Day
 across hours =
     record {
+      edition = 1;
       hours = hours;
       steps = stepsOf (step 1 buy 2 100 5000 ∷ step 2 sell 2 100 3000 ∷ step 3 buy 4 100 5000 ∷ step 4 sell 4 100 3000 ∷ []);
       blocks = block234 2900 ∷ [];
@@ -82,6 +84,7 @@ across hours =
 abbrev pub family : (parent child : ℕ) → Day
 family parent child =
     dayOf (record {
+      edition = 3;
       hours = 24;
       steps = baseWith [] .steps;
       blocks = block 1 sell 3 25 parent ∷ block 2 sell 3 25 child ∷ [];
@@ -110,7 +113,7 @@ Breaks c rule = ¬ States c rule
 -- The twelve rules of a case, in the order of `OutcomeRules`.
 abbrev pub rules : Case → List (Type 0)
 rules c =
-    States c (λ o. o .clearsAll) ∷ States c (λ o. o .middlePrice) ∷ States c (λ o. o .sellsAbove) ∷ States c (λ o. o .buysBelow)
+    States c (λ o. o .clearsAll) ∷ States c (λ o. o .setPrice) ∷ States c (λ o. o .sellsAbove) ∷ States c (λ o. o .buysBelow)
     ∷ States c (λ o. o .sellsBelow) ∷ States c (λ o. o .buysAbove) ∷ States c (λ o. o .atPrice) ∷ States c (λ o. o .blockSells)
     ∷ States c (λ o. o .blockBuys) ∷ States c (λ o. o .notMore) ∷ States c (λ o. o .balanced) ∷ States c (λ o. o .tradedBuys) ∷ []
 

@@ -1,4 +1,5 @@
--- THE DAY (document 01, "The day"): the hours under a set of blocks, a block's limit, lawful sets, welfare. Definitions only. Assumes nothing.
+-- THE DAY (document 01, "The day"; document 02, P7): the hours under a set of blocks, a block's limit, the set's shift and prices, lawful sets, welfare.
+-- Definitions only. Assumes nothing.
 -- A set of the day's blocks is a list of decisions, the lowest-numbered block's first: true if it is taken.
 use Prim.Native.Nat.{ℕ, zero, suc, _+_, _-_, _*_, _/_, _%_}
 use mathlib.Core.Bool.{Bool, true, false, cond, not, _&&_, _||_}
@@ -7,10 +8,12 @@ use lib.Dec.{leb, eqb}
 use lib.ListN.{drop, getD}
 use Rattle.rules.specs.Orders.{Step, Block, Link, Orders, stepsOf, canonical}
 use Rattle.rules.specs.Hour.{Hour, bySide, when, pricing, isCleared, answeredPrice}
+use Rattle.rules.specs.Shift.{shiftedPrice, nearestShift, allShifts, orMiddle}
 use Rattle.rules.specs.Execution.{testSide, execution, total₂, bought}
 
--- A day: how many hours it has, its steps and its blocks, each in rising order number, and the links between its blocks.
+-- A day: the edition it follows, how many hours it has, its steps and its blocks, each in rising order number, and the links between its blocks.
 pub record Day : Type 0 where
+  pub edition : ℕ
   pub hours : ℕ
   pub steps : List Step
   pub blocks : List Block
@@ -52,6 +55,7 @@ eachOnDay hours (b ∷ l) = onDay hours b ∷ eachOnDay hours l
 unfoldable pub dayOf : Orders → Day
 dayOf orders =
     record {
+      edition = canonical orders .edition;
       hours = canonical orders .hours;
       steps = stepsOf (canonical orders .steps);
       blocks = eachOnDay (canonical orders .hours) (canonical orders .blocks);
@@ -120,10 +124,6 @@ hourOf day set h =
 unfoldable pub hourClears : Day → List Block → ℕ → Bool
 hourClears day set h = isCleared (pricing (hourOf day set h))
 
--- The price of each hour under a set. Today it is the hour's middle price.
-unfoldable pub setPrices : Day → List Block → ℕ → ℕ
-setPrices day set h = answeredPrice (pricing (hourOf day set h))
-
 -- How many hours a block runs in, and the sum of prices over them, each hour as often as it counts.
 unfoldable pub hourCount : ℕ → Block → ℕ
 hourCount hours b = daySum hours (λ h. when (b .runs h) 1)
@@ -158,6 +158,31 @@ keepsLimit hours price b =
 abbrev pub everyBlock : (Block → Bool) → List Block → Bool
 everyBlock t [] = true
 everyBlock t (b ∷ l) = t b && everyBlock t l
+
+-- PRICES of a set
+-- The first edition whose prices can give way; they can in that one and in later ones.
+abbrev pub firstShiftEdition : ℕ
+firstShiftEdition = 4
+
+unfoldable pub givesWay : ℕ → Bool
+givesWay edition = leb firstShiftEdition edition
+
+-- The price of each hour under a set at shift t.
+unfoldable pub pricesAtShift : Day → List Block → ℕ → ℕ → ℕ
+pricesAtShift day set t h = shiftedPrice t (pricing (hourOf day set h))
+
+-- Shift t keeps all blocks of a set: each keeps its limit at the prices there.
+unfoldable pub keepsAll : Day → List Block → ℕ → Bool
+keepsAll day set t = everyBlock (keepsLimit (day .hours) (pricesAtShift day set t)) set
+
+-- The shift of a set: the t of 0 to 1000 nearest 500 that keeps all its blocks, of two the smaller. Where none does it is the middle one, at which some
+-- block misses its limit.
+unfoldable pub setShift : Day → List Block → ℕ
+setShift day set = orMiddle (nearestShift (keepsAll day set) allShifts)
+
+-- The price of each hour under a set: that at the set's shift where prices can give way, else the hour's middle price.
+unfoldable pub setPrices : Day → List Block → ℕ → ℕ
+setPrices day set h = cond (givesWay (day .edition)) (pricesAtShift day set (setShift day set) h) (answeredPrice (pricing (hourOf day set h)))
 
 -- Each block of a set keeps its limit at the prices under that set.
 unfoldable pub keepsLimits : Day → List Block → Bool

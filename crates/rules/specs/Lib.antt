@@ -1,6 +1,7 @@
 -- The auction's rules, as documents 01 and 02 state them. Definitions only, in reading order.
 pub mod Orders
 pub mod Hour
+pub mod Shift
 pub mod Execution
 pub mod Day
 pub mod Outcome

@@ -35,8 +35,9 @@ pub record Link : Type 0 where
   pub child : ℕ
   pub parent : ℕ
 
--- What a book says: how many hours the day has, the orders of the step chain, the blocks, the links.
+-- What a book says: the edition it follows, how many hours the day has, the orders of the step chain, the blocks, the links.
 pub record Orders : Type 0 where
+  pub edition : ℕ
   pub hours : ℕ
   pub steps : List Order
   pub blocks : List Block

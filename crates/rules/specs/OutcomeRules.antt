@@ -5,9 +5,9 @@ use mathlib.Core.Bool.{Bool, true}
 use mathlib.Core.List.{List, [], _∷_}
 use mathlib.Core.Path.{_≡_}
 use Rattle.rules.specs.Orders.{buy, sell, Block}
-use Rattle.rules.specs.Hour.{pricing, isCleared, answeredPrice}
+use Rattle.rules.specs.Hour.{pricing, isCleared}
 use Rattle.rules.specs.Execution.{bought}
-use Rattle.rules.specs.Day.{Day, stepsIn, taken, overBlocks, buys, hourOf, hourCount, priceSum}
+use Rattle.rules.specs.Day.{Day, stepsIn, taken, overBlocks, buys, hourOf, hourCount, priceSum, setPrices}
 use Rattle.rules.specs.Contender.{Each, quantitiesIn, Balanced, Counts}
 
 -- A statement of each block of a list.
@@ -17,9 +17,9 @@ EachBlock P (b ∷ l) = P b × EachBlock P l
 
 -- The properties, in 003's order and words; "shall be executed" is in full, "shall not be executed" is a quantity of 0.
 pub record OutcomeRules (day : Day) (set : List Bool) (price traded : ℕ → ℕ) (quantities : List ℕ) : Type 0 where
-  -- every hour clears, and its price is the middle of L and H under the set (document 01's choice)
+  -- every hour clears, and its price is the set's: the middle of L and H under the set (document 01's choice), in edition 4 that at the set's shift
   pub clearsAll : (h : ℕ) → Counts (day .hours) h → isCleared (pricing (hourOf day (taken (day .blocks) set) h)) ≡ true
-  pub middlePrice : (h : ℕ) → Counts (day .hours) h → price h ≡ answeredPrice (pricing (hourOf day (taken (day .blocks) set) h))
+  pub setPrice : (h : ℕ) → Counts (day .hours) h → price h ≡ setPrices day (taken (day .blocks) set) h
   -- steps that sell shall not be executed above the price, steps that buy not below it
   pub sellsAbove : Each (λ s q. s .side ≡ sell → price (s .hour) < s .price → q ≡ 0) (day .steps) quantities
   pub buysBelow : Each (λ s q. s .side ≡ buy → s .price < price (s .hour) → q ≡ 0) (day .steps) quantities

@@ -56,6 +56,7 @@ cashCases =
     ∷ record {
       day = record {
         orders = record {
+          edition = 1;
           hours = 23;
           steps = step 1 buy 2 100 5000 ∷ step 2 sell 2 100 3000 ∷ step 3 buy 4 100 5000 ∷ step 4 sell 4 100 3000 ∷ [];
           blocks = block234 2900 ∷ [];

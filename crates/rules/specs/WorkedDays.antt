@@ -32,6 +32,7 @@ block12 number price = record { number = number; portfolio = 3; side = sell; pri
 abbrev pub baseWith : List Block → Orders
 baseWith blocks =
     record {
+      edition = 1;
       hours = 24;
       steps = step 1 buy 1 100 5000 ∷ step 2 sell 1 100 3000 ∷ step 3 buy 2 100 5000 ∷ step 4 sell 2 100 3000 ∷ [];
       blocks = blocks;
@@ -40,7 +41,7 @@ baseWith blocks =
 
 -- A book of steps alone.
 abbrev pub stepsAlone : List Order → Orders
-stepsAlone steps = record { hours = 24; steps = steps; blocks = []; links = [] }
+stepsAlone steps = record { edition = 1; hours = 24; steps = steps; blocks = []; links = [] }
 
 -- A number for each of the first hours, the other for the rest of the 24.
 abbrev pub rest23 : ℕ → ℕ → List ℕ
@@ -131,6 +132,7 @@ abbrev pub buyBlockDay : (limit price traded : ℕ) → List Bool → List ℕ �
 buyBlockDay limit price traded chosen rows welfare =
     record {
       orders = record {
+        edition = 1;
         hours = 24;
         steps = step 1 buy 1 50 5000 ∷ step 2 sell 1 100 3000 ∷ step 3 buy 2 50 5000 ∷ step 4 sell 2 100 3000 ∷ [];
         blocks = block 1 buy 3 50 limit ∷ [];
@@ -154,7 +156,7 @@ furtherDays =
     ∷ buyBlockDay 3999 3000 50 (false ∷ []) (50 ∷ 50 ∷ 50 ∷ 50 ∷ []) 200000
     -- a buy block over hours 23 and 24 at 2500 is taken at prices 2000 and 3000: the sum decides; and by the equal rule, for it brings nothing
     ∷ record {
-      orders = record { hours = 24; steps = step 1 sell 23 60 2000 ∷ step 2 sell 24 60 3000 ∷ []; blocks = block 1 buy 12582912 50 2500 ∷ []; links = [] };
+      orders = record { edition = 1; hours = 24; steps = step 1 sell 23 60 2000 ∷ step 2 sell 24 60 3000 ∷ []; blocks = block 1 buy 12582912 50 2500 ∷ []; links = [] };
       publishes = record {
         welfare = 0;
         prices = last2 150000 2000 3000;
@@ -167,6 +169,7 @@ furtherDays =
     -- a sell block of 20 and a buy block of 50 over hours 1 and 24, in hour 24 with steps on both sides: N is −30 in both hours
     ∷ record {
       orders = record {
+        edition = 1;
         hours = 24;
         steps = step 1 sell 1 40 2000 ∷ step 2 sell 24 100 3000 ∷ step 3 buy 24 60 4000 ∷ [];
         blocks = block 1 sell 8388609 20 2500 ∷ block 2 buy 8388609 50 2500 ∷ [];
@@ -185,7 +188,7 @@ furtherDays =
     ∷ hourDay [] 150000 0 [] 0
     -- a sell block at 3000 and a buy block at 5000 alone: together they meet the price 150000, which the buy's limit forbids; neither clears alone
     ∷ record {
-      orders = record { hours = 24; steps = []; blocks = block 1 sell 3 50 3000 ∷ block 2 buy 3 50 5000 ∷ []; links = [] };
+      orders = record { edition = 1; hours = 24; steps = []; blocks = block 1 sell 3 50 3000 ∷ block 2 buy 3 50 5000 ∷ []; links = [] };
       publishes = record {
         welfare = 0;
         prices = replicate 24 150000;
@@ -214,6 +217,7 @@ block234 price = block 1 sell 14 50 price
 abbrev pub autumnOrders : ℕ → Orders
 autumnOrders limit =
     record {
+      edition = 1;
       hours = 25;
       steps = step 1 buy 2 100 5000 ∷ step 2 sell 2 50 3000 ∷ step 3 buy 3 100 5000 ∷ step 4 sell 3 100 3000 ∷ [];
       blocks = block23 limit ∷ [];
@@ -233,6 +237,7 @@ changeDays =
     -- S5 moved to hours 2 and 3 of a day of 25: hour 3 counts twice in the welfare, its row has the hour's own figures
     record {
       orders = record {
+        edition = 1;
         hours = 25;
         steps = step 1 buy 2 100 5000 ∷ step 2 sell 2 100 3000 ∷ step 3 buy 3 100 5000 ∷ step 4 sell 3 100 3000 ∷ [];
         blocks = block23 2900 ∷ [];
@@ -250,6 +255,7 @@ changeDays =
     -- S5 on a day of 23 with its steps in hours 2 and 4, its block over 2, 3 and 4: hour 3 needs no balance, its row is 0 and 0
     ∷ record {
       orders = record {
+        edition = 1;
         hours = 23;
         steps = step 1 buy 2 100 5000 ∷ step 2 sell 2 100 3000 ∷ step 3 buy 4 100 5000 ∷ step 4 sell 4 100 3000 ∷ [];
         blocks = block234 2900 ∷ [];
@@ -275,6 +281,7 @@ abbrev pub linkedDay : Block → Block → (price traded : ℕ) → List Bool �
 linkedDay parent child price traded chosen rows welfare facts =
     record {
       orders = record {
+        edition = 3;
         hours = 24;
         steps = baseWith [] .steps;
         blocks = parent ∷ child ∷ [];
@@ -305,6 +312,65 @@ linkedDays =
     ∷ linkedDay (block 1 sell 3 25 3000) (block 2 sell 3 25 3000) 3000 100 (true ∷ true ∷ []) (100 ∷ 50 ∷ 100 ∷ 50 ∷ []) 400000 []
     -- the same with a parent one cent dearer: it is left out, and its child with it
     ∷ linkedDay (block 1 sell 3 25 3001) (block 2 sell 3 25 3000) 4000 100 (false ∷ false ∷ []) (100 ∷ 100 ∷ 100 ∷ 100 ∷ []) 400000 []
+    ∷ []
+
+-- DAYS WHOSE PRICES CAN GIVE WAY (document 02, P7): a sell block and a buy block alone, of 50 each over the same hours, given as bits. Together they clear at
+-- every price from 1 to 300000. The edition, the day's hours and the blocks' prices are given, and what is published.
+abbrev pub twoBlocks : (edition hours bits sells buys : ℕ) → Orders
+twoBlocks edition hours bits sells buys =
+    record { edition = edition; hours = hours; steps = []; blocks = block 1 sell bits 50 sells ∷ block 2 buy bits 50 buys ∷ []; links = [] }
+
+abbrev pub shiftedDay : Orders → (prices traded : List ℕ) → Bool → ℕ → WorkedDay
+shiftedDay orders prices traded both welfare =
+    record {
+      orders = orders;
+      publishes = record { welfare = welfare; prices = prices; traded = traded; chosen = both ∷ both ∷ []; executed = [] };
+      prices = fact (true ∷ true ∷ []) 1 1 300000 150000 ∷ [];
+    }
+
+unfoldable pub shiftedDays : List WorkedDay
+shiftedDays =
+    -- the paper's example: t is 16 and the price 4800, in every hour, those without orders too; an hour by itself is still answered with the middle
+    shiftedDay (twoBlocks 4 24 3 3000 5000) (replicate 24 4800) (rest22 50 50 0) true 200000
+    -- the same book in edition 3: the middle price forbids the buy, and neither is taken
+    ∷ shiftedDay (twoBlocks 3 24 3 3000 5000) (replicate 24 150000) (replicate 24 0) false 0
+    -- dear blocks pull t above 500, to 984
+    ∷ shiftedDay (twoBlocks 4 24 3 295000 299000) (replicate 24 295200) (rest22 50 50 0) true 400000
+    -- limits around the middle: t stays 500
+    ∷ shiftedDay (twoBlocks 4 24 3 149000 151000) (replicate 24 150000) (rest22 50 50 0) true 200000
+    -- no t keeps both limits: neither is taken, and the empty set has t = 500
+    ∷ shiftedDay (twoBlocks 4 24 3 5000 3000) (replicate 24 150000) (replicate 24 0) false 0
+    -- a day of 23, over hours 2, 3 and 4: hour 3 stays 0 and 0
+    ∷ record {
+      orders = twoBlocks 4 23 14 3000 5000;
+      publishes = record {
+        welfare = 200000;
+        prices = hours234 4800 4800 0 4800;
+        traded = hours234 0 50 0 50;
+        chosen = true ∷ true ∷ [];
+        executed = [];
+      };
+      prices = [];
+    }
+    -- with steps: with a sell block at 4500 the prices of hours 1 and 2 are from 3000 to 5000, and it is taken at t = 750; every hour moves, those without
+    -- orders to 225000
+    ∷ record {
+      orders = record {
+        edition = 4;
+        hours = 24;
+        steps = step 1 buy 1 150 5000 ∷ step 2 sell 1 100 3000 ∷ step 3 buy 2 150 5000 ∷ step 4 sell 2 100 3000 ∷ [];
+        blocks = block 1 sell 3 50 4500 ∷ [];
+        links = [];
+      };
+      publishes = record {
+        welfare = 450000;
+        prices = rest22 4500 4500 225000;
+        traded = rest22 150 150 0;
+        chosen = true ∷ [];
+        executed = 150 ∷ 100 ∷ 150 ∷ 100 ∷ [];
+      };
+      prices = fact (true ∷ []) 1 3000 5000 4000 ∷ [];
+    }
     ∷ []
 
 -- The hour is answered so.

@@ -20,6 +20,7 @@ line root gain = record { root = root; gain = gain }
 abbrev pub scarceWith : List Block → List Link → Orders
 scarceWith blocks links =
     record {
+      edition = 3;
       hours = 24;
       steps = step 1 buy 1 200 5000 ∷ step 2 sell 1 100 3000 ∷ step 3 buy 2 200 5000 ∷ step 4 sell 2 100 3000 ∷ [];
       blocks = blocks;
@@ -36,6 +37,7 @@ generations =
 abbrev pub autumnFamily : Day
 autumnFamily =
     dayOf (record {
+      edition = 3;
       hours = 25;
       steps = step 1 buy 2 100 5000 ∷ step 2 sell 2 100 3000 ∷ step 3 buy 3 100 5000 ∷ step 4 sell 3 100 3000 ∷ [];
       blocks = block23 2900 ∷ block 2 sell 6 10 2800 ∷ [];

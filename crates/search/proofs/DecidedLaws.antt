@@ -8,14 +8,17 @@ use lib.Dec.{eqb, leb}
 use lib.ListN.{length, getD}
 use borrow.Author.Tests.{eq-eqb}
 use Rattle.rules.specs.Orders.{Side, buy, Step, Block}
-use Rattle.rules.specs.Hour.{when}
+use Rattle.rules.specs.Hour.{when, middle}
+use Rattle.rules.specs.Shift.{middleShift, shifted}
 use Rattle.rules.specs.Execution.{testSide}
-use Rattle.rules.specs.Day.{Day, daySum, taken, decisions, overBlocks, sells, buys, hourOf, stepsIn, priceSum, setPrices, keepsLimit, lawful}
+use Rattle.rules.specs.Day.{Day, daySum, taken, decisions, overBlocks, sells, buys, hourOf, stepsIn, priceSum, everyBlock, keepsAll, setPrices, keepsLimit, lawful}
 use Rattle.rules.specs.Contender.{Counts}
 use Rattle.rules.proofs.HourSums.{daySum-add}
 use Rattle.rules.proofs.Tests.{clash}
 use Rattle.rules.proofs.PricingLaws.{Clearable}
-use Rattle.rules.proofs.TableLaws.{unit-net, tablePrice}
+use Rattle.rules.proofs.TableLaws.{unit-net, unit-ordered, tablePrice}
+use Rattle.rules.proofs.ShiftLaws.{shifted-middle}
+use Rattle.rules.proofs.SetPriceLaws.{IsShift, middle-is, dayShift, no-shift, middle-shift}
 use Rattle.rules.proofs.NeighbourLaws.{slack}
 use Rattle.rules.proofs.LossLaws.{daySum-counted, lossOf}
 use Rattle.rules.proofs.LinkLaws.{Closed}
@@ -28,7 +31,8 @@ use Rattle.rules.proofs.PlaceLaws.{
   gapsAt,
   place-is,
   gaps-by-place,
-  price-at-place,
+  set-price-at-place,
+  keeps-at-places,
   lawful-by-places,
   lawful-limits,
   slack-at-place,
@@ -36,11 +40,10 @@ use Rattle.rules.proofs.PlaceLaws.{
 use Rattle.rules.proofs.QuietHours.{each-in-place}
 use Rattle.rules.proofs.LawCutLaws.{taken-passes}
 use Rattle.rules.proofs.LossSearchLaws as by-loss
-use Rattle.places.specs.Layout.{mostCountedGaps}
+use Rattle.places.specs.Layout.{hourPlaces, mostCountedGaps}
 use Rattle.places.specs.Hours.{sumOfHours, sumOver, countedColumn, cell, ofHour, PlacesClear, GapsOf, PricesOf}
-use Rattle.places.specs.Blocks.{hoursAt, keepsAt, allKeep, SetTrades}
-use Rattle.places.specs.Steps.{HoursTraded}
-use Rattle.search.specs.Meaning.{AnHour, Shown, Known, Branch, lossAbove, bestAs, DayOf, Outcome, Decided, lastReached}
+use Rattle.places.specs.Blocks.{hoursAt, keepsAt, allKeep}
+use Rattle.search.specs.Meaning.{AnHour, Shown, Known, Branch, lossAbove, bestAs, DayOf, Outcome, StepsAre, Decided, FoundAt, ShiftDecided, lastReached}
 use Rattle.search.specs.Tables.{Tables}
 use Rattle.places.proofs.LimitLaws.{keepsHere, all-keep-at, all-keep}
 use Rattle.places.proofs.CountedLaws.{day-sum, block-sum}
@@ -77,21 +80,31 @@ pub decided-bit : {day : Day} {p : ℕ → ℕ} {d : List Bool} {node : Node} �
 decided-bit {d = d} {node} branch a k = rw (← (branch .setIs)) (bits-at (length d) (node .set) a k)
 
 -- THE DAY AT ITS TABLES
+-- a price made of L and H is the one at shift t
+abbrev pub MadeAt : (ℕ → ℕ → ℕ) → ℕ → Type 0
+MadeAt price t = (l h : ℕ) → l ≤ h → price l h ≡ shifted t l h
+
 -- the price at a place, by the price table
-pub price-at-table : {day : Day} {p rest : ℕ → ℕ} {tables : Tables} → Known day p rest tables →
-    {places prices : List ℕ} → PricesOf (tables .unitPrices) places prices → (h : ℕ) → AnHour h → ofHour places h ≤ lastReached day h →
-    ofHour prices h ≡ pricesAt day (ofHour places) h
+pub price-at-table : {day : Day} {p rest : ℕ → ℕ} {tables : Tables} → Known day p rest tables → (price : ℕ → ℕ → ℕ) (t : ℕ) → MadeAt price t →
+    (places : List ℕ) (h : ℕ) → AnHour h → ofHour places h ≤ lastReached day h →
+    price (cell (tables .unitPrices) h (ofHour places h + 1)) (cell (tables .unitPrices) h (ofHour places h)) ≡ pricesAt day t (ofHour places) h
 unfolding pricesAt tablePrice
-price-at-table {day} known {places} priced h c fits =
+price-at-table {day} known price t made places h c fits =
     let i = ofHour places h in
     let off = overBlocks (buys h) (day .blocks) in
-    omega (
-      arith,
-      priced .are h (c .first) (c .last),
-      known .unitPriceIs h i c (omega arith),
-      known .unitPriceIs h (i + 1) c (omega arith),
-      unit-net (stepsIn h (day .steps)) (i + 1) (suc off) i off (omega arith),
-    )
+    let l = stepsIn h (day .steps) in
+    rw (known .unitPriceIs h (i + 1) c (omega arith), unit-net l (i + 1) (suc off) i off (omega arith), known .unitPriceIs h i c (omega arith))
+    (made _ _ (unit-ordered l i off))
+
+-- the middle price is the one at the middle shift
+pub shifted-is-middle : MadeAt middle middleShift
+shifted-is-middle l h k = sym (shifted-middle l h k)
+
+-- two tests that pass together have one answer
+same-answer : (a b : Bool) → (a ≡ true → b ≡ true) → (b ≡ true → a ≡ true) → a ≡ b
+same-answer true b f g = sym (f refl)
+same-answer false true f g = g refl
+same-answer false false f g = refl
 
 module _ {day : Day} {p rest : ℕ → ℕ} {tables : Tables} (known : Known day p rest tables)
     {node : Node} {d : List Bool} (branch : Branch day p d node) (whole : length d ≡ tables .count) where
@@ -100,6 +113,13 @@ module _ {day : Day} {p rest : ℕ → ℕ} {tables : Tables} (known : Known day
 
   place-fits : (h : ℕ) → AnHour h → place (day .blocks) d h ≤ lastReached day h
   place-fits h c = place-within (day .blocks) d h size
+
+  -- prices made of L and H at its places are those at shift t
+  pub priced-at : (price : ℕ → ℕ → ℕ) (t : ℕ) → MadeAt price t → (prices : List ℕ) →
+      ((h : ℕ) → 1 ≤ h → h ≤ hourPlaces → ofHour prices h ≡ price (cell (tables .unitPrices) h (ofHour (node .places) h + 1)) (cell (tables .unitPrices) h (ofHour (node .places) h))) →
+      (h : ℕ) → AnHour h → ofHour prices h ≡ pricesAt day t (ofHour (node .places)) h
+  priced-at price t made prices are h c =
+      are h (c .first) (c .last) ∙ price-at-table known price t made (node .places) h c (omega (arith, place-fits h c, branch .placesAre h c))
 
   -- a lawful set's places are in range
   lawful-in-range : lawful day d ≡ true → PlacesClear (tables .first) (tables .last) (node .places)
@@ -136,52 +156,73 @@ module _ {day : Day} {p rest : ℕ → ℕ} {tables : Tables} (known : Known day
           rw (known .changeIs) at (day-sum (day .hours) at),
         )
 
-    -- the prices by the price table
-    module _ {prices : List ℕ} (priced : PricesOf (tables .unitPrices) (node .places) prices) where
-      price-at : (h : ℕ) → AnHour h → ofHour prices h ≡ pricesAt day (place (day .blocks) d) h
+    -- THE PRICES at shift t by the price table
+    module _ (t : ℕ) (prices : List ℕ) (sized : length prices ≡ hourPlaces)
+        (are : (h : ℕ) → AnHour h → ofHour prices h ≡ pricesAt day t (ofHour (node .places)) h) where
+      price-at : (h : ℕ) → AnHour h → ofHour prices h ≡ pricesAt day t (place (day .blocks) d) h
       unfolding pricesAt
-      price-at h c =
-          let e = branch .placesAre h c in
-          let fits : ofHour (node .places) h ≤ lastReached day h = omega (arith, place-fits h c) in
-          rw e at (price-at-table known priced h c fits)
-
-      pub prices-are : (h : ℕ) → AnHour h → ofHour prices h ≡ setPrices day (taken (day .blocks) d) h
-      prices-are h c = price-at h c ∙ sym (price-at-place day d size (known .prices) (known .hours) h (clear-at h c))
+      price-at h c = rw (branch .placesAre h c) at (are h c)
 
       -- a block's limit by the columns, at the prices as they count
       abbrev counted : List ℕ
       counted = countedColumn (tables .change) prices
 
       keeps-same : (j : ℕ) (s : Shown day p (tables .blocks) j) →
-          keepsLimit (day .hours) (pricesAt day (place (day .blocks) d)) (s .block) ≡ keepsHere (tables .blocks) (node .set) counted counted j
+          keepsLimit (day .hours) (pricesAt day t (place (day .blocks) d)) (s .block) ≡ keepsHere (tables .blocks) (node .set) counted counted j
       unfolding keepsLimit keepsAt priceSum
       keeps-same j s =
-          let sum : daySum (day .hours) (λ h. when (s .block .runs h) (pricesAt day (place (day .blocks) d) h)) ≡ sumOfHours counted
+          let sum : daySum (day .hours) (λ h. when (s .block .runs h) (pricesAt day t (place (day .blocks) d) h)) ≡ sumOfHours counted
           (hoursAt (tables .blocks) j) =
           daySum-counted (day .hours) _ _ (λ h c. rw (s .runsIs h, ← (price-at h (an-hour c))))
-          ∙ rw (known .changeIs) at (block-sum (day .hours) prices (hoursAt (tables .blocks) j) (priced .size)) in
+          ∙ rw (known .changeIs) at (block-sum (day .hours) prices (hoursAt (tables .blocks) j) sized) in
           same-test _ _ _ _ _ _ (s .sideIs) sum (s .limitIs)
 
       bit-is : (j : ℕ) → j < tables .count → getD d j false ≡ eqb (node .set / 2 ^ j % 2) 1
       bit-is j k = decided-bit branch j (omega arith)
 
-      pub limits-kept : Closed (known .parent) d → allKeep (tables .blocks) (node .set) (countedColumn (tables .change) prices) (countedColumn (tables .change) prices) (tables .count) ≡ true → lawful day d ≡ true
-      limits-kept closed e =
-          lawful-by-places day d size (known .prices) (known .hours) (known .parents .allows d size closed) (λ h c. clear-at h (an-hour c))
-          (passes-taken noBlock _ (day .blocks) d (λ j k t.
+      abbrev columns-keep : Bool
+      columns-keep = allKeep (tables .blocks) (node .set) counted counted (tables .count)
+
+      abbrev blocks-keep : Bool
+      blocks-keep = everyBlock (keepsLimit (day .hours) (pricesAt day t (place (day .blocks) d))) (taken (day .blocks) d)
+
+      by-blocks : columns-keep ≡ true → blocks-keep ≡ true
+      by-blocks e =
+          passes-taken noBlock _ (day .blocks) d (λ j k is.
           let kc : j < tables .count = omega (arith, known .counted) in
           let s = known .shown j kc in
           rw (block-at (day .blocks) j (s .block) _ noBlock (s .next))
           (keeps-same j s ∙ all-keep-at (tables .blocks) (node .set) counted counted (tables .count) j e kc
-          (borrow.Author.Tests.eqb-true _ _ (sym (bit-is j kc) ∙ t)))))
+          (borrow.Author.Tests.eqb-true _ _ (sym (bit-is j kc) ∙ is))))
 
-      pub limits-broken : allKeep (tables .blocks) (node .set) (countedColumn (tables .change) prices) (countedColumn (tables .change) prices) (tables .count) ≡ false → lawful day d ≡ true → ⊥
-      limits-broken e law =
-          clash (all-keep (tables .blocks) (node .set) counted counted (tables .count) (λ j k c.
+      by-columns : blocks-keep ≡ true → columns-keep ≡ true
+      by-columns e =
+          all-keep (tables .blocks) (node .set) counted counted (tables .count) (λ j k c.
           let s = known .shown j k in
-          let t = taken-passes _ (day .blocks) d (lawful-limits day d size (known .prices) (known .hours) law) j noBlock
-          (omega (arith, known .counted)) (bit-is j k ∙ eq-eqb _ 1 c) in
-          sym (keeps-same j s) ∙ rw (block-at (day .blocks) j (s .block) _ noBlock (s .next)) at t)) e
+          let is = taken-passes _ (day .blocks) d e j noBlock (omega (arith, known .counted)) (bit-is j k ∙ eq-eqb _ 1 c) in
+          sym (keeps-same j s) ∙ rw (block-at (day .blocks) j (s .block) _ noBlock (s .next)) at is)
+
+      -- a shift keeps all blocks of the set exactly where the columns do
+      pub keeps-by-columns : keepsAll day (taken (day .blocks) d) t
+          ≡ allKeep (tables .blocks) (node .set) (countedColumn (tables .change) prices) (countedColumn (tables .change) prices) (tables .count)
+      keeps-by-columns =
+          keeps-at-places day d size (known .prices) (known .hours) t (λ h c. clear-at h (an-hour c))
+          ∙ same-answer blocks-keep columns-keep by-columns by-blocks
+
+      -- the set's own prices, where t is its shift
+      pub prices-are : dayShift day (taken (day .blocks) d) ≡ t → (h : ℕ) → AnHour h → ofHour prices h ≡ setPrices day (taken (day .blocks) d) h
+      prices-are e h c = price-at h c ∙ sym (rw e at (set-price-at-place day d size (known .prices) (known .hours) h (clear-at h c)))
+
+    -- LAWFUL by its limits alone, since every hour clears and no link is broken
+    pub limits-kept : Closed (known .parent) d → {t : ℕ} → IsShift (day .edition) t → keepsAll day (taken (day .blocks) d) t ≡ true → lawful day d ≡ true
+    limits-kept closed {t} shift e =
+        lawful-by-places day d size (known .prices) (known .hours) (known .parents .allows d size closed) (λ h c. clear-at h (an-hour c)) shift
+        (sym (keeps-at-places day d size (known .prices) (known .hours) t (λ h c. clear-at h (an-hour c))) ∙ e)
+
+    pub limits-broken : keepsAll day (taken (day .blocks) d) (dayShift day (taken (day .blocks) d)) ≡ false → lawful day d ≡ true → ⊥
+    limits-broken e law =
+        clash (keeps-at-places day d size (known .prices) (known .hours) _ (λ h c. clear-at h (an-hour c))
+        ∙ lawful-limits day d size (known .prices) (known .hours) law) e
 
 -- WHAT COMES BACK
 module _ {day : Day} {p rest : ℕ → ℕ} {count left : ℕ} {d : List Bool} {best : Best} where
@@ -206,8 +247,22 @@ module _ (day : Day) (p rest : ℕ → ℕ) (count : ℕ) (d : List Bool) (set :
         found = λ _. (rw es room, rw is of);
       }
 
+-- a set that is lawful and loses less than the best becomes the best, with its day
+pub becomes-best : {tables : Tables} {node : Node} {steps : ℕ → List Step} {total : ℕ} {prices : List ℕ} {best r : Best} →
+    FoundAt (tables .blocks) (tables .count) steps (node .set) total prices r → total < best .limit →
+    {day : Day} {p rest : ℕ → ℕ} {d : List Bool} → total ≡ lossAbove day p rest d → StepsAre day steps → Known day p rest tables → Branch day p d node →
+    length d ≡ tables .count → node .set < 2 ^ tables .count → lawful day d ≡ true →
+    ((h : ℕ) → AnHour h → ofHour prices h ≡ setPrices day (taken (day .blocks) d) h) → Outcome day p rest (tables .count) 0 d best r
+becomes-best {tables} {node} {prices = prices} {best} {r} found less {day} {p} {rest} {d} loses same known branch whole room law is =
+    newly-found day p rest (tables .count) d (node .set) best r (rw whole at (branch .setIs)) room (found .setIs) (found .limitIs ∙ loses)
+    (rw (found .limitIs) less) law
+    record {
+      pricesAre = λ h c. rw (found .pricesAre) (is h c);
+      tradedAre = traded-are known same whole (branch .setIs) law prices (r .day .quantities) (found .trades) is (found .traded);
+    }
+
 -- A DECIDED SET, one law for each way out
-leaf-as-it-was : {day : Day} {p rest : ℕ → ℕ} {count : ℕ} {d : List Bool} {best : Best} → (lawful day d ≡ true → best .limit ≤ lossAbove day p rest d) →
+pub leaf-as-it-was : {day : Day} {p rest : ℕ → ℕ} {count : ℕ} {d : List Bool} {best : Best} → (lawful day d ≡ true → best .limit ≤ lossAbove day p rest d) →
     Outcome day p rest count 0 d best best
 leaf-as-it-was {day} {p} {rest} {count} {d} {best} f = record {
   explored = by-loss.leaf-kept day (InTurn day p) (lossAbove day p rest) d (bestAs count best) (λ law _. f law);
@@ -232,24 +287,41 @@ module _ {tables : Tables} {node : Node} {clears : Bool} {sum : ℕ}
     pub decided-worse : {steps : ℕ → List Step} {best : Best} → best .limit ≤ node .loss + sum → Decided tables steps node best best
     decided-worse k day p rest d same known branch closed whole room = leaf-as-it-was (λ law. omega (arith, loss-here known branch whole))
 
-    module _ {prices : List ℕ} (priced : PricesOf (tables .unitPrices) (node .places) prices) {steps : ℕ → List Step} {best : Best} where
-      -- a block misses its limit
-      pub decided-broken : allKeep (tables .blocks) (node .set) (countedColumn (tables .change) prices) (countedColumn (tables .change) prices) (tables .count) ≡ false → Decided tables steps node best best
-      decided-broken k day p rest d same known branch closed whole room =
-          leaf-as-it-was (λ law. absurd (limits-broken known branch whole (gapped .inRange e) priced k law))
+    -- the limits at the middle prices
+    keeps-middle : {prices : List ℕ} → PricesOf middle (tables .unitPrices) (node .places) prices →
+        {day : Day} {p rest : ℕ → ℕ} {d : List Bool} → Known day p rest tables → Branch day p d node → length d ≡ tables .count →
+        keepsAll day (taken (day .blocks) d) middleShift
+        ≡ allKeep (tables .blocks) (node .set) (countedColumn (tables .change) prices) (countedColumn (tables .change) prices) (tables .count)
+    keeps-middle {prices} priced known branch whole =
+        keeps-by-columns known branch whole (gapped .inRange e) middleShift prices (priced .size)
+        (priced-at known branch whole middle middleShift shifted-is-middle prices (priced .are))
 
-      -- it is lawful and loses less
-      pub decided-better : allKeep (tables .blocks) (node .set) (countedColumn (tables .change) prices) (countedColumn (tables .change) prices) (tables .count) ≡ true → node .loss + sum < best .limit →
-          {sales purchases quantities : List ℕ} → SetTrades (tables .blocks) (tables .count) (node .set) sales purchases →
-          HoursTraded steps sales purchases prices quantities →
-          Decided tables steps node best
-          record { limit = node .loss + sum; set = node .set; day = record { prices = prices; quantities = quantities } }
-      decided-better k less {sales} {purchases} {quantities} sets trades day p rest d same known branch closed whole room =
-          let in-range = gapped .inRange e in
-          let law = limits-kept known branch whole in-range priced closed k in
-          let is = prices-are known branch whole in-range priced in
-          newly-found day p rest (tables .count) d (node .set) best _ (rw whole at (branch .setIs)) room refl (sym (loss-here known branch whole)) less law
-          record { pricesAre = is; tradedAre = traded-are known same whole (branch .setIs) law prices quantities sets is trades }
+    module _ {steps : ℕ → List Step} {best : Best} where
+      -- another shift is looked for
+      pub decided-at-shift : {r : Best} → node .loss + sum < best .limit → tables .shifts ≡ true → ShiftDecided tables steps node (node .loss + sum) best r →
+          Decided tables steps node best r
+      decided-at-shift less way f day p rest d same known branch closed whole room =
+          f day p rest d same known branch closed whole room (loss-here known branch whole) less (gapped .inRange e) way
+
+      module _ {prices : List ℕ} (priced : PricesOf middle (tables .unitPrices) (node .places) prices) where
+        -- a block misses its limit there, and prices cannot give way
+        pub decided-broken : allKeep (tables .blocks) (node .set) (countedColumn (tables .change) prices) (countedColumn (tables .change) prices) (tables .count) ≡ false →
+            tables .shifts ≡ false → Decided tables steps node best best
+        decided-broken k way day p rest d same known branch closed whole room =
+            leaf-as-it-was (λ law. absurd (limits-broken known branch whole (gapped .inRange e)
+            (rw (no-shift day (taken (day .blocks) d) (known .shiftsIs ∙ way)) (keeps-middle priced known branch whole ∙ k)) law))
+
+        -- it is lawful and loses less
+        pub decided-better : allKeep (tables .blocks) (node .set) (countedColumn (tables .change) prices) (countedColumn (tables .change) prices) (tables .count) ≡ true →
+            node .loss + sum < best .limit → {r : Best} → FoundAt (tables .blocks) (tables .count) steps (node .set) (node .loss + sum) prices r →
+            Decided tables steps node best r
+        decided-better k less found day p rest d same known branch closed whole room =
+            let kept = keeps-middle priced known branch whole ∙ k in
+            becomes-best found less (sym (loss-here known branch whole)) same known branch whole room
+            (limits-kept known branch whole (gapped .inRange e) closed (middle-is (day .edition)) kept)
+            (prices-are known branch whole (gapped .inRange e) middleShift prices (priced .size)
+            (priced-at known branch whole middle middleShift shifted-is-middle prices (priced .are))
+            (middle-shift day (taken (day .blocks) d) kept))
 
 -- LAWFUL SETS at the tables
 module _ {day : Day} {p rest : ℕ → ℕ} {tables : Tables} (known : Known day p rest tables) where

@@ -15,7 +15,7 @@ use borrow.Author.Tests.{leb-true, eq-eqb}
 use Rattle.rules.specs.Orders.{Side}
 use Rattle.rules.specs.Hour.{when}
 use Rattle.rules.specs.Execution.{testSide}
-use Rattle.rules.specs.Day.{Day, taken, hourOf, priceSum, lawful}
+use Rattle.rules.specs.Day.{Day, taken, hourOf, priceSum, givesWay, lawful}
 use Rattle.rules.proofs.HourSums.{daySum-add}
 use Rattle.rules.proofs.Tests.{by-test, clash}
 use Rattle.rules.proofs.CurveLaws.{when-le}
@@ -25,12 +25,14 @@ use Rattle.rules.proofs.LossLaws.{daySum-counted, against, losses, bound-with}
 use Rattle.rules.proofs.PlaceLaws.{place, place-none, place-split, pricesAt}
 use Rattle.rules.proofs.LinkLaws.{Closed}
 use Rattle.rules.proofs.TwinLaws.{block-at}
+use Rattle.rules.proofs.ShiftLaws.{shifted-first, shifted-middle, shifted-last}
+use Rattle.rules.proofs.SetPriceLaws.{leastShift, mostShift}
 use Rattle.rules.proofs.LawCutLaws.{couldKeep, taken-could}
-use Rattle.places.specs.Hours.{sumOfHours, sumOver, countedColumn, cell, ofHour, PricesOf, leastGap}
+use Rattle.places.specs.Hours.{sumOfHours, sumOver, countedColumn, cell, ofHour, DayPrices, PricesOf, leastGap}
 use Rattle.places.specs.Blocks.{sideAt, hoursAt, limitAt, gainAt, parentAt, rowQuantity, keepsAt, allKeep, addedIn}
 use Rattle.places.specs.Reach.{isOut, mustFrom, mayFrom, RestOf, ReachOf}
 use Rattle.search.specs.Decisions.{namesGone, isRuledOut, outGains, RuledOut}
-use Rattle.search.specs.Meaning.{AnHour, Shown, Known, Branch, lossAbove, At, DroppedFrom, JudgedFrom, lastReached}
+use Rattle.search.specs.Meaning.{AnHour, Shown, Known, Branch, lossAbove, bestForSells, bestForBuys, BoundsOf, At, DroppedFrom, JudgedFrom, lastReached}
 use Rattle.search.specs.Tables.{Tables}
 use Rattle.places.proofs.NumberLaws.{larger-least, larger-above, smaller-most, smaller-below, nearest-least}
 use Rattle.places.proofs.LimitLaws.{all-keep}
@@ -39,7 +41,7 @@ use Rattle.places.proofs.CountedLaws.{day-sum, block-sum}
 use Rattle.search.proofs.ClosedLaws.{lawful-closed}
 use Rattle.search.proofs.DecisionLaws.{gone-named, gone-which}
 use Rattle.search.proofs.TradedLaws.{sells-at, buys-at}
-use Rattle.search.proofs.DecidedLaws.{an-hour, noBlock, decided-bit, price-at-table, lawful-place, gap-of-lawful, rest-below}
+use Rattle.search.proofs.DecidedLaws.{an-hour, noBlock, decided-bit, MadeAt, price-at-table, lawful-place, gap-of-lawful, rest-below}
 use Rattle.search.specs.declared.Node.{Node}
 
 -- THE PLACE OF THE REST at a loss below the limit, where it takes no block that is out
@@ -121,23 +123,55 @@ same-could : (side side′ : Side) (floor floor′ cap cap′ limit limit′ : �
     testSide side (leb floor limit) (leb limit cap) ≡ testSide side′ (leb floor′ limit′) (leb limit′ cap′)
 same-could side side′ floor floor′ cap cap′ limit limit′ a b c d = rw (a, b, c, d)
 
+-- THE BEST PRICES WITHIN REACH, as the code reads them
+module _ {unitPrices : List ℕ} {often : ℕ} {from to : List ℕ} {high low highs lows : List ℕ}
+    (highIs : (high ≡ countedColumn often highs) × DayPrices high) (lowIs : (low ≡ countedColumn often lows) × DayPrices low) where
+  pub bounds-of : (shifts : Bool) → PricesOf (bestForSells shifts) unitPrices from highs → PricesOf (bestForBuys shifts) unitPrices to lows →
+      BoundsOf shifts unitPrices often from to high low
+  bounds-of shifts h l = record {
+    highs = highs;
+    lows = lows;
+    highsAre = h;
+    lowsAre = l;
+    highIs = highIs .0;
+    lowIs = lowIs .0;
+    highFits = highIs .1;
+    lowFits = lowIs .1;
+  }
+
+-- the best prices within reach are those at the greatest and at the least shift of the edition
+best-for-sells : (edition : ℕ) (shifts : Bool) → givesWay edition ≡ shifts → MadeAt (bestForSells shifts) (mostShift edition)
+unfolding mostShift
+best-for-sells edition true e l h k = rw e (sym (shifted-last l h k))
+best-for-sells edition false e l h k = rw e (sym (shifted-middle l h k))
+
+best-for-buys : (edition : ℕ) (shifts : Bool) → givesWay edition ≡ shifts → MadeAt (bestForBuys shifts) (leastShift edition)
+unfolding leastShift
+best-for-buys edition true e l h k = rw e (sym (shifted-first l h))
+best-for-buys edition false e l h k = rw e (sym (shifted-middle l h k))
+
 module _ {day : Day} {p rest : ℕ → ℕ} {tables : Tables} (known : Known day p rest tables)
-    {from to high lowest : List ℕ} (priced-high : PricesOf (tables .unitPrices) from high) (priced-low : PricesOf (tables .unitPrices) to lowest)
+    {from to high low : List ℕ} (bounds : BoundsOf (tables .shifts) (tables .unitPrices) (tables .change) from to high low)
     (from-fits : (h : ℕ) → AnHour h → ofHour from h ≤ lastReached day h) (to-fits : (h : ℕ) → AnHour h → ofHour to h ≤ lastReached day h)
     {j : ℕ} (s : Shown day p (tables .blocks) j) where
   -- the sum of prices at places, by the table
-  sum-same : (at prices : List ℕ) → PricesOf (tables .unitPrices) at prices → ((h : ℕ) → AnHour h → ofHour at h ≤ lastReached day h) →
-      priceSum (day .hours) (pricesAt day (ofHour at)) (s .block) ≡ sumOfHours (countedColumn (tables .change) prices) (hoursAt (tables .blocks) j)
+  sum-same : (price : ℕ → ℕ → ℕ) (t : ℕ) → MadeAt price t → (at prices : List ℕ) → PricesOf price (tables .unitPrices) at prices →
+      ((h : ℕ) → AnHour h → ofHour at h ≤ lastReached day h) →
+      priceSum (day .hours) (pricesAt day t (ofHour at)) (s .block) ≡ sumOfHours (countedColumn (tables .change) prices) (hoursAt (tables .blocks) j)
   unfolding priceSum
-  sum-same at prices priced fits =
-      daySum-counted (day .hours) _ _ (λ h c. rw (s .runsIs h, ← (price-at-table known priced h (an-hour c) (fits h (an-hour c)))))
+  sum-same price t made at prices priced fits =
+      daySum-counted (day .hours) _ _ (λ h c.
+      rw (s .runsIs h, ← (priced .are h (c .first) (c .last) ∙ price-at-table known price t made at h (an-hour c) (fits h (an-hour c)))))
       ∙ rw (known .changeIs) at (block-sum (day .hours) prices (hoursAt (tables .blocks) j) (priced .size))
 
-  could-same : keepsAt (sideAt (tables .blocks) j) (hoursAt (tables .blocks) j) (limitAt (tables .blocks) j) (countedColumn (tables .change) high) (countedColumn (tables .change) lowest)
-      ≡ couldKeep (day .hours) (pricesAt day (ofHour from)) (pricesAt day (ofHour to)) (s .block)
+  could-same : keepsAt (sideAt (tables .blocks) j) (hoursAt (tables .blocks) j) (limitAt (tables .blocks) j) high low
+      ≡ couldKeep (day .hours) (pricesAt day (mostShift (day .edition)) (ofHour from)) (pricesAt day (leastShift (day .edition)) (ofHour to)) (s .block)
   unfolding keepsAt couldKeep
   could-same =
-      sym (same-could _ _ _ _ _ _ _ _ (s .sideIs) (sum-same to lowest priced-low to-fits) (sum-same from high priced-high from-fits) (s .limitIs))
+      rw (bounds .highIs, bounds .lowIs)
+      (sym (same-could _ _ _ _ _ _ _ _ (s .sideIs)
+      (sum-same (bestForBuys (tables .shifts)) (leastShift (day .edition)) (best-for-buys (day .edition) (tables .shifts) (known .shiftsIs)) to (bounds .lows) (bounds .lowsAre) to-fits)
+      (sum-same (bestForSells (tables .shifts)) (mostShift (day .edition)) (best-for-sells (day .edition) (tables .shifts) (known .shiftsIs)) from (bounds .highs) (bounds .highsAre) from-fits) (s .limitIs)))
 
 -- a bound that holds where a number is below it holds
 unless : (limit n : ℕ) → (n < limit → limit ≤ n) → limit ≤ n
@@ -258,15 +292,15 @@ module _ {tables : Tables} {left out : ℕ} {node : Node} {limit : ℕ} where
               )
 
       -- each of its blocks keeps its limit at the best prices there
-      block-could : {high lowest : List ℕ} → PricesOf (tables .unitPrices) from high → PricesOf (tables .unitPrices) to lowest → balances ≡ true →
+      block-could : {high low : List ℕ} → BoundsOf (tables .shifts) (tables .unitPrices) (tables .change) from to high low → balances ≡ true →
           lossAbove day p rest (d ++ t) < limit → (j : ℕ) → j < tables .count → getD (d ++ t) j false ≡ true →
-          keepsAt (sideAt (tables .blocks) j) (hoursAt (tables .blocks) j) (limitAt (tables .blocks) j) (countedColumn (tables .change) high) (countedColumn (tables .change) lowest) ≡ true
-      block-could ph pl e k j inside set-bit =
+          keepsAt (sideAt (tables .blocks) j) (hoursAt (tables .blocks) j) (limitAt (tables .blocks) j) high low ≡ true
+      block-could bounds e k j inside set-bit =
           let s = known .shown j inside in
           let could = taken-could day (known .prices) (known .hours) (d ++ t) (whole ∙ sym (known .counted)) law (ofHour from) (ofHour to)
           record { from = λ h c. in-reach k h (an-hour c) .0; to = λ h c. in-reach k h (an-hour c) .1 }
           j noBlock (omega (arith, known .counted)) set-bit in
-          could-same known ph pl (fits-in .0) (fits-in .1) s
+          could-same known bounds (fits-in .0) (fits-in .1) s
           ∙ rw (block-at (day .blocks) j (s .block) _ noBlock (s .next)) at could
         where
           fits-in : ((h : ℕ) → AnHour h → ofHour from h ≤ lastReached day h) × ((h : ℕ) → AnHour h → ofHour to h ≤ lastReached day h)
@@ -280,20 +314,20 @@ module _ {tables : Tables} {left out : ℕ} {node : Node} {limit : ℕ} where
           )
 
       -- the decided ones, and one of the rest
-      decided-could : {high lowest : List ℕ} → PricesOf (tables .unitPrices) from high → PricesOf (tables .unitPrices) to lowest → balances ≡ true →
-          lossAbove day p rest (d ++ t) < limit → allKeep (tables .blocks) (node .set) (countedColumn (tables .change) high) (countedColumn (tables .change) lowest) (tables .count - left) ≡ true
-      decided-could {high} {lowest} ph pl e k =
-          all-keep (tables .blocks) (node .set) (countedColumn (tables .change) high) (countedColumn (tables .change) lowest) (tables .count - left) (λ j m bit.
+      decided-could : {high low : List ℕ} → BoundsOf (tables .shifts) (tables .unitPrices) (tables .change) from to high low → balances ≡ true →
+          lossAbove day p rest (d ++ t) < limit → allKeep (tables .blocks) (node .set) high low (tables .count - left) ≡ true
+      decided-could {high} {low} bounds e k =
+          all-keep (tables .blocks) (node .set) high low (tables .count - left) (λ j m bit.
           let here : j < length d = omega (arith, size) in
-          block-could ph pl e k j (omega arith)
+          block-could bounds e k j (omega arith)
           (List·getD-append d t false j here ∙ decided-bit branch j here ∙ eq-eqb _ 1 bit))
 
-      rest-could : {high lowest : List ℕ} → PricesOf (tables .unitPrices) from high → PricesOf (tables .unitPrices) to lowest → balances ≡ true →
+      rest-could : {high low : List ℕ} → BoundsOf (tables .shifts) (tables .unitPrices) (tables .change) from to high low → balances ≡ true →
           lossAbove day p rest (d ++ t) < limit → (j : ℕ) → j < left → getD t j false ≡ true →
-          keepsAt (sideAt (tables .blocks) (tables .count - left + j)) (hoursAt (tables .blocks) (tables .count - left + j)) (limitAt (tables .blocks) (tables .count - left + j)) (countedColumn (tables .change) high) (countedColumn (tables .change) lowest) ≡ true
-      rest-could ph pl e k j inside bit =
+          keepsAt (sideAt (tables .blocks) (tables .count - left + j)) (hoursAt (tables .blocks) (tables .count - left + j)) (limitAt (tables .blocks) (tables .count - left + j)) high low ≡ true
+      rest-could bounds e k j inside bit =
           let here : tables .count - left ≡ length d = omega (arith, size) in
-          block-could ph pl e k (tables .count - left + j) (omega (arith, size)) (rw here (getD-behind d t j ∙ bit))
+          block-could bounds e k (tables .count - left + j) (omega (arith, size)) (rw here (getD-behind d t j ∙ bit))
 
     -- some hour can no longer balance
     pub dropped-unbalanced : balances ≡ false → DroppedFrom tables left out node limit
@@ -306,14 +340,13 @@ module _ {tables : Tables} {left out : ℕ} {node : Node} {limit : ℕ} where
     dropped-by-gaps z day p rest d t at l law = unless _ _ (λ k. absurd (omega (arith, gaps-least t at l law k 0 (omega arith))))
 
     -- a taken block misses its limit at the best prices within reach
-    module _ {high lowest : List ℕ} (ph : PricesOf (tables .unitPrices) from high) (pl : PricesOf (tables .unitPrices) to lowest) (e : balances ≡ true)
-        {high-counted low-counted : List ℕ} (hc : high-counted ≡ countedColumn (tables .change) high) (lc : low-counted ≡ countedColumn (tables .change) lowest) where
-      pub dropped-by-limit : allKeep (tables .blocks) (node .set) high-counted low-counted (tables .count - left) ≡ false → DroppedFrom tables left out node limit
+    module _ {high low : List ℕ} (bounds : BoundsOf (tables .shifts) (tables .unitPrices) (tables .change) from to high low) (e : balances ≡ true) where
+      pub dropped-by-limit : allKeep (tables .blocks) (node .set) high low (tables .count - left) ≡ false → DroppedFrom tables left out node limit
       dropped-by-limit misses day p rest d t at l law =
-          unless _ _ (λ k. clash (rw (hc, lc) (decided-could t at l law ph pl e k)) misses)
+          unless _ _ (λ k. clash (decided-could t at l law bounds e k) misses)
 
       -- WHAT IS OUT: what was before, a child of a block that is gone, and an undecided block that misses its limit at the best prices within reach
-      module _ (le : left ≤ tables .count) (r : ℕ) (is : RuledOut (tables .blocks) (tables .count) (tables .count - left) (node .set) out high-counted low-counted r)
+      module _ (le : left ≤ tables .count) (r : ℕ) (is : RuledOut (tables .blocks) (tables .count) (tables .count - left) (node .set) out high low r)
           {day : Day} {p rest : ℕ → ℕ} {d : List Bool} (at : At tables left node limit out day p rest d) (t : List Bool) (l : length t ≡ left)
           (law : lawful day (d ++ t) ≡ true) (less : lossAbove day p rest (d ++ t) < limit) where
         here-is : tables .count - left ≡ length d
@@ -355,8 +388,8 @@ module _ {tables : Tables} {left out : ℕ} {node : Node} {limit : ℕ} where
         ruled-not (suc n) k a inside ruled =
             by-test (λ u. getD t k false ≡ u → u ≡ false) (getD t k false)
             (λ bit _.
-            let keeps = rest-could t at l law ph pl e less k inside bit in
-            let was = rw (hc, lc) at (sym (is k (omega arith)) ∙ ruled) in
+            let keeps = rest-could t at l law bounds e less k inside bit in
+            let was = sym (is k (omega arith)) ∙ ruled in
             by-which bit (λ j b outs. ruled-not n j (omega arith) (omega arith) outs) (either-out (isOut out k) _ _ keeps was))
             (λ _ _. refl) refl
           where
@@ -367,7 +400,7 @@ module _ {tables : Tables} {left out : ℕ} {node : Node} {limit : ℕ} where
 
       -- or the branch is dropped: what they would gain and the least gaps come to as much
       pub judged-open : left ≤ tables .count → {r gaps gains : ℕ} →
-          RuledOut (tables .blocks) (tables .count) (tables .count - left) (node .set) out high-counted low-counted r →
+          RuledOut (tables .blocks) (tables .count) (tables .count - left) (node .set) out high low r →
           gaps ≡ sumOver (tables .change) (leastGap (tables .gaps) (tables .turn) from to) →
           gains ≡ outGains (tables .blocks) (tables .count - left) r (tables .count - (tables .count - left)) →
           JudgedFrom tables left out node limit (leb limit (node .loss + gaps + gains)) r

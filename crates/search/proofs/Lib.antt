@@ -3,6 +3,7 @@ pub mod ClosedLaws
 pub mod DecisionLaws
 pub mod TradedLaws
 pub mod DecidedLaws
+pub mod ShiftedLaws
 pub mod BranchLaws
 pub mod DropLaws
 pub mod PassLaws

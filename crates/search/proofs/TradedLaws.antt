@@ -10,13 +10,13 @@ use lib.ListN.{length, drop, getD}
 use borrow.Author.Tests.{ne-eqb}
 use Rattle.orders.specs.Columns.{sideFor}
 use Rattle.rules.specs.Orders.{Step, Block}
-use Rattle.rules.specs.Hour.{bySide, when, Pricing, cleared, doesNotClear, pricing, answeredPrice}
+use Rattle.rules.specs.Hour.{bySide, when}
 use Rattle.rules.specs.Day.{Day, taken, decisions, overBlocks, sells, buys, hourOf, setPrices, lawful, traded}
 use Rattle.rules.specs.Contender.{PricesInRange, HoursInRange}
 use Rattle.rules.proofs.CurveLaws.{when-zero}
-use Rattle.rules.proofs.PricingLaws.{Clearable, Priced, pricing-is}
+use Rattle.rules.proofs.DayLaws.{clearable-clears}
+use Rattle.rules.proofs.SetPriceLaws.{dayShift, price-at-shift, shift-price-positive}
 use Rattle.rules.proofs.ExecutionLaws.{traded-lesser}
-use Rattle.rules.proofs.ChainLaws.{prices-in}
 use Rattle.rules.proofs.QuietHours.{Quiet, each-clears, each-clearable}
 use Rattle.rules.proofs.SetBits.{bits-at}
 use Rattle.places.specs.Hours.{ofHour}
@@ -86,15 +86,10 @@ module _ {day : Day} {p rest : ℕ → ℕ} {tables : Tables} (known : Known day
 -- every hour of a lawful set has a price
 pub price-positive : (day : Day) → Quiet day → PricesInRange (day .steps) → HoursInRange (day .steps) → (chosen : List Bool) → lawful day chosen ≡ true →
     (h : ℕ) → AnHour h → 1 ≤ setPrices day (taken (day .blocks) chosen) h
-unfolding setPrices
 price-positive day quiet prices hours chosen law h c =
-    let hour = hourOf day (taken (day .blocks) chosen) h in
-    go (pricing hour) (pricing-is hour (prices-in h (day .steps) prices))
-    (each-clearable day quiet chosen prices hours law h (c .first) (c .last))
-  where
-    go : (p : Pricing) → Priced (hourOf day (taken (day .blocks) chosen) h) p → Clearable (hourOf day (taken (day .blocks) chosen) h) → 1 ≤ answeredPrice p
-    go (cleared l u p) s k = omega (arith, s .isMiddle, s .positive, s .ordered)
-    go doesNotClear s k = absurd (s k)
+    rw (price-at-shift day prices (taken (day .blocks) chosen) h)
+    (shift-price-positive day prices (taken (day .blocks) chosen) (dayShift day (taken (day .blocks) chosen)) h
+    (clearable-clears day prices hours (taken (day .blocks) chosen) h (each-clearable day quiet chosen prices hours law h (c .first) (c .last))))
 
 -- THE TRADED QUANTITY of a lawful set: at its prices, with the day's steps and what its blocks sell and buy
 pub traded-are : {day : Day} {p rest : ℕ → ℕ} {tables : Tables} → Known day p rest tables →

@@ -11,7 +11,7 @@ use Rattle.places.specs.Layout.{hourPlaces, mostAdded}
 use Rattle.records.specs.Records.{holdsHour}
 use Rattle.orders.specs.Columns.{sideFor}
 use Rattle.rules.specs.Orders.{Step, Block, maxPrice}
-use Rattle.rules.specs.Day.{Day, changeHour, weight, daySum, taken, decisions, overBlocks, sells, buys, stepsIn, setPrices, hourCount, lawful, traded}
+use Rattle.rules.specs.Day.{Day, changeHour, weight, daySum, taken, decisions, overBlocks, sells, buys, stepsIn, givesWay, setPrices, hourCount, lawful, traded}
 use Rattle.rules.specs.Outcome.{outcome}
 use Rattle.rules.specs.Contender.{PricesInRange, HoursInRange}
 use Rattle.rules.proofs.PricingLaws.{Clearable, net}
@@ -24,14 +24,15 @@ use Rattle.rules.proofs.PlaceLaws.{place, hourAt}
 use Rattle.rules.proofs.QuietHours.{Quiet}
 use Rattle.rules.proofs.LinkLaws.{Closed, Parents}
 use Rattle.rules.proofs.TwinLaws.{Ahead, InTurn}
-use Rattle.places.specs.Hours.{Small, cell, ofHour, HasRows, lastIn}
-use Rattle.places.specs.Blocks.{BlocksSized, sideAt, hoursAt, limitAt, againstAt, gainAt, parentAt, aheadAt, behindAt, rowQuantity}
+use Rattle.places.specs.Hours.{Small, DayPrices, cell, ofHour, HasRows, lastIn, countedColumn, PlacesClear, lowEnd, highEnd, PricesOf}
+use Rattle.places.specs.Blocks.{BlocksSized, sideAt, hoursAt, limitAt, againstAt, gainAt, parentAt, aheadAt, behindAt, rowQuantity, SetTrades}
+use Rattle.places.specs.Steps.{HoursTraded}
 use Rattle.places.specs.Reach.{isOut}
-use Rattle.search.specs.Tables.{Tables}
+use Rattle.search.specs.Tables.{Tables, tablesOf}
 use Rattle.search.specs.declared.Day as code-day
 use Rattle.search.specs.declared.Best.{Best}
 use Rattle.search.specs.declared.Node.{Node}
-use Rattle.rules.specs.Hour.{when}
+use Rattle.rules.specs.Hour.{when, middle}
 
 -- SIZES, for safe arithmetic and indexing
 pub record Sized (t : Tables) : Type 0 where
@@ -80,6 +81,7 @@ pub record Known (day : Day) (p rest : ℕ → ℕ) (t : Tables) : Type 0 where
   pub quiet : Quiet day
   pub changeIs : weight (day .hours) changeHour ≡ t .change
   pub changeFew : t .change ≤ 2
+  pub shiftsIs : givesWay (day .edition) ≡ t .shifts
   pub counted : length (day .blocks) ≡ t .count
   -- the price table: the least price that meets the demand, one unit of N below the place
   pub unitPriceIs : (h i : ℕ) → AnHour h → i ≤ lastReached day h + 1 →
@@ -141,6 +143,48 @@ abbrev pub Decided : (t : Tables) (steps : ℕ → List Step) (node : Node) (bes
 Decided t steps node best r =
     (day : _) (p rest : ℕ → ℕ) (d : List Bool) → StepsAre day steps → (known : Known day p rest t) → Branch day p d node →
     Closed (known .parent) d → length d ≡ t .count → node .set < 2 ^ t .count → Outcome day p rest (t .count) 0 d best r
+
+-- A SET THAT BECOMES THE BEST at prices, with what it loses: its day has these prices, and what is traded at them.
+pub record FoundAt (blocks : List ℕ) (count : ℕ) (steps : ℕ → List Step) (set total : ℕ) (prices : List ℕ) (r : Best) : Type 0 where
+  pub limitIs : r .limit ≡ total
+  pub setIs : r .set ≡ set
+  pub pricesAre : r .day .prices ≡ prices
+  pub sales : List ℕ
+  pub purchases : List ℕ
+  pub trades : SetTrades blocks count set sales purchases
+  pub traded : HoursTraded steps sales purchases prices (r .day .quantities)
+
+-- The same set where prices can give way, once its hours clear and it loses so much, less than the best.
+abbrev pub ShiftDecided : (t : Tables) (steps : ℕ → List Step) (node : Node) (total : ℕ) (best r : Best) → Type 0
+ShiftDecided t steps node total best r =
+    (day : _) (p rest : ℕ → ℕ) (d : List Bool) → StepsAre day steps → (known : Known day p rest t) → Branch day p d node →
+    Closed (known .parent) d → length d ≡ t .count → node .set < 2 ^ t .count → lossAbove day p rest d ≡ total → total < best .limit →
+    PlacesClear (t .first) (t .last) (node .places) → t .shifts ≡ true → Outcome day p rest (t .count) 0 d best r
+
+-- The gaps play no part in that.
+abbrev pub ShiftDecidedIn : (unitPrices hours blocks : List ℕ) (count : ℕ) (steps : ℕ → List Step) (node : Node) (total : ℕ) (best r : Best) → Type 0
+ShiftDecidedIn unitPrices hours blocks count steps node total best r =
+    (gaps : List ℕ) → ShiftDecided (tablesOf unitPrices gaps hours blocks count) steps node total best r
+
+-- THE BEST PRICES WITHIN REACH: for a sell those of the lowest places, for a buy those of the highest; H and L there where prices can give way, else the middle.
+abbrev pub bestForSells : Bool → (low high : ℕ) → ℕ
+bestForSells true = highEnd
+bestForSells false = middle
+
+abbrev pub bestForBuys : Bool → (low high : ℕ) → ℕ
+bestForBuys true = lowEnd
+bestForBuys false = middle
+
+-- These as they count, hour 3's so often.
+pub record BoundsOf (shifts : Bool) (unitPrices : List ℕ) (often : ℕ) (from to high low : List ℕ) : Type 0 where
+  pub highs : List ℕ
+  pub lows : List ℕ
+  pub highsAre : PricesOf (bestForSells shifts) unitPrices from highs
+  pub lowsAre : PricesOf (bestForBuys shifts) unitPrices to lows
+  pub highIs : high ≡ countedColumn often highs
+  pub lowIs : low ≡ countedColumn often lows
+  pub highFits : DayPrices high
+  pub lowFits : DayPrices low
 
 -- THE BLOCKS THAT ARE OUT of a branch: no lawful completion that loses less than the limit takes one of them.
 abbrev pub OutOf : (day : Day) (p rest : ℕ → ℕ) (d : List Bool) (left limit out : ℕ) → Type 0

@@ -1,8 +1,9 @@
 -- WHAT THE SEARCH WORKS ON: the tables of the hours and the columns of the blocks, as one record. A list that a later change adds is a field here.
 -- Definitions only. Assumes nothing.
 use Prim.Native.Nat.{ℕ}
+use mathlib.Core.Bool.{Bool}
 use mathlib.Core.List.{List}
-use Rattle.places.specs.Hours.{clearsFirst, clearsLast, gapsTurn, changeOften}
+use Rattle.places.specs.Hours.{clearsFirst, clearsLast, gapsTurn, changeOften, givesWayIn}
 
 pub record Tables : Type 0 where
   -- A row of places for each hour. Each place has the unit price of the N before its own: the hour's greatest price at its place, and the least price at
@@ -15,8 +16,9 @@ pub record Tables : Type 0 where
   pub first : List ℕ
   pub last : List ℕ
   pub turn : List ℕ
-  -- How often hour 3 counts.
+  -- How often hour 3 counts, and whether prices can give way.
   pub change : ℕ
+  pub shifts : Bool
   -- The columns and rows of the blocks, and how many blocks there are.
   pub blocks : List ℕ
   pub count : ℕ
@@ -31,6 +33,7 @@ tablesOf unitPrices gaps hours blocks count =
       last = clearsLast hours;
       turn = gapsTurn hours;
       change = changeOften hours;
+      shifts = givesWayIn hours;
       blocks = blocks;
       count = count;
     }

@@ -2,23 +2,28 @@
 ghost use mathlib.Core.Path.{_≡_};
 ghost use Prim.Native.Nat.{_-_, _^_, _≤_, _<_};
 ghost use lib.ListN.{length};
+ghost use Rattle.rules.specs.Orders.{maxPrice};
 ghost use Rattle.book.specs.Bounds.{mostBlocks};
 ghost use Rattle.places.specs.Layout.{mostLoss, hourListSize, blockListSize};
-ghost use Rattle.places.specs.Hours.{DayPrices};
+ghost use Rattle.places.specs.Hours.{Small, DayPrices, HasRows, lastIn};
 ghost use Rattle.places.specs.Blocks.{BlocksSized};
 ghost use Rattle.search.specs.Decisions.{namesGone, isForced, isRuledOut, outGains, RuledOut};
-ghost use Rattle.search.specs.Meaning.{Sized, Fits, JudgedFrom};
+ghost use Rattle.search.specs.Meaning.{Sized, Fits, BoundsOf, JudgedFrom};
 ghost use Rattle.search.specs.Tables.{tablesOf};
 use crate::Node;
 use places::cells::counted_least_gaps;
 use places::cells::counted_prices;
+use places::cells::highs_at;
+use places::cells::lows_at;
 use places::cells::prices_at;
 use places::layout::AGAINST;
 use places::layout::CHANGE;
 use places::layout::GAIN;
+use places::layout::HOURS;
 use places::layout::LIMIT;
 use places::layout::PARENT;
 use places::layout::RUNS;
+use places::layout::SHIFTS;
 use places::layout::SIDE;
 use places::layout::TURN;
 use places::limits::keeps_limit;
@@ -120,6 +125,37 @@ fn is_forced(blocks: &[u32], at: usize, set: u32, loss: u64, limit: u64) -> bool
     limit <= loss + (other as u64)
 }
 
+// The best prices within reach, as they count: those for sells and those for buys.
+pub struct Bounds {
+    pub high: [u32; HOURS],
+    pub low: [u32; HOURS],
+}
+
+// The best prices over the places from `from` to `to`: for sells at the first of them, for buys at the last. Where prices can give way a completion's are
+// anywhere from L to H, so these are H and L there; else they are the middle prices.
+fn bounds_at(
+    unit_prices: &[u32],
+    shifts: bool,
+    often: u32,
+    from: [u32; HOURS],
+    to: [u32; HOURS],
+) -> Bounds
+    requires { ⌜ HasRows (now «unit_prices») × Small maxPrice (now «unit_prices») × Small (lastIn (now «unit_prices»)) from
+        × Small (lastIn (now «unit_prices»)) to × (often ≤ 2) ⌝ }
+    ensures { λ r. ⌜ BoundsOf shifts (now («unit_prices» .entry)) often from to (r .high) (r .low) ⌝ }
+{
+    if shifts {
+        return Bounds {
+            high: counted_prices(highs_at(unit_prices, from), often),
+            low: counted_prices(lows_at(unit_prices, to), often),
+        };
+    }
+    Bounds {
+        high: counted_prices(prices_at(unit_prices, from), often),
+        low: counted_prices(prices_at(unit_prices, to), often),
+    }
+}
+
 // Whether a branch is dropped, and its blocks that are out.
 pub struct Judged {
     pub dropped: bool,
@@ -173,12 +209,13 @@ pub fn judge(
     if limit <= least {
         return drop;
     }
-    let high = counted_prices(prices_at(unit_prices, from), often);
-    let lowest = counted_prices(prices_at(unit_prices, to), often);
-    if !keeps_limits(blocks, at, node.set, &high, &lowest) {
+    let bounds = bounds_at(unit_prices, hours[SHIFTS] != 0, often, from, to);
+    let high = bounds.high;
+    let low = bounds.low;
+    if !keeps_limits(blocks, at, node.set, &high, &low) {
         return drop;
     }
-    let ruled = ruled_out(blocks, count as usize, at, node.set, out, &high, &lowest);
+    let ruled = ruled_out(blocks, count as usize, at, node.set, out, &high, &low);
     let with_gains = least + ruled.gains;
     Judged {
         dropped: limit <= with_gains,

@@ -18,14 +18,14 @@ use Rattle.book.specs.Refusals.{Accepted}
 use Rattle.orders.specs.Bridge.{dayFrom}
 use Rattle.orders.specs.Columns.{StepColumns, BlockColumns, sideFor, stepsFrom, blockOf, blocksFrom}
 use Rattle.orders.specs.Columns.{blockRecords, blockSideAt, blockHoursAt, blockPriceAt, blockQuantityAt, parentColumn}
-use Rattle.orders.proofs.BridgeLaws.{prices-in-range, hours-in-range, day-quiet, day-hours-read, day-short, blocks-from-columns, block-count, hour-count}
+use Rattle.orders.proofs.BridgeLaws.{day-edition, prices-in-range, hours-in-range, day-quiet, day-hours-read, day-short, blocks-from-columns, block-count, hour-count}
 use Rattle.orders.proofs.FrontLaws.{block-records-front, block-sides-front, block-hours-front, block-prices-front, block-quantities-front}
 use Rattle.orders.proofs.HourLaws.{hour-from-columns, ends-rise, ends-fit}
 use Rattle.orders.proofs.PlaceLaws.{block-place}
 use Rattle.orders.proofs.LinkLaws.{links-stand, parents-read}
 use Rattle.rules.specs.Orders.{Side, buy, sell, Step, Block, maxPrice}
 use Rattle.rules.specs.Hour.{bySide, when, allBuys, allSells}
-use Rattle.rules.specs.Day.{changeHour, weight, overBlocks, sells, buys, stepsIn, priceSum}
+use Rattle.rules.specs.Day.{changeHour, givesWay, weight, overBlocks, sells, buys, stepsIn, priceSum}
 use Rattle.rules.specs.Day as day
 use Rattle.rules.specs.Contender.{PricesInRange}
 use Rattle.rules.proofs.ChainLaws.{prices-in}
@@ -398,6 +398,7 @@ module _ (b ends stepRecords sides prices quantities : List ℕ) (count : ℕ) (
           last = last;
           turn = turn;
           change = weight (dayFrom b .hours) changeHour;
+          shifts = givesWay (dayFrom b .edition);
           blocks = columns;
           count = count;
         }
@@ -409,6 +410,7 @@ module _ (b ends stepRecords sides prices quantities : List ℕ) (count : ℕ) (
       quiet = day-quiet b a;
       changeIs = refl;
       changeFew = weight-small (dayFrom b .hours) changeHour (day-short b a);
+      shiftsIs = refl;
       counted = blocks-counted;
       unitPriceIs = λ h i c. unit-price-is h (c .first) (c .last) i;
       lastIs = λ h c. last-is h (c .first) (c .last);
@@ -470,19 +472,20 @@ set-up t prices gaps first last fits small blocks change few =
       few = few;
     }
 
-pub ready : (day : ℕ) (sides prices quantities ends : List ℕ) (count : ℕ) (records blockSides hours blockPrices blockQuantities parents : List ℕ)
-    (off most root unitPrices gap first last turn : List ℕ) (often : ℕ) (columns : List ℕ) → length gap ≡ length unitPrices → length root ≡ hourPlaces →
+pub ready : (ed day : ℕ) (sides prices quantities ends : List ℕ) (count : ℕ) (records blockSides hours blockPrices blockQuantities parents : List ℕ)
+    (off most root unitPrices gap first last turn : List ℕ) (often : ℕ) (shifts : Bool) (columns : List ℕ) → length gap ≡ length unitPrices → length root ≡ hourPlaces →
     RowsFit (rowWidth unitPrices) most → TradedBy count blockSides hours blockQuantities false off →
     TradedBy count blockSides hours blockQuantities true most → RowsAre (rowWidth unitPrices) sides prices quantities ends off most unitPrices →
     RangesAre (rowWidth unitPrices) sides prices quantities ends off most root unitPrices gap first last turn →
-    often ≡ weight day changeHour → Completed day blockSides hours blockPrices blockQuantities parents (countedColumn often root) count columns →
-    ReadyFor day sides prices quantities ends records blockSides hours blockPrices blockQuantities parents
-    record { unitPrices = unitPrices; gaps = gap; first = first; last = last; turn = turn; change = often; blocks = columns; count = count }
-ready day sides prices quantities ends count records blockSides hours blockPrices blockQuantities parents off most root unitPrices gap first last turn often columns l rs
-    fit o t rows ranges is w b stepRecords a e sc bc po =
+    often ≡ weight day changeHour → shifts ≡ givesWay ed → Completed day blockSides hours blockPrices blockQuantities parents (countedColumn often root) count columns →
+    ReadyFor ed day sides prices quantities ends records blockSides hours blockPrices blockQuantities parents
+    record { unitPrices = unitPrices; gaps = gap; first = first; last = last; turn = turn; change = often; shifts = shifts; blocks = columns; count = count }
+ready ed day sides prices quantities ends count records blockSides hours blockPrices blockQuantities parents off most root unitPrices gap first last turn often shifts
+    columns l rs fit o t rows ranges is way w b stepRecords a en e sc bc po =
     let same : day ≡ dayFrom b .hours = sym (day-hours-read b ∙ e) in
     let on-day = rw (is, same) at w in
-    rw (is, same)
+    let same-edition : ed ≡ dayFrom b .edition = sym (day-edition b ∙ en) in
+    rw (is, same, way, same-edition)
     record {
       p = _;
       rest = _;

@@ -2,7 +2,7 @@
 use Prim.Native.Nat.{ℕ, zero, suc, _+_, _-_, _*_, _/_, _%_, _^_, _≤_, _<_}
 use mathlib.Core.Path.{_≡_, refl, sym, ap, _∙_}
 use mathlib.Core.List.{List}
-use mathlib.Core.Bool.{Bool, true, false, cond, _&&_, _||_, Bool·beq}
+use mathlib.Core.Bool.{Bool, true, false, cond, not, _&&_, _||_, Bool·beq}
 use native.Mathlib.Omega.{arith}
 use native.Mathlib.Decide.{decLe, ℕ-discrete}
 use native.Mathlib.Nat.{lt-of-not-le}
@@ -12,14 +12,14 @@ use lib.ListN.{length, take, drop, getD, set, replicate, length-set, length-take
 use lib.Seq.{getD-set-same, getD-set-other, getD-take, getD-drop, ext-getD}
 use borrow.Author.Tests.{leb-true, leb-false, ltb-true, eqb-true}
 use Rattle.book.specs.Bounds.{mostBlocks}
-use Rattle.places.specs.Layout.{againstColumn, aheadColumn, behindColumn, blockListSize, rowsColumn, hourPlaces, gainColumn, hourListSize, hoursColumn, sideColumn, lastColumn, limitColumn, mostQuantity, parentColumn, quantityColumn, turnColumn, changePlace}
+use Rattle.places.specs.Layout.{againstColumn, aheadColumn, behindColumn, blockListSize, rowsColumn, hourPlaces, gainColumn, hourListSize, hoursColumn, sideColumn, lastColumn, limitColumn, mostQuantity, parentColumn, quantityColumn, turnColumn, changePlace, shiftsPlace}
 use Rattle.records.specs.Records.{holdsHour}
 use Rattle.orders.specs.Columns.{sideFor}
 use Rattle.rules.specs.Orders.{Side, buy, sell}
 use Rattle.rules.specs.Hour.{bySide, when}
 use Rattle.rules.specs.Execution.{testSide}
 use Rattle.rules.proofs.Tests.{by-test, both}
-use Rattle.places.specs.Hours.{clearsFirst, clearsLast, gapsTurn, changeOften}
+use Rattle.places.specs.Hours.{clearsFirst, clearsLast, gapsTurn, changeOften, givesWayIn}
 use Rattle.places.specs.Blocks.{sideAt, hoursAt, quantityAt, limitAt, parentAt, aheadAt, behindAt, rowQuantity, BlocksSized}
 use Rattle.setup.specs.Setup.{
   ParentsHeld,
@@ -42,22 +42,30 @@ use Rattle.places.proofs.HourColumnLaws.{bit-times, bit-times-le, hour-bit}
 use Rattle.orders.proofs.ColumnLaws.{zeros}
 use Rattle.places.proofs.NumberLaws.{below-next}
 
+-- a test as a number is told by it
+marked : (b : Bool) → not (eqb (cond b 1 0) 0) ≡ b
+marked true = refl
+marked false = refl
+
 -- THE HOURS' COLUMNS IN ONE LIST, hour by hour
-module _ (first last turn : List ℕ) (often : ℕ) where
+module _ (first last turn : List ℕ) (often way : ℕ) where
   pub record JoinedTo (h : ℕ) (r : List ℕ) : Type 0 where
     pub size : length r ≡ hourListSize
     pub firsts : (k : ℕ) → k < h → getD r k 0 ≡ getD first k 0
     pub lasts : (k : ℕ) → k < h → getD r (lastColumn + k) 0 ≡ getD last k 0
     pub turns : (k : ℕ) → k < h → getD r (turnColumn + k) 0 ≡ getD turn k 0
     pub change : getD r changePlace 0 ≡ often
+    pub shifts : getD r shiftsPlace 0 ≡ way
 
-  pub joined-start : JoinedTo 0 (set (replicate hourListSize 0) changePlace often)
+  pub joined-start : JoinedTo 0 (set (set (replicate hourListSize 0) changePlace often) shiftsPlace way)
   joined-start = record {
     size = refl;
     firsts = λ k a. absurd (omega arith);
     lasts = λ k a. absurd (omega arith);
     turns = λ k a. absurd (omega arith);
-    change = getD-set-same (replicate hourListSize 0) changePlace often 0 (omega arith);
+    change = getD-set-other (set (replicate hourListSize 0) changePlace often) shiftsPlace changePlace way 0 (λ e. omega arith)
+        ∙ getD-set-same (replicate hourListSize 0) changePlace often 0 (omega arith);
+    shifts = getD-set-same (set (replicate hourListSize 0) changePlace often) shiftsPlace way 0 (rw length-set (omega arith));
   }
 
   pub joined-next : (h : ℕ) (r : List ℕ) → JoinedTo h r → h < hourPlaces →
@@ -71,6 +79,7 @@ module _ (first last turn : List ℕ) (often : ℕ) where
     turns = λ k a. below-next (λ k. getD r₃ (turnColumn + k) 0 ≡ getD turn k 0) h k
         (λ b. other (turnColumn + k) (omega arith) (omega arith) (omega arith) ∙ j .turns k b) turn-here (rw add-one at a);
     change = other changePlace (omega arith) (omega arith) (omega arith) ∙ j .change;
+    shifts = other shiftsPlace (omega arith) (omega arith) (omega arith) ∙ j .shifts;
   }
     where
       r₁ : List ℕ
@@ -116,12 +125,14 @@ module _ (first last turn : List ℕ) (often : ℕ) where
       getD-take hourPlaces (drop from r) k 0 b ∙ getD-drop from r k 0 ∙ is k b)
 
   pub joined-all : (h : ℕ) (r : List ℕ) → JoinedTo h r → hourPlaces ≤ h → length first ≡ hourPlaces → length last ≡ hourPlaces → length turn ≡ hourPlaces →
-      (clearsFirst r ≡ first) × (clearsLast r ≡ last) × (gapsTurn r ≡ turn) × (changeOften r ≡ often)
-  joined-all h r j k f l t = (
+      (b : Bool) → way ≡ cond b 1 0 →
+      (clearsFirst r ≡ first) × (clearsLast r ≡ last) × (gapsTurn r ≡ turn) × (changeOften r ≡ often) × (givesWayIn r ≡ b)
+  joined-all h r j k f l t b e = (
     column-is r first 0 (j .size) (omega arith) f (λ i a. let z : 0 + i ≡ i = omega arith in rw z (j .firsts i (omega arith))),
     column-is r last hourPlaces (j .size) (omega arith) l (λ i a. j .lasts i (omega arith)),
     column-is r turn turnColumn (j .size) (omega arith) t (λ i a. j .turns i (omega arith)),
     j .change,
+    rw (j .shifts, e) (marked b),
   )
 
 -- THE SIX COLUMNS COPIED into the whole list

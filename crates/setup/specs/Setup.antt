@@ -5,7 +5,7 @@ use mathlib.Core.Path.{_≡_}
 use mathlib.Core.Bool.{Bool, true, false, cond}
 use lib.Dec.{leb}
 use lib.ListN.{length, take, drop, getD, set}
-use Rattle.records.specs.Records.{dayHours, holdsHour}
+use Rattle.records.specs.Records.{edition, dayHours, holdsHour}
 use Rattle.book.specs.Hours.{countedHours}
 use Rattle.book.specs.Refusals.{Accepted}
 use Rattle.orders.specs.Bridge.{dayFrom}
@@ -234,7 +234,7 @@ pub record ParentsOf (b : List ℕ) (count : ℕ) (parents : List ℕ) : Type 0 
   pub are : (j : ℕ) → j < count → getD parents j 0 ≡ parentPlace (dayFrom b) j
   pub stand : Parents (dayFrom b) (parentPlace (dayFrom b))
 
-abbrev pub ReadyFor : (day : ℕ) (sides prices quantities ends : List ℕ) (records blockSides hours blockPrices blockQuantities parents : List ℕ) (t : Tables) → Type 0
-ReadyFor day sides prices quantities ends records blockSides hours blockPrices blockQuantities parents t =
-    (b stepRecords : List ℕ) → Accepted b → dayHours b ≡ day → StepColumns b ends stepRecords sides prices quantities →
+abbrev pub ReadyFor : (ed day : ℕ) (sides prices quantities ends : List ℕ) (records blockSides hours blockPrices blockQuantities parents : List ℕ) (t : Tables) → Type 0
+ReadyFor ed day sides prices quantities ends records blockSides hours blockPrices blockQuantities parents t =
+    (b stepRecords : List ℕ) → Accepted b → edition b ≡ ed → dayHours b ≡ day → StepColumns b ends stepRecords sides prices quantities →
     BlockColumns mostBlocks b (t .count) records blockSides hours blockPrices blockQuantities → ParentsOf b (t .count) parents → Ready b t

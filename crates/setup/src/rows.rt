@@ -4,14 +4,18 @@ ghost use Prim.Native.Nat.{ℕ, _+_, _≤_, _<_};
 ghost use lib.ListN.{length, getD};
 ghost use Rattle.rules.specs.Orders.{maxPrice};
 ghost use Rattle.places.specs.Layout.{hourPlaces, lastPlace, lastAndAbove};
-ghost use Rattle.places.specs.Hours.{Small, rowWidth, lastIn, HasRows, clearsFirst, clearsLast, gapsTurn, changeOften};
+ghost use Rattle.places.specs.Hours.{Small, rowWidth, lastIn, HasRows, clearsFirst, clearsLast, gapsTurn, changeOften, givesWayIn};
+ghost use Rattle.rules.specs.Day.{givesWay};
 ghost use Rattle.setup.specs.Setup.{rowPlaces, RowsFit, StepsHeld, PartHeld, TableOf, RowsAre, RangedOf, RangesAre};
 use places::layout::CHANGE;
 use places::layout::HOUR_LIST;
 use places::layout::HOURS;
 use places::layout::LAST;
 use places::layout::LAST_AND_ABOVE;
+use places::layout::SHIFTS;
 use places::layout::TURN;
+use places::numbers::number_of;
+use roots::gives_way;
 use tables::all_totals;
 use tables::clear_range;
 use tables::fill_gaps;
@@ -157,17 +161,19 @@ pub fn fill_ranges(
     Ranges { first, last, turn }
 }
 
-// The hours' three columns in one list, and how often hour 3 counts.
+// The hours' three columns in one list, how often hour 3 counts, and whether prices can give way.
 pub fn joined(
     first: [u32; HOURS],
     last: [u32; HOURS],
     turn: [u32; HOURS],
     often: u32,
+    edition: u8,
 ) -> [u32; HOUR_LIST]
-    ensures { λ r. ⌜ (clearsFirst r ≡ first) × (clearsLast r ≡ last) × (gapsTurn r ≡ turn) × (changeOften r ≡ often) ⌝ }
+    ensures { λ r. ⌜ (clearsFirst r ≡ first) × (clearsLast r ≡ last) × (gapsTurn r ≡ turn) × (changeOften r ≡ often) × (givesWayIn r ≡ givesWay edition) ⌝ }
 {
     let mut r = [0; HOUR_LIST];
     r[CHANGE] = often;
+    r[SHIFTS] = number_of(gives_way(edition));
     let mut h: usize = 0;
     while h < HOURS {
         r[h] = first[h];

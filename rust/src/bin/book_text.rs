@@ -13,9 +13,9 @@ book_text: the plain-text form of an order book
   book_text --help                             this page
 
 The text has one order a line. `#` begins a comment; empty lines are skipped. A
-line `edition 2` or `edition 3` in front of all orders makes a book of that
-edition; without it the book is of edition 1. A line `day 23` or `day 25` in front
-of them makes the book of a day of so many hours; without it the day has 24.
+line `edition 2`, `edition 3` or `edition 4` in front of all orders makes a book of
+that edition; without it the book is of edition 1. A line `day 23` or `day 25` in
+front of them makes the book of a day of so many hours; without it the day has 24.
 
   step buy hour 1 price 5000 quantity 100 portfolio 1
   step sell hour 1 price 3000 quantity 100 portfolio 2 number 7
@@ -30,13 +30,13 @@ follow, each a word and its value, in any order:
              on a day of 23 hours two besides hour 3
   price      whole cents per MWh, 1 to 300000
   quantity   whole tenths of a MW, 1 to 99999 for a step; for a block 1 to 50 in
-             edition 1, 1 to 250 in editions 2 and 3
+             edition 1, 1 to 250 in the later ones
   portfolio  1 to 255
   number     1 to 65535; may be left out: one more than the order of its kind on
              the line before it, and 1 for the first. Steps and blocks are
              numbered separately, and each number stands once among them.
 
-In edition 3 a line
+From edition 3 on a line
 
   link child 4 parent 2
 
@@ -45,8 +45,8 @@ the child's, and a block is a child once at most.
 
 The first order or link becomes record 1, the second record 2, and so on; the
 chains follow the numbers. A book has at most 2047 orders and links, of them at
-most 32 blocks; of one portfolio at most 5 blocks in edition 1, at most 10 in
-editions 2 and 3.
+most 32 blocks; of one portfolio at most 5 blocks in edition 1, at most 10 in the
+later ones, and in edition 4 at most 256 steps in one hour.
 
 Exit codes: 0 done; 1 the input is wrong (the reason is on standard error and
 nothing is on standard output); 2 a wrong command.

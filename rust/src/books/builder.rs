@@ -43,7 +43,7 @@ pub struct Orders {
     pub day: u32,
     pub steps: Vec<StepOrder>,
     pub blocks: Vec<BlockOrder>,
-    /// Of edition 3; in the others they make a refused book.
+    /// Of edition 3 and later ones; in the others they make a refused book.
     pub links: Vec<LinkOrder>,
 }
 

@@ -23,6 +23,11 @@ impl Met {
         self.0[usize::from(answer)] += 1;
     }
 
+    /// How often an answer was met.
+    pub fn count(&self, answer: u8) -> u64 {
+        self.0[usize::from(answer)]
+    }
+
     /// All answers together.
     pub fn all(&self) -> u64 {
         self.0.iter().sum()

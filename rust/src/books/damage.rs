@@ -3,8 +3,9 @@
 
 use super::builder::{hour_bits, put, BlockOrder, Orders, StepOrder};
 use super::dice::Dice;
-use super::links::{link_blocks, Shape};
+use super::links::{link_blocks, Shape, LINKED_EDITION};
 use super::random::small_orders_of;
+use super::step_limit::crowd_an_hour;
 use crate::paper::{limits, passing_hours, Limits, Side, CHANGED_HOUR};
 
 /// A book for a reader, settled by its seed: accepted ones, each cause alone,
@@ -47,7 +48,8 @@ pub fn reader_book_of(edition: u32, seed: u64) -> Vec<u8> {
 fn some_cause(edition: u32, dice: &mut Dice) -> u8 {
     match edition {
         1 | 2 => dice.between(1, 6) as u8,
-        _ => dice.pick(&[1, 2, 3, 3, 4, 5, 6, 10, 10]),
+        3 => dice.pick(&[1, 2, 3, 3, 4, 5, 6, 10, 10]),
+        _ => dice.pick(&[1, 2, 3, 3, 4, 5, 6, 10, 10, 11]),
     }
 }
 
@@ -107,7 +109,7 @@ pub fn edge_books() -> Vec<Vec<u8>> {
 }
 
 /// Editions that are there and editions that are not.
-pub const SOME_EDITIONS: [u32; 6] = [0, 1, 2, 3, 4, 255];
+pub const SOME_EDITIONS: [u32; 7] = [0, 1, 2, 3, 4, 5, 255];
 
 /// Books at the edges of the editions' limits, each under every edition of
 /// [`SOME_EDITIONS`]: one block of a quantity beside so many of one portfolio, so that
@@ -137,7 +139,7 @@ pub fn edition_edges() -> Vec<Vec<u8>> {
 }
 
 /// A random book with each of these causes, 1 to 6, so that the lowest of them
-/// is its refusal; in edition 3 also 10.
+/// is its refusal; from edition 3 on also 10, in edition 4 also 11.
 pub fn book_with_causes(causes: &[u8], dice: &mut Dice) -> Vec<u8> {
     book_with_causes_of(1, causes, dice)
 }
@@ -147,14 +149,18 @@ pub fn book_with_causes_of(edition: u32, causes: &[u8], dice: &mut Dice) -> Vec<
     with_causes(small_orders_of(edition, dice), causes, dice)
 }
 
-/// The book of some orders with each of these causes: 1 to 6, on a day of 23 hours 9, in
-/// edition 3 10.
+/// The book of some orders with each of these causes: 1 to 6, on a day of 23 hours 9, from
+/// edition 3 on 10, in edition 4 11.
 pub(super) fn with_causes(mut orders: Orders, causes: &[u8], dice: &mut Dice) -> Vec<u8> {
     let limits = limits(orders.edition).expect("an edition");
     ensure_orders(&mut orders, dice);
     let holds = |cause: u8| causes.contains(&cause);
     if holds(6) {
         crowd_blocks(&mut orders, limits, dice);
+    }
+    if holds(11) {
+        crowd_an_hour(&mut orders, dice);
+        number_from_one(&mut orders);
     }
     if holds(10) && orders.links.is_empty() {
         orders = orders.linked(Shape::Chain, dice);
@@ -383,9 +389,10 @@ impl Damaged {
     /// Cause 2.
     fn break_the_head(&mut self, dice: &mut Dice) {
         let hours = |value: u32| if passing_hours(value).is_some() { 26 } else { value };
-        let edition = |value: u32| if limits(value).is_some() { 4 } else { value };
-        // Bytes 8 and 9 lead to the links of edition 3.
-        let zeros = if self.get(0, 7, 1) == 3 { 10..16 } else { 8..16 };
+        let edition = |value: u32| if limits(value).is_some() { 5 } else { value };
+        // From edition 3 on bytes 8 and 9 lead to the links.
+        let linked = self.get(0, 7, 1) as u32 >= LINKED_EDITION;
+        let zeros = if linked { 10..16 } else { 8..16 };
         match dice.below(3) {
             0 => self.put(0, 6, 1, hours(dice.between(0, 254))),
             1 => self.put(0, 7, 1, edition(dice.between(0, 254))),
@@ -407,7 +414,7 @@ impl Damaged {
 }
 
 /// At least two steps and two blocks, so that every cause can be made; numbered from 1 on
-/// and, in edition 3, linked anew.
+/// and, from edition 3 on, linked anew.
 pub(super) fn ensure_orders(orders: &mut Orders, dice: &mut Dice) {
     while orders.steps.len() < 2 {
         let number = orders.steps.last().map_or(1, |step| step.number);
@@ -491,7 +498,8 @@ fn another_edition(last: u32, dice: &mut Dice) -> Vec<u8> {
     }
     let editions = match last {
         2 => [0, 1, 1, 1, 2, 2, 2, 3, 4, 255],
-        _ => [0, 1, 1, 2, 2, 3, 3, 3, 4, 255],
+        3 => [0, 1, 1, 2, 2, 3, 3, 3, 4, 255],
+        _ => [0, 1, 2, 3, 3, 4, 4, 4, 5, 255],
     };
     orders.of_edition(dice.pick(&editions)).shuffled_book(dice)
 }
@@ -547,10 +555,10 @@ fn loose_records(edition: u32, dice: &mut Dice) -> Vec<u8> {
             put(&mut book, k, 4, 2, dice.between(0, records));
         }
         if wrong_kinds && k > 0 && dice.once_in(4) {
-            put(&mut book, k, 0, 1, dice.between(1, 2.max(edition)));
+            put(&mut book, k, 0, 1, dice.between(1, edition.clamp(2, LINKED_EDITION)));
         }
     }
-    if edition == 3 && dice.once_in(2) {
+    if edition >= LINKED_EDITION && dice.once_in(2) {
         put(&mut book, 0, 8, 2, dice.between(0, records));
     }
     book

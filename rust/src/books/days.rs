@@ -6,16 +6,29 @@
 use super::builder::{hour_bits, hours_in, Orders};
 use super::damage::{bytes_changed, ensure_orders, with_causes, SOME_EDITIONS};
 use super::dice::Dice;
-use super::links::with_parents_only;
+use super::links::{with_parents_only, LINKED_EDITION};
 use super::random::{placed, pricing_case_in, small_orders_of, some_used_hour, tiny_orders_of};
+use super::step_limit::has_step_limit;
 use crate::paper::{passing_hours, price_hour, HourAnswer, Side, CHANGED_HOUR};
 
 /// The hours that a day may have.
 pub const DAYS: [u32; 3] = [23, 24, 25];
 
 /// Each length of a day in each edition.
-pub const DAYS_AND_EDITIONS: [(u32, u32); 9] =
-    [(23, 1), (24, 1), (25, 1), (23, 2), (24, 2), (25, 2), (23, 3), (24, 3), (25, 3)];
+pub const DAYS_AND_EDITIONS: [(u32, u32); 12] = [
+    (23, 1),
+    (24, 1),
+    (25, 1),
+    (23, 2),
+    (24, 2),
+    (25, 2),
+    (23, 3),
+    (24, 3),
+    (25, 3),
+    (23, 4),
+    (24, 4),
+    (25, 4),
+];
 
 /// A random book of a day and an edition as `small_book_of` has them. Most have blocks over
 /// hour 3, and in half of them some limits are met or missed by a cent.
@@ -117,14 +130,15 @@ fn put_limits_on_ticks(orders: &mut Orders, dice: &mut Dice) {
 }
 
 /// The causes for which a book by itself is refused, in the order in which they are given.
-pub const OWN_CAUSES: [u8; 8] = [1, 2, 3, 4, 5, 6, 9, 10];
+pub const OWN_CAUSES: [u8; 9] = [1, 2, 3, 4, 5, 6, 9, 10, 11];
 
-/// Those that a book of a day and an edition can have: 9 is of a day of 23 hours, and 10 of
-/// edition 3.
+/// Those that a book of a day and an edition can have: 9 is of a day of 23 hours, 10 is of
+/// edition 3 and later ones, and 11 of edition 4.
 pub fn own_causes(day: u32, edition: u32) -> Vec<u8> {
     let can_be = |cause: &u8| match cause {
         9 => day == 23,
-        10 => edition == 3,
+        10 => edition >= LINKED_EDITION,
+        11 => has_step_limit(edition),
         _ => true,
     };
     OWN_CAUSES.into_iter().filter(can_be).collect()

@@ -35,7 +35,7 @@ impl Family {
 }
 
 /// The families of the benchmark.
-pub const FAMILIES: [Family; 18] = [
+pub const FAMILIES: [Family; 22] = [
     Family::new("full days", 32, 32, |seed, blocks| full_day(seed, 2015, blocks)),
     Family::new("full days, odd hours", 32, 32, odd_day),
     Family::new("identical blocks", 30, 32, identical_blocks),
@@ -54,6 +54,10 @@ pub const FAMILIES: [Family; 18] = [
     Family::new("the same, not linked", 32, 32, |seed, blocks| linked_day(seed, blocks, None)),
     Family::new("one price", 32, 32, |seed, blocks| crowded_hour(seed, blocks, |_| CROWDED_PRICE)),
     Family::new("distinct prices", 32, 32, |seed, blocks| crowded_hour(seed, blocks, |it| it)),
+    Family::new("edition 3, full days", 32, 32, |seed, blocks| full_day_of(3, seed, blocks)),
+    Family::new("edition 4, full days", 32, 32, |seed, blocks| full_day_of(4, seed, blocks)),
+    Family::new("edition 4, thin days", 32, 32, |seed, blocks| thin_day_of(4, seed, blocks)),
+    Family::new("edition 4, blocks alone", 32, 32, blocks_alone),
 ];
 
 /// A day with deep curves in every hour and ordinary blocks, most of which have
@@ -88,10 +92,22 @@ fn identical_blocks(seed: u64, blocks: usize) -> Vec<u8> {
     orders.book()
 }
 
+/// A full day of an edition; of a seed the same orders in each.
+fn full_day_of(edition: u32, seed: u64, blocks: usize) -> Vec<u8> {
+    let mut dice = Dice::new(seed);
+    let mut orders = deep_steps(&mut dice, 2015).of_edition(edition);
+    add_ordinary_blocks(&mut orders, &mut dice, blocks, usual_hours, 20);
+    orders.book()
+}
+
 /// Four steps an hour, so that a block moves the price far.
 fn thin_day(seed: u64, blocks: usize) -> Vec<u8> {
+    thin_day_of(1, seed, blocks)
+}
+
+fn thin_day_of(edition: u32, seed: u64, blocks: usize) -> Vec<u8> {
     let mut dice = Dice::new(seed);
-    let mut orders = Orders::new();
+    let mut orders = Orders::new().of_edition(edition);
     for (hour, level) in (1..).zip(LEVELS) {
         for side in [Side::Sell, Side::Buy, Side::Sell, Side::Buy] {
             let price = dice.between(level * 6 / 10, level * 14 / 10);
@@ -115,6 +131,23 @@ fn blocks_only(seed: u64, blocks: usize) -> Vec<u8> {
             Side::Sell => dice.between(50_000, 160_000),
         };
         push_block(&mut orders, side, dice.pick(&hours), price, 10 * dice.between(1, 5));
+    }
+    orders.book()
+}
+
+/// No steps, in edition 4: blocks at ordinary prices that trade with each other, which the
+/// middle price of an hour without steps would keep out.
+fn blocks_alone(seed: u64, blocks: usize) -> Vec<u8> {
+    let mut dice = Dice::new(seed);
+    let mut orders = Orders::new().of_edition(4);
+    for _ in 0..blocks {
+        let side = dice.pick(&[Side::Buy, Side::Sell]);
+        let price = match side {
+            Side::Buy => dice.between(4_500, 6_500),
+            Side::Sell => dice.between(3_500, 5_500),
+        };
+        let hours = standard_hours(&mut dice);
+        push_block(&mut orders, side, hours, price, 10 * dice.between(1, 5));
     }
     orders.book()
 }

@@ -1,5 +1,5 @@
-//! Links among the blocks of books of edition 3: shapes for the random books, and books at
-//! the edges of what a link may be.
+//! Links among the blocks of books from edition 3 on: shapes for the random books, and books
+//! at the edges of what a link may be.
 
 use super::builder::{hour_bits, put, BlockOrder, LinkOrder, Orders};
 use super::days::DAYS;
@@ -38,8 +38,11 @@ impl Shape {
     }
 }
 
+/// The first edition with links.
+pub(super) const LINKED_EDITION: u32 = 3;
+
 impl Orders {
-    /// The same orders with their blocks linked in a shape, in edition 3.
+    /// The same orders with their blocks linked in a shape, in edition 3 or a later one.
     pub fn linked(mut self, shape: Shape, dice: &mut Dice) -> Orders {
         let numbers: Vec<u32> = self.blocks.iter().map(|block| block.number).collect();
         let parents = (0..numbers.len()).map(|position| (position, shape.parent(position, dice)));
@@ -47,15 +50,16 @@ impl Orders {
             parent.map(|parent| LinkOrder { child: numbers[position], parent: numbers[parent] })
         });
         self.links = links.collect();
-        self.of_edition(3)
+        self.edition = self.edition.max(LINKED_EDITION);
+        self
     }
 }
 
-/// Links the blocks of a book of edition 3 in some shape; now and then not at all. Many
+/// Links the blocks of a book from edition 3 on in some shape; now and then not at all. Many
 /// books get blocks that are alike, or children at better prices than their parents. No
 /// dice are thrown for the editions without links.
 pub(super) fn link_blocks(orders: &mut Orders, dice: &mut Dice) {
-    if orders.edition < 3 {
+    if orders.edition < LINKED_EDITION {
         return;
     }
     orders.links.clear();
@@ -195,7 +199,7 @@ fn next_edges() -> Vec<Vec<u8>> {
             books.push(changed);
         }
     }
-    for edition in 1..=4 {
+    for edition in 1..=5 {
         let unlinked = Orders { links: Vec::new(), ..base().of_edition(edition) };
         for orders in [base().of_edition(edition), unlinked] {
             // A link that could stand on the chain.

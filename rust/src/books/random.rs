@@ -1,7 +1,7 @@
 //! Random accepted books: few price levels so that ties are frequent, prices at
 //! both ends, empty and one-sided hours, blocks that meet and miss their limits.
 //!
-//! A function whose name ends with `of` makes books of an edition, 1 to 3; the one
+//! A function whose name ends with `of` makes books of an edition, 1 to 4; the one
 //! without it those of edition 1. All of them are of days of 24 hours; `days` has the
 //! others. The books of a seed stay as they are: a test holds them.
 
@@ -31,7 +31,7 @@ pub fn small_book(seed: u64) -> Vec<u8> {
 
 /// A random book of an edition. Those of edition 2 have 0 to 10 blocks, mostly six or
 /// more and mostly of one portfolio, and quantities on both sides of 50 and up to 250.
-/// Those of edition 3 are alike, most of them with links.
+/// Those of editions 3 and 4 are alike, most of them with links.
 pub fn small_book_of(edition: u32, seed: u64) -> Vec<u8> {
     let mut dice = Dice::new(seed);
     let orders = small_orders_of(edition, &mut dice);
@@ -46,7 +46,7 @@ pub fn tiny_book(seed: u64) -> Vec<u8> {
 
 /// A random book of an edition, so small that all its contenders can be listed. Those of
 /// edition 2 have six to nine blocks of at most 2, or few steps and blocks of more
-/// than 50; those of edition 3 are alike, most of them with links.
+/// than 50; those of editions 3 and 4 are alike, most of them with links.
 pub fn tiny_book_of(edition: u32, seed: u64) -> Vec<u8> {
     let mut dice = Dice::new(seed);
     let orders = tiny_orders_of(edition, &mut dice);

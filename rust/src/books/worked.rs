@@ -289,6 +289,57 @@ fn with_itself() -> Orders {
         .on_day_of(23)
 }
 
+/// Days of edition 4 by name, on which prices give way: document 02's example, a day of 25
+/// hours whose shift is above 500, and one with links.
+pub fn shifted_days() -> Vec<(&'static str, Orders)> {
+    vec![
+        ("shift-alone", sell_and_buy_alone().of_edition(4)),
+        ("shift-above", above_the_middle()),
+        ("shift-linked", linked_and_shifted()),
+    ]
+}
+
+/// "a sell block at 3000 and a buy block at 5000 alone, of equal size and hours": L is 1 and H
+/// 300000 in every hour. The shifts from 10 to 16 keep both limits, and 16 is nearest 500.
+fn sell_and_buy_alone() -> Orders {
+    Orders::new().block(Sell, &[1, 2], 3_000, 50, 1).block(Buy, &[1, 2], 5_000, 50, 2)
+}
+
+/// On a day of 25 hours a sell needs 3 x 5600 over hour 2, with 4000 and 6000, and hour 3,
+/// with 2000 and 8000, which counts twice: 8000 + 14 t is as much from t = 629 on. The buy
+/// has to pay no more than 3 x 5602, which is 16806, what they pay at 629.
+fn above_the_middle() -> Orders {
+    let mut orders = Orders::new().of_edition(4).on_day_of(25);
+    for (hour, low, high) in [(2, 4_000, 6_000), (3, 2_000, 8_000)] {
+        orders = orders.step(Buy, hour, low, 100, 1).step(Sell, hour, high, 100, 2);
+    }
+    orders.block(Sell, &[2, 3], 5_600, 50, 3).block(Buy, &[2, 3], 5_602, 50, 4)
+}
+
+/// Hours 1 and 2 have 2000 and 8000. Block 4 is taken with its parent, the buy 3, at 4400,
+/// which is t = 400. Block 2 would gain more with that buy, but its parent 1 needs 6000.
+fn linked_and_shifted() -> Orders {
+    let mut orders = Orders::new().of_edition(4);
+    for hour in [1, 2] {
+        orders = orders.step(Buy, hour, 2_000, 100, 1).step(Sell, hour, 8_000, 100, 2);
+    }
+    for (side, price) in [(Sell, 6_000), (Sell, 3_000), (Buy, 4_400), (Sell, 3_800)] {
+        orders = orders.block(side, &[1, 2], price, 50, 3);
+    }
+    orders.link(2, 1).link(4, 3)
+}
+
+/// Portfolio 1 has 256 steps in hour 1, 128 on each side, and portfolio 2 one more there; in
+/// hour 2 portfolio 1 has one more. All buys of hour 1 are above all its sells, so that all of
+/// portfolio 1's trade: at 4000, and with a welfare of 10 x (1 + 3 + .. + 255).
+pub fn steps_256() -> Orders {
+    let mut orders = Orders::new().of_edition(4);
+    for index in 1..=128 {
+        orders = orders.step(Buy, 1, 4_000 + index, 10, 1).step(Sell, 1, 4_001 - index, 10, 1);
+    }
+    orders.step(Sell, 1, 4_002, 10, 2).step(Buy, 2, 3_000, 10, 1)
+}
+
 /// Two blocks with a link to a parent that is not there.
 pub fn link_without_parent() -> Orders {
     let mut orders = two_sells([2_900, 2_900], 25);

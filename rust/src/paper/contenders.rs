@@ -1,7 +1,8 @@
 //! Demand 3 taken literally: every set with every choice of step quantities.
 
-use super::day::{holds_parents, is_better, keeps_limit, prices_under, welfare};
+use super::day::{ends_under, holds_parents, is_better, welfare};
 use super::read::{read, Book, Side, Step, HOURS};
+use super::shift::shift_of;
 
 /// A set of blocks with a whole quantity for each step, balanced in every hour of the day
 /// and with every block of the set within its limit and beside its parent.
@@ -53,14 +54,11 @@ pub fn for_each_contender(book: &Book, visit: &mut dyn FnMut(&Contender)) {
         }
         // Prices depend on the set alone. Where an hour does not clear, no
         // choice of quantities balances it, so there is nothing to list.
-        let Some(prices) = prices_under(book, &hours, set) else {
+        let Some(ends) = ends_under(book, &hours, set) else {
             assert!(!some_choice_balances(book, set), "a balanced hour clears");
             continue;
         };
-        let in_set = |position: usize| (set >> position) & 1 == 1;
-        let within_limits = (0..book.blocks.len()).all(|position| {
-            !in_set(position) || keeps_limit(book, &book.blocks[position], &prices)
-        });
+        let within_limits = shift_of(book, set, &ends).is_some();
         if within_limits {
             for_each_choice(book, &mut Vec::new(), &mut |quantities| {
                 if balances(book, set, quantities) {

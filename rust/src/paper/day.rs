@@ -1,14 +1,17 @@
 //! Layer 3: lawful sets, their welfare, and the one that is published.
 
-use super::hour::{executed_by, middle_price};
+use super::hour::{ends_of, executed_by};
 use super::read::{read, Block, Book, Side, Step, HOURS};
 use super::shares::{fair_shares, SharingRule};
+use super::shift::{prices_at_shift, shift_of, Ends};
 
 /// What a lawful set gives.
 #[derive(Clone, Debug, PartialEq, Eq)]
 pub struct Outcome {
     /// The lowest bit stands for the first block of the chain.
     pub set: u32,
+    /// Where the prices stand between L and H, see `shift`; 500 in editions 1 to 3.
+    pub shift: u32,
     /// Prices of hours 1 to 24; 0 for an hour that the day does not have.
     pub prices: [u32; 24],
     /// Traded quantities of hours 1 to 24: buy steps and buy blocks. An hour that passes
@@ -69,14 +72,13 @@ fn outcome_with(book: &Book, hours: &[Vec<Step>], set: u32, rule: SharingRule) -
     if !holds_parents(book, set) {
         return None;
     }
-    let prices = prices_under(book, hours, set)?;
-    let lawful = taken_blocks(&book.blocks, set).all(|block| keeps_limit(book, block, &prices));
-    if !lawful {
-        return None;
-    }
+    let ends = ends_under(book, hours, set)?;
+    let shift = shift_of(book, set, &ends)?;
+    let prices = prices_at_shift(&ends, shift);
     let executed = executed_steps(book, set, &prices, rule);
     Some(Outcome {
         set,
+        shift,
         prices,
         traded: traded_quantities(book, set, &executed),
         welfare: welfare(book, set, &executed),
@@ -85,7 +87,7 @@ fn outcome_with(book: &Book, hours: &[Vec<Step>], set: u32, rule: SharingRule) -
 }
 
 /// The blocks of a set.
-fn taken_blocks(blocks: &[Block], set: u32) -> impl Iterator<Item = &Block> {
+pub(super) fn taken_blocks(blocks: &[Block], set: u32) -> impl Iterator<Item = &Block> {
     let positions = blocks.iter().enumerate();
     positions.filter(move |(position, _)| (set >> position) & 1 == 1).map(|(_, block)| block)
 }
@@ -107,23 +109,28 @@ pub fn net_block_sales(blocks: &[Block], set: u32, hour: u32) -> i64 {
     signed.sum()
 }
 
-/// The 24 prices under a set, or nothing when some hour of the day does not clear. An hour
-/// that the day does not have needs no balance and has no price.
-pub(super) fn prices_under(book: &Book, hours: &[Vec<Step>], set: u32) -> Option<[u32; 24]> {
-    let mut prices = [0; 24];
+/// L and H of the 24 hours under a set, or nothing when some hour of the day does not clear.
+/// An hour that the day does not have needs no balance and has no price.
+pub(super) fn ends_under(book: &Book, hours: &[Vec<Step>], set: u32) -> Option<Ends> {
+    let mut ends = [(0, 0); 24];
     for &hour in &book.hours {
         let index = hour as usize - 1;
         let n = net_block_sales(&book.blocks, set, hour);
-        prices[index] = middle_price(&hours[index], n)?;
+        ends[index] = ends_of(&hours[index], n)?;
     }
-    Some(prices)
+    Some(ends)
 }
 
 /// Whether a block of a book keeps its limit: the SUM of prices over its hours of the day
 /// against its price times their count.
 pub fn keeps_limit(book: &Book, block: &Block, prices: &[u32; 24]) -> bool {
-    let hours = book.hours_of(block);
-    let sum: u32 = hours.iter().map(|&hour| prices[hour as usize - 1]).sum();
+    keeps_limit_over(block, &book.hours_of(block), |hour| prices[hour as usize - 1])
+}
+
+/// The same over these hours, those of the day in which the block delivers, with a price for
+/// each.
+pub(super) fn keeps_limit_over(block: &Block, hours: &[u32], price: impl Fn(u32) -> u32) -> bool {
+    let sum: u32 = hours.iter().map(|&hour| price(hour)).sum();
     let limit = block.price * hours.len() as u32;
     match block.side {
         Side::Sell => sum >= limit,

@@ -80,12 +80,17 @@ fn answer(ends: EndFinder, steps: &[Step], n: i64) -> HourAnswer {
     HourAnswer::Cleared { low, high, price }
 }
 
-/// The price of an hour, or nothing where the hour does not clear.
-pub(super) fn middle_price(steps: &[Step], n: i64) -> Option<u32> {
+/// L and H of an hour, or nothing where the hour does not clear.
+pub(super) fn ends_of(steps: &[Step], n: i64) -> Option<(u32, u32)> {
     match answer(candidates, steps, n) {
-        HourAnswer::Cleared { price, .. } => Some(price),
+        HourAnswer::Cleared { low, high, .. } => Some((low, high)),
         _ => None,
     }
+}
+
+/// The middle price of an hour, or nothing where the hour does not clear.
+pub(super) fn middle_price(steps: &[Step], n: i64) -> Option<u32> {
+    ends_of(steps, n).map(|(low, high)| (low + high) / 2)
 }
 
 /// "N exceeds all buy steps of the hour together, or -N exceeds all its sell

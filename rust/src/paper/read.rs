@@ -1,4 +1,6 @@
-//! Layer 1: the book in bytes, and its own refusals 1 to 6, 9 and 10.
+//! Layer 1: the book in bytes, and its own refusals 1 to 6 and 9 to 11.
+
+use std::collections::BTreeMap;
 
 /// Hours of the clock, each with a row in the result, whatever the day's length.
 pub const HOURS: u32 = 24;
@@ -13,21 +15,28 @@ const KIND_STEP: u32 = 1;
 const KIND_BLOCK: u32 = 2;
 const KIND_LINK: u32 = 3;
 
-/// What an edition allows a portfolio's blocks.
+/// What an edition allows a portfolio.
 #[derive(Clone, Copy, Debug, PartialEq, Eq)]
 pub struct Limits {
     /// The greatest quantity of a block, in tenths of a MW.
     pub block_quantity: u32,
     /// The most blocks of one portfolio, both sides together.
     pub blocks_of_a_portfolio: usize,
+    /// The most steps of one portfolio in one hour, both sides together, where there is such
+    /// a limit.
+    pub steps_in_an_hour: Option<usize>,
 }
 
 /// The limits of an edition, where there is such an edition.
 pub fn limits(edition: u32) -> Option<Limits> {
     match edition {
-        1 => Some(Limits { block_quantity: 50, blocks_of_a_portfolio: 5 }),
-        // Edition 3 has all of edition 2.
-        2 | 3 => Some(Limits { block_quantity: 250, blocks_of_a_portfolio: 10 }),
+        1 => Some(Limits { block_quantity: 50, blocks_of_a_portfolio: 5, steps_in_an_hour: None }),
+        // Edition 3 has all of edition 2, and edition 4 all of edition 3 but for its steps.
+        2..=4 => Some(Limits {
+            block_quantity: 250,
+            blocks_of_a_portfolio: 10,
+            steps_in_an_hour: (edition == 4).then_some(256),
+        }),
         _ => None,
     }
 }
@@ -106,7 +115,7 @@ pub struct Link {
 /// rising number of their children.
 #[derive(Clone, Debug, PartialEq, Eq)]
 pub struct Book {
-    /// 1, 2 or 3.
+    /// 1 to 4.
     pub edition: u32,
     /// The hours of the day as they pass, see [`passing_hours`]; 23, 24 or 25 of them.
     pub hours: Vec<u32>,
@@ -114,7 +123,7 @@ pub struct Book {
     pub record_count: usize,
     pub steps: Vec<Step>,
     pub blocks: Vec<Block>,
-    /// None but in edition 3.
+    /// None but from edition 3 on.
     pub links: Vec<Link>,
 }
 
@@ -131,7 +140,7 @@ impl Book {
     }
 }
 
-/// Reads a book, or gives the first of the refusals 1 to 6, 9 and 10 whose cause holds.
+/// Reads a book, or gives the first of the refusals 1 to 6 and 9 to 11 whose cause holds.
 pub fn read(book: &[u8]) -> Result<Book, u8> {
     if length_is_wrong(book) {
         return Err(1);
@@ -171,6 +180,9 @@ pub fn read(book: &[u8]) -> Result<Book, u8> {
     if book.links.iter().any(|link| is_no_link_of(&book, link)) {
         return Err(10);
     }
+    if limits.steps_in_an_hour.is_some_and(|most| has_more_steps(&book.steps, most)) {
+        return Err(11);
+    }
     Ok(book)
 }
 
@@ -208,8 +220,8 @@ fn edition(book: &[u8]) -> u32 {
 /// wrong, refusal 2.
 fn head(book: &[u8]) -> Option<(Limits, Vec<u32>)> {
     let edition = edition(book);
-    // Edition 3 heads its links at bytes 8 and 9.
-    let rest = if edition == 3 { &book[10..16] } else { &book[8..16] };
+    // From edition 3 on the links are headed at bytes 8 and 9.
+    let rest = if edition >= 3 { &book[10..16] } else { &book[8..16] };
     let limits = limits(edition).filter(|_| rest.iter().all(|&byte| byte == 0))?;
     Some((limits, passing_hours(number(book, 6, 1))?))
 }
@@ -292,6 +304,15 @@ fn trades_beside_the_day(book: &Book) -> bool {
 fn is_no_link_of(book: &Book, link: &Link) -> bool {
     let is_there = |number: u32| book.blocks.iter().any(|block| block.number == number);
     !is_there(link.child) || !is_there(link.parent) || link.parent >= link.child
+}
+
+/// Refusal 11: more steps of one portfolio in one hour than these.
+fn has_more_steps(steps: &[Step], most: usize) -> bool {
+    let mut counts = BTreeMap::new();
+    for step in steps {
+        *counts.entry((step.portfolio, step.hour)).or_insert(0) += 1;
+    }
+    counts.values().any(|&count| count > most)
 }
 
 fn side_at(book: &[u8], k: usize) -> Side {

@@ -39,4 +39,7 @@ pub mod setup;
 pub mod shares;
 #[allow(clippy::all, unused)]
 #[rustfmt::skip]
+pub mod shift;
+#[allow(clippy::all, unused)]
+#[rustfmt::skip]
 pub mod tables;

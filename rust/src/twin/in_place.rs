@@ -12,6 +12,7 @@
 //! - `hours`: the tables of the hours, by sorting their steps;
 //! - `root`: the prices that losses are counted at;
 //! - `guess`: a limit for one of its passes;
+//! - `shift`: where a set's prices stand between L and H;
 //! - `search`: the search;
 //! - `publish`: the result.
 
@@ -21,6 +22,7 @@ mod orders;
 mod publish;
 mod root;
 mod search;
+mod shift;
 
 use hours::Hours;
 use orders::Orders;
@@ -70,11 +72,13 @@ fn clear_in<const ROOM: usize>(
     hours.fill_prices(orders);
     let root = root::prices(orders, hours);
     hours.fill_gaps(&root);
-    // Where there are no links, the search has no line for them.
-    let best = if orders.links.is_empty() {
-        search::find::<ROOM, false>(orders, hours, &root)
-    } else {
-        search::find::<ROOM, true>(orders, hours, &root)
+    // Where there are no links, the search has no line for them, and where prices do not give
+    // way none for their shift.
+    let find = match (orders.links.is_empty(), orders.shifts) {
+        (true, false) => search::find::<ROOM, false, false>,
+        (false, false) => search::find::<ROOM, true, false>,
+        (true, true) => search::find::<ROOM, false, true>,
+        (false, true) => search::find::<ROOM, true, true>,
     };
-    publish::publish(orders, hours, &best, leftovers, result);
+    publish::publish(orders, hours, &find(orders, hours, &root), leftovers, result);
 }

@@ -3,7 +3,7 @@ use Prim.Native.Nat.{_≤_}
 use native.Mathlib.Omega.{arith}
 use mathlib.Core.Path.{_≡_, sym}
 use lib.ListN.{length, getD}
-use Rattle.records.specs.Records.{dayHours}
+use Rattle.records.specs.Records.{edition, dayHours}
 use Rattle.book.proofs.Accepted.{day-hours}
 use Rattle.orders.proofs.HourLaws.{ends-fit}
 use Rattle.places.specs.Layout.{hourListSize}
@@ -18,7 +18,7 @@ use Rattle.clearing.proofs.clear_within.Tie as tie
 
 -- THE STATES on the way: the start and the parents behind the tables, these behind the set found
 abbrev start : tie.After-prepare → tie.Start
-start c = c .before .before .before .before .before .before .before .before .before .before .before .before .before .before .before .before .before
+start c = c .before .before .before .before .before .before .before .before .before .before .before .before .before .before .before .before .before .before
 
 abbrev linked : tie.After-prepare → tie.After-parents-of
 linked c = c .before .before .before .before .before .before
@@ -53,13 +53,19 @@ steps-in s =
 hours-size : (m : tie.After-prepare) → length (m .prepare .result .hours) ≡ hourListSize
 hours-size m = search needs
 
--- the hours of the day are the book's
+-- the edition and the hours of the day are the book's
+edition-is : (m : tie.After-prepare) → edition (start m .args .book .now) ≡ m .before .before .before .before .before .before .before .before .before .before .before .before .before .edition-of .result
+edition-is m = sym (m .before .before .before .before .before .before .before .before .before .before .before .before .before .edition-of .ensures)
+
 day-is : (m : tie.After-prepare) → dayHours (start m .args .book .now) ≡ m .before .before .before .before .before .before .before .before .before .before .before .before .day-hours .result
 day-is m = sym (m .before .before .before .before .before .before .before .before .before .before .before .before .day-hours .ensures)
 
 -- the parents are those of the book's blocks
 parents-are : (m : tie.After-prepare) → ParentsOf (start m .args .book .now) (start m .args .blocks .count) (linked m .parents-of .result)
 parents-are m = parents-of _ _ _ (start m .pre .0 .accepted) (linked m .parents-of .ensures)
+
+edition-of-requires : tie.Need-edition-of-requires
+edition-of-requires c κs = search needs
 
 day-hours-requires : tie.Need-day-hours-requires
 day-hours-requires c κs = search needs
@@ -84,7 +90,7 @@ slice-aggregate-prepare-3 c = search needs
 
 prepare-requires : tie.Need-prepare-requires
 prepare-requires c κs =
-    let s = c .before .before .before .before .before .before .before .before .before .before .before .before .before .before .before .before in
+    let s = c .before .before .before .before .before .before .before .before .before .before .before .before .before .before .before .before .before in
     let h = s .pre .0 in
     let t = s .pre .1 in
     let day = c .before .before .before .before .before .before .before .before .before .before .before .day-hours .ensures in
@@ -126,7 +132,7 @@ publish-requires c κs =
     let m = prepared best in
     let s = start m in
     let h = s .pre .0 in
-    let ready = m .prepare .ensures .1 _ _ (h .accepted) (day-is m) (h .stepsAre) (h .blocksAre) (parents-are m) in
+    let ready = m .prepare .ensures .1 _ _ (h .accepted) (edition-is m) (day-is m) (h .stepsAre) (h .blocksAre) (parents-are m) in
     let steps = columns-steps _ _ _ _ _ _ (h .stepsAre) (h .accepted) in
     let is = best .find .ensures _ (ready .p) (ready .rest) steps (ready .known) (ready .turning) in
     let e = m .before .before .before .before .before .before .before .before .before .before .before .record-count .ensures in
@@ -146,7 +152,7 @@ returns c =
     let best = c .before .before .before .before in
     let m = prepared best in
     let h = start m .pre .0 in
-    let ready = m .prepare .ensures .1 _ _ (h .accepted) (day-is m) (h .stepsAre) (h .blocksAre) (parents-are m) in
+    let ready = m .prepare .ensures .1 _ _ (h .accepted) (edition-is m) (day-is m) (h .stepsAre) (h .blocksAre) (parents-are m) in
     let steps = columns-steps _ _ _ _ _ _ (h .stepsAre) (h .accepted) in
     let is = best .find .ensures _ (ready .p) (ready .rest) steps (ready .known) (ready .turning) in
     let e = m .before .before .before .before .before .before .before .before .before .before .before .record-count .ensures in
@@ -156,6 +162,7 @@ pub clear-within-spec : {M : Type 1} → statement M
 clear-within-spec =
     tie.close
     (tie.spec
+    edition-of-requires
     day-hours-requires
     record-count-requires
     cast-count

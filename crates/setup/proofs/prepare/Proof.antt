@@ -1,7 +1,7 @@
 -- `setup::prepare` meets its contract: the tables and columns filled one after the other are those of the day. Assumes nothing.
 use Prim.Native.Nat.{ℕ, _≤_, _<_}
 use mathlib.Core.List.{List}
-use mathlib.Core.Path.{_≡_, sym, _∙_}
+use mathlib.Core.Path.{_≡_, refl, sym, _∙_}
 use lib.ListN.{length, getD}
 use Rattle.places.specs.Layout.{hourPlaces}
 use Rattle.rules.specs.Orders.{maxPrice}
@@ -169,12 +169,12 @@ returns c =
     let gapSize = g .fill-ranges .kept .1 .1 .1 .1 .1 .1 .1 .1 .0 ∙ s .pre .1 .1 .1 .1 .0 .1 ∙ sym (prices-size f) in
     let t = g .fill-ranges .ensures .0 in
     let same = s .pre .1 .1 .1 .1 .0 .1 ∙ sym (prices-size f) in
-    rw (j .joined .ensures .0, j .joined .ensures .1, j .joined .ensures .2, j .joined .ensures .3) (
+    rw (j .joined .ensures .0, j .joined .ensures .1, j .joined .ensures .2, j .joined .ensures .3, j .joined .ensures .4) (
       set-up _ (rw (← (prices-size f)) at (s .pre .1 .1 .1 .1 .0 .0)) gapSize (t .0) (t .1) (rw same at (t .3)) (prices-fit f) sized (often-few (weighed after-block-columns)) few,
-      ready _ _ _ _ _ _ _ _ _ _ _ _ (after-traded-by-hour .traded-by-hour .result) (after-traded-by-hour2 .traded-by-hour2 .result)
-          (after-root-prices .root-prices .result) (unitPricesOf f) _ _ _ _ _ _ gapSize (root-size after-root-prices) (rw (← (prices-size f)) at (fits after-traded-by-hour2)) (after-traded-by-hour .traded-by-hour .ensures)
+      ready _ _ _ _ _ _ _ _ _ _ _ _ _ (after-traded-by-hour .traded-by-hour .result) (after-traded-by-hour2 .traded-by-hour2 .result)
+          (after-root-prices .root-prices .result) (unitPricesOf f) _ _ _ _ _ _ _ gapSize (root-size after-root-prices) (rw (← (prices-size f)) at (fits after-traded-by-hour2)) (after-traded-by-hour .traded-by-hour .ensures)
           (after-traded-by-hour2 .traded-by-hour2 .ensures) (rw (← (prices-size f)) at (f .fill-tables .ensures .0)) (rw same at (g .fill-ranges .ensures .1))
-          weight-is (rw (after-block-columns .before .counted-prices .ensures .0) at all),
+          weight-is refl (rw (after-block-columns .before .counted-prices .ensures .0) at all),
     )
 
 pub prepare-spec : {M : Type 1} → statement M

@@ -20,18 +20,19 @@ pub fn families(options: &Options) -> bool {
         right &= agree;
         times.push((family.name, seconds));
     }
-    compare_shared(&times);
+    compare(&times, "one price", "distinct prices");
+    compare(&times, "edition 4, full days", "edition 3, full days");
     right
 }
 
-/// How much longer steps at one price take than steps that share nothing.
-fn compare_shared(times: &[(&str, ByKind)]) {
-    let of = |name: &str| times.iter().find(|(other, _)| *other == name).expect("a family").1;
-    let (shared, distinct) = (of("one price"), of("distinct prices"));
+/// How much longer the books of one family take than those of another.
+fn compare(times: &[(&str, ByKind)], one: &str, other: &str) {
+    let of = |name: &str| times.iter().find(|(it, _)| *it == name).expect("a family").1;
+    let (above, below) = (of(one), of(other));
     let of_kind = |kind: Kind| {
-        format!("{} {}", kind.name(), ratio(shared[kind as usize], distinct[kind as usize]))
+        format!("{} {}", kind.name(), ratio(above[kind as usize], below[kind as usize]))
     };
-    println!("one price over distinct prices: {}", KINDS.map(of_kind).join(", "));
+    println!("{one} over {other}: {}", KINDS.map(of_kind).join(", "));
 }
 
 pub fn by_blocks(options: &Options) -> bool {

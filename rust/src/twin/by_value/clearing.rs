@@ -10,6 +10,7 @@ use crate::twin::by_value::orders::layout::HOURS;
 use crate::twin::by_value::orders::parents_of;
 use crate::twin::by_value::orders::steps_of;
 use crate::twin::by_value::records::day_hours;
+use crate::twin::by_value::records::edition_of;
 use crate::twin::by_value::records::record_count;
 use crate::twin::by_value::result::Clearing;
 use crate::twin::by_value::result::RECORD_ROW;
@@ -38,6 +39,7 @@ fn clear_within(
     result: &mut [u8],
 )
 {
+    let edition = edition_of(book);
     let day = day_hours(book);
     let count = record_count(book) as usize;
     let sides = steps.sides;
@@ -46,6 +48,7 @@ fn clear_within(
     let ends = steps.ends;
     let parents = parents_of(book);
     let prepared = prepare(
+        edition,
         day,
         &sides,
         &prices,

@@ -1,7 +1,7 @@
 // Written by `twin_source` from crates/guess/src/lib.rt.
 // A limit for a pass of the search, by a guess: what a lawful set loses. The blocks that gain at the root prices are taken; as long as some of them miss
-// their limits, one of these is left out, by one rule or another. Any limit is right, so only safety is proved here; how many branches the search drops
-// depends on it. Assumes nothing.
+// their limits, one of these is left out, by one rule or another. Any limit is right, so of the guess only safety is proved, and of the steps on the way what
+// each answers; how many branches the search drops depends on it. Assumes nothing.
 use crate::twin::by_value::guess::sets::closed;
 use crate::twin::by_value::guess::sets::gaining;
 use crate::twin::by_value::guess::sets::without;

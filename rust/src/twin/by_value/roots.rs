@@ -1,6 +1,8 @@
 // Written by `twin_source` from crates/roots/src/lib.rt.
 // The root prices, those that the search goes by. Any prices are right, so only safety is proved here; how many branches the search drops depends on them.
 // Assumes nothing.
+use crate::twin::by_value::roots::held::bounds_of;
+use crate::twin::by_value::roots::held::held;
 use crate::twin::by_value::roots::losses::gains_at;
 use crate::twin::by_value::roots::losses::gaps_from;
 use crate::twin::by_value::roots::moves::MOVES;
@@ -13,8 +15,18 @@ use crate::twin::by_value::places::cells::prices_at;
 use crate::twin::by_value::places::layout::HOURS;
 use crate::twin::by_value::places::layout::MOST_BLOCKS;
 
+pub mod held; // the prices of hours without steps
 pub mod losses; // what the empty set loses at given prices
 pub mod moves; // prices on their way
+
+// The first edition whose prices can give way.
+const FIRST_SHIFT_EDITION: u8 = 4;
+
+// Whether an edition's prices can give way.
+pub fn gives_way(edition: u8) -> bool
+{
+    FIRST_SHIFT_EDITION <= edition
+}
 
 // What each block asks for over its hours: its price times their number, as they count.
 fn limits_of(
@@ -37,6 +49,7 @@ fn limits_of(
 // would gain there and what the hours lose at its places, as they count on a day of so many hours. Two sets' losses differ by the same at all prices, so the
 // published set loses least there too. Any prices are right.
 pub fn root_prices(
+    edition: u8,
     day: u8,
     unit_prices: &[u32],
     off: [u32; HOURS],
@@ -49,7 +62,8 @@ pub fn root_prices(
 {
     let often = change_weight(day);
     let limits = limits_of(day, count, hours, prices);
-    let mut best = prices_at(unit_prices, off);
+    let bounds = bounds_of(gives_way(edition), unit_prices, off, count, prices);
+    let mut best = held(prices_at(unit_prices, off), bounds);
     let first_gains = gains_at(count, sides, hours, limits, quantities, best, often);
     let mut least = first_gains + gaps_from(unit_prices, off, best, often);
     let mut trail = Trail {
@@ -67,6 +81,7 @@ pub fn root_prices(
             trail,
             n,
             often,
+            bounds,
         );
         let root = next.prices;
         let gains = gains_at(count, sides, hours, limits, quantities, root, often);

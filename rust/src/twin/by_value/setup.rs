@@ -41,9 +41,10 @@ pub fn row_needed(blocks: Blocks) -> usize
     (largest(most) as usize) + LAST_AND_ABOVE
 }
 
-// All that the search is given on a day of so many hours, from the columns of a book's steps and blocks and the blocks' parents (the position and 1, or 0 for none);
+// All that the search is given in an edition, on a day of so many hours, from the columns of a book's steps and blocks and the blocks' parents (the position and 1, or 0 for none);
 // unit_prices and gap are its two tables, a row of places for each hour.
 pub fn prepare(
+    edition: u8,
     day: u8,
     sides: &[u8],
     prices: &[u32],
@@ -64,6 +65,7 @@ pub fn prepare(
     let most = traded_by_hour(count, block_sides, hours, amounts, true);
     fill_tables(sides, prices, quantities, ends, off, most, unit_prices);
     let root = root_prices(
+        edition,
         day,
         unit_prices,
         off,
@@ -94,7 +96,7 @@ pub fn prepare(
     let linked = with_parents(parents, wide);
     let traded = with_rows(count, linked);
     Prepared {
-        hours: joined(first, last, turn, often),
+        hours: joined(first, last, turn, often, edition),
         columns: with_twins(count, traded),
     }
 }

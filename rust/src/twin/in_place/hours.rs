@@ -55,6 +55,16 @@ impl<const ROOM: usize> Hours<ROOM> {
         self.price[h][usize::from(place)]
     }
 
+    /// H of an hour at a place.
+    pub fn high(&self, h: usize, place: u16) -> u32 {
+        self.unit[h][usize::from(place)]
+    }
+
+    /// L of an hour at a place.
+    pub fn low(&self, h: usize, place: u16) -> u32 {
+        self.unit[h][usize::from(place) + 1]
+    }
+
     /// The gap of an hour at a place at which it clears.
     pub fn gap(&self, h: usize, place: u16) -> u32 {
         self.gap[h][usize::from(place)]

@@ -15,7 +15,7 @@ pub fn publish<const ROOM: usize>(
     let mut welfare = 0i64;
     for h in 0..24 {
         let steps = &orders.steps[orders.ends[h]..orders.ends[h + 1]];
-        let price = hours.price(h, best.places[h]);
+        let price = best.prices[h];
         let net = i64::from(best.places[h]) - i64::from(hours.off[h]);
         let (bought, worth) = publish_hour(steps, price, net, leftovers, result);
         let at = 8 + 8 * h;

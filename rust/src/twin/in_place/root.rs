@@ -51,6 +51,37 @@ pub fn prices<const ROOM: usize>(orders: &Orders, hours: &Hours<ROOM>) -> ByHour
     best
 }
 
+/// Where the prices of hours without steps are kept: between those of the blocks, where prices
+/// can give way. What such an hour itself would pay lies far from all of them.
+struct Held {
+    least: u32,
+    most: u32,
+    /// The hours without steps.
+    hours: ByHour<bool>,
+}
+
+impl Held {
+    fn of<const ROOM: usize>(orders: &Orders, hours: &Hours<ROOM>) -> Held {
+        let prices = || orders.blocks.iter().map(|block| block.price);
+        let is_empty = |h: usize| {
+            let off = hours.off[h];
+            orders.shifts && (hours.low(h, off), hours.high(h, off)) == (1, 300_000)
+        };
+        Held {
+            least: prices().min().unwrap_or(300_000),
+            most: prices().max().unwrap_or(0),
+            hours: std::array::from_fn(is_empty),
+        }
+    }
+
+    fn apply(&self, prices: ByHour<u32>) -> ByHour<u32> {
+        std::array::from_fn(|h| match self.hours[h] {
+            true => prices[h].min(self.most).max(self.least),
+            false => prices[h],
+        })
+    }
+}
+
 /// Prices on their way from the empty set's own towards those at the average of the places
 /// so far at which the blocks that gain are taken.
 struct Trail<'a, const ROOM: usize> {
@@ -64,15 +95,18 @@ struct Trail<'a, const ROOM: usize> {
     /// The last places, and which blocks move them on: sells that gain, buys that do not.
     places: ByHour<u32>,
     moving: Vec<bool>,
+    held: Held,
 }
 
 impl<'a, const ROOM: usize> Trail<'a, ROOM> {
     fn new(orders: &'a Orders, hours: &'a Hours<ROOM>, masks: &'a [Mask]) -> Self {
+        let held = Held::of(orders, hours);
         Trail {
             orders,
             hours,
             masks,
-            root: prices_at(hours, &hours.off),
+            root: held.apply(prices_at(hours, &hours.off)),
+            held,
             sum: hours.off.map(u32::from),
             count: 1,
             places: [0; 24],
@@ -97,7 +131,7 @@ impl<'a, const ROOM: usize> Trail<'a, ROOM> {
         }
         self.count += 1;
         let mean = self.sum.map(|sum| average(sum, self.count));
-        let there = prices_at(self.hours, &mean);
+        let there = self.held.apply(prices_at(self.hours, &mean));
         for h in 0..24 {
             self.root[h] = nearer(self.root[h], there[h]);
         }

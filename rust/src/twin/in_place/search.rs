@@ -4,14 +4,16 @@ use super::guess::Guess;
 use super::hours::Hours;
 use super::orders::{Block, Day, Orders, CHANGED};
 use super::root::{prices_at, Mask};
+use super::shift;
 use super::ByHour;
 use crate::twin::count;
 
-/// The published set with the place of each hour.
+/// The published set with the place and the price of each hour.
 #[derive(Clone, Copy, Default)]
 pub struct Best {
     pub set: u32,
     pub places: ByHour<u16>,
+    pub prices: ByHour<u32>,
 }
 
 /// A block as the search needs it.
@@ -58,8 +60,9 @@ struct State {
     gaps: u64,
 }
 
-/// The search of a day, `LINKED` or without links.
-struct Search<'a, const ROOM: usize, const LINKED: bool> {
+/// The search of a day, `LINKED` or without links, with prices that give way, `SHIFTED`, or
+/// without.
+struct Search<'a, const ROOM: usize, const LINKED: bool, const SHIFTED: bool> {
     hours: &'a Hours<ROOM>,
     day: Day,
     choices: Vec<Choice>,
@@ -77,12 +80,12 @@ struct Search<'a, const ROOM: usize, const LINKED: bool> {
 const LAST_BEFORE_GUESS: u64 = 8_192;
 
 /// Passes with a growing limit until one finds a set.
-pub fn find<const ROOM: usize, const LINKED: bool>(
+pub fn find<const ROOM: usize, const LINKED: bool, const SHIFTED: bool>(
     orders: &Orders,
     hours: &Hours<ROOM>,
     root: &ByHour<u32>,
 ) -> Best {
-    let mut search = Search::<ROOM, LINKED>::new(orders, hours, root);
+    let mut search = Search::<ROOM, LINKED, SHIFTED>::new(orders, hours, root);
     let start = search.state;
     let mut limit = 1024;
     let mut guessed = None;
@@ -102,7 +105,9 @@ pub fn find<const ROOM: usize, const LINKED: bool>(
     }
 }
 
-impl<'a, const ROOM: usize, const LINKED: bool> Search<'a, ROOM, LINKED> {
+impl<'a, const ROOM: usize, const LINKED: bool, const SHIFTED: bool>
+    Search<'a, ROOM, LINKED, SHIFTED>
+{
     fn new(orders: &Orders, hours: &'a Hours<ROOM>, root: &ByHour<u32>) -> Self {
         let mut choices = choices(orders, root);
         let mut order: Vec<usize> = (0..choices.len()).collect();
@@ -254,11 +259,17 @@ impl<'a, const ROOM: usize, const LINKED: bool> Search<'a, ROOM, LINKED> {
     }
 
     /// The prices that are best for a side: a sell's at the lowest places in reach, a
-    /// buy's at the highest.
+    /// buy's at the highest; where prices give way, H there and L.
     fn best_prices(&self, sells: bool) -> ByHour<u32> {
         let (state, hours) = (&self.state, self.hours);
         let from = |h: usize| state.least[h].max(hours.first[h]);
         let to = |h: usize| state.most[h].min(hours.last[h]);
+        if SHIFTED && sells {
+            return std::array::from_fn(|h| hours.high(h, from(h)));
+        }
+        if SHIFTED {
+            return std::array::from_fn(|h| hours.low(h, to(h)));
+        }
         prices_at(hours, &std::array::from_fn(|h| if sells { from(h) } else { to(h) }))
     }
 
@@ -298,11 +309,27 @@ impl<'a, const ROOM: usize, const LINKED: bool> Search<'a, ROOM, LINKED> {
 
     /// All blocks are decided: the set is the best so far where it passes as well.
     fn decide(&mut self, set: u32, loss: u64) {
-        if self.passes(set, loss) {
-            self.limit = loss + self.state.gaps;
-            self.found = true;
-            self.best = Best { set, places: self.state.least };
+        if !self.passes(set, loss) {
+            return;
         }
+        let places = self.state.least;
+        let Some(prices) = self.kept_prices(set, &places) else { return };
+        self.limit = loss + self.state.gaps;
+        self.found = true;
+        self.best = Best { set, places, prices };
+    }
+
+    /// The prices of a set at its places, where its blocks keep their limits at them. Those
+    /// that do not give way are what the set has passed at.
+    fn kept_prices(&self, set: u32, places: &ByHour<u16>) -> Option<ByHour<u32>> {
+        if !SHIFTED {
+            return Some(prices_at(self.hours, places));
+        }
+        let miss = |blocks: u32, prices: &ByHour<u32>| {
+            bits_of(blocks).any(|i| self.choices[i].misses(prices))
+        };
+        let (sells, buys) = (set & self.sells, set & !self.sells);
+        shift::kept_prices(self.hours, places, |it| miss(sells, it), |it| miss(buys, it))
     }
 }
 

@@ -2,6 +2,7 @@
 use mathlib.Core.Path.{sym, _∙_}
 use native.Mathlib.Omega.{arith}
 use Rattle.book.proofs.Refused.{one-cause, none-found, after-all, without-size, broken-found, field-found, stray-found, many-found}
+use Rattle.book.proofs.Refused.{steps-long}
 use borrow.Author.Needs.{needs}
 use Rattle.book.proofs.causes.refusal_of.Statement.{statement}
 use Rattle.book.proofs.causes.refusal_of.Tie as tie
@@ -45,9 +46,17 @@ finds-wrong-link-requires c κs = search needs
 next-found-requires-7 : tie.Need-next-found-requires-7
 next-found-requires-7 c κs = search needs
 
+finds-too-many-steps-requires : tie.Need-finds-too-many-steps-requires
+finds-too-many-steps-requires c κs = search needs
+
+next-found-requires-8 : tie.Need-next-found-requires-8
+next-found-requires-8 c κs = search needs
+
 returns : tie.Need-returns
 returns c =
-    let link = c .before in
+    let crowd = c .before in
+    let misnamed = crowd .before in
+    let link = misnamed .before in
     let uncounted = link .before in
     let hours = uncounted .before in
     let many = hours .before in
@@ -75,8 +84,9 @@ returns c =
     in
     let six = one-cause b _ _ 6 _ _ _ (omega arith) five (λ z. many-found b _ _ (pre .2) (crowded .has-crowded-portfolio .ensures)) (many .next-found5 .ensures) in
     let nine = one-cause b _ _ 9 _ _ _ (omega arith) six (λ z. hours .has-wrong-hours .ensures) (uncounted .next-found6 .ensures) in
-    let ten = one-cause b _ _ 10 _ _ _ (omega arith) nine (link .finds-wrong-link .ensures) (c .next-found7 .ensures) in
-    after-all b _ ten
+    let ten = one-cause b _ _ 10 _ _ _ (omega arith) nine (link .finds-wrong-link .ensures) (misnamed .next-found7 .ensures) in
+    let eleven = one-cause b _ _ 11 _ _ _ (omega arith) ten (λ z. crowd .finds-too-many-steps .ensures z (steps-long b _ (pre .1))) (c .next-found8 .ensures) in
+    after-all b _ eleven
 
 pub refusal-of-spec : {M : Type 1} → statement M
 refusal-of-spec =
@@ -95,4 +105,6 @@ refusal-of-spec =
     next-found-requires-6
     finds-wrong-link-requires
     next-found-requires-7
+    finds-too-many-steps-requires
+    next-found-requires-8
     returns)

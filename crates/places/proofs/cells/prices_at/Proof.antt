@@ -4,13 +4,14 @@ use lib.ListN.{length, getD}
 use native.Mathlib.Omega.{arith}
 use Rattle.places.specs.Layout.{hourPlaces, lastPlace}
 use Rattle.places.specs.Hours.{rowWidth}
-use Rattle.places.proofs.CellLaws.{place-inside, PricesTo, prices-start, prices-next, prices-all}
+use Rattle.rules.specs.Hour.{middle}
+use Rattle.places.proofs.CellLaws.{place-inside, PricesTo, prices-start, prices-next, prices-all, middle-priced}
 use borrow.Author.Needs.{needs}
 use Rattle.places.proofs.cells.prices_at.Statement.{statement}
 use Rattle.places.proofs.cells.prices_at.Tie as tie
 
 abbrev Inv-loop : tie.InvT-loop
-Inv-loop unit-prices places width prices₀ h₀ prices h = PricesTo unit-prices places h prices
+Inv-loop unit-prices places width prices₀ h₀ prices h = PricesTo middle unit-prices places h prices
 
 abbrev μ-loop : tie.MeasureT-loop
 μ-loop unit-prices places width prices₀ h₀ prices h = hourPlaces - h
@@ -24,7 +25,7 @@ cells-inside a k =
     place-inside (s .args .unit-prices .now) (a .loop .h) (getD (s .args .t2) (a .loop .h) 0) (s .pre .0) k (s .pre .2 (a .loop .h))
 
 loop-holds : tie.Need-loop-holds Inv-loop μ-loop
-loop-holds c = prices-start _ _
+loop-holds c = prices-start middle _ _
 
 mul-at : tie.Need-mul-at Inv-loop μ-loop
 mul-at c = omega (arith, cells-inside (c .before) (c .loop-test .taken))
@@ -75,10 +76,10 @@ loop-less : tie.Need-loop-less Inv-loop μ-loop
 loop-less c = search needs
 
 loop-again : tie.Need-loop-again Inv-loop μ-loop
-loop-again c = prices-next _ _ _ _ (c .before .before .before .loop .inv) (c .before .before .loop-test .taken)
+loop-again c = prices-next middle _ _ _ _ _ (c .before .before .before .loop .inv) (c .before .before .loop-test .taken) (omega arith)
 
 returns : tie.Need-returns Inv-loop μ-loop
-returns c = prices-all _ _ _ _ (c .before .loop .inv) (c .loop-test .left) (c .before .before .pre .1)
+returns c = prices-all middle _ _ _ _ middle-priced (c .before .loop .inv) (c .loop-test .left) (c .before .before .pre .1)
 
 pub prices-at-spec : {M : Type 1} → statement M
 prices-at-spec =

@@ -10,10 +10,10 @@ use Rattle.roots.proofs.moves.moved_on.Statement.{statement}
 use Rattle.roots.proofs.moves.moved_on.Tie as tie
 
 abbrev Inv-loop : tie.InvT-loop
-Inv-loop unitPrices count hours limits quantities n often last root₀ sum₀ k₀ root sum k = (1 ≤ k) × (k ≤ n + roundMoves) × Small maxPrice root × Small (k * lastPlace) sum
+Inv-loop unitPrices count hours limits quantities n often bounds last root₀ sum₀ k₀ root sum k = (1 ≤ k) × (k ≤ n + roundMoves) × Small maxPrice root × Small (k * lastPlace) sum
 
 abbrev μ-loop : tie.MeasureT-loop
-μ-loop unitPrices count hours limits quantities n often last root₀ sum₀ k₀ root sum k = n + roundMoves - k
+μ-loop unitPrices count hours limits quantities n often bounds last root₀ sum₀ k₀ root sum k = n + roundMoves - k
 
 sub-last : tie.Need-sub-last Inv-loop μ-loop
 sub-last c = omega (arith, c .before .pre .0 .0)
@@ -34,7 +34,7 @@ added-places-requires c κs =
     let v = c .before .loop in
     let s = c .before .before .before .before .before in
     let k = c .loop-test .taken in
-    (s .pre .1 .0, (λ i. omega (arith, v .inv .3 i, k, s .pre .1 .1 .0 .1), v .inv .2, s .pre .1 .1 .1))
+    (s .pre .1 .0, (λ i. omega (arith, v .inv .3 i, k, s .pre .1 .1 .0 .1), v .inv .2, s .pre .1 .1 .1 .0))
 
 add-averaged : tie.Need-add-averaged Inv-loop μ-loop
 add-averaged c = search needs
@@ -44,6 +44,12 @@ averaged-requires c κs = omega arith
 
 prices-at-requires : tie.Need-prices-at-requires Inv-loop μ-loop
 prices-at-requires c κs = search needs
+
+held-requires : tie.Need-held-requires Inv-loop μ-loop
+held-requires c κs =
+    let test = c .before .before .before in
+    let bounds = test .before .before .before .before .before .pre .1 .1 .1 .1 in
+    (c .prices-at .ensures .small, bounds .0, bounds .1)
 
 closer-requires : tie.Need-closer-requires Inv-loop μ-loop
 closer-requires c κs = search needs
@@ -56,7 +62,7 @@ loop-less c = search needs
 
 loop-again : tie.Need-loop-again Inv-loop μ-loop
 loop-again c =
-    let a = c .before .before .before in
+    let a = c .before .before .before .before in
     let v = a .before .before .loop in
     let k = a .before .loop-test .taken in
     (omega arith, omega (arith, k), c .closer .ensures, λ i. omega (arith, a .added-places .ensures i, v .inv .3 i))
@@ -80,6 +86,7 @@ moved-on-spec =
     add-averaged
     averaged-requires
     prices-at-requires
+    held-requires
     closer-requires
     add-k
     loop-less

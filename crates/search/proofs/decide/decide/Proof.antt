@@ -1,12 +1,15 @@
 -- `search::decide::decide` meets its contract: one law for each way out. Assumes nothing.
-use mathlib.Core.Path.{_≡_, sym, _∙_}
+use Prim.Native.Nat.{ℕ}
+use mathlib.Core.Bool.{true, false, not}
+use mathlib.Core.Path.{_≡_, refl, sym, _∙_}
+use lib.Dec.{eqb}
 use lib.ListN.{length}
 use native.Mathlib.Omega.{arith}
-use borrow.Author.Tests.{not-true, not-false}
+use borrow.Author.Tests.{ne-eqb, not-true, not-false}
 use Rattle.places.specs.Layout.{hourPlaces}
 use Rattle.places.specs.Hours.{clearsFirst, clearsLast}
 use Rattle.places.proofs.CellLaws.{places-small}
-use Rattle.search.proofs.DecidedLaws.{decided-unclear, decided-worse, decided-broken, decided-better}
+use Rattle.search.proofs.DecidedLaws.{decided-unclear, decided-worse, decided-broken, decided-better, decided-at-shift}
 use borrow.Author.Needs.{needs}
 use Rattle.search.proofs.decide.decide.Statement.{statement}
 use Rattle.search.proofs.decide.decide.Tie as tie
@@ -31,6 +34,10 @@ priced c = counting c .before
 -- an array of 24
 size : (s : tie.Start) → length (s .args .node .places) ≡ hourPlaces
 size s = search needs
+
+-- a number that is not 0
+not-zero : (n : ℕ) → (n ≡ 0 → ⊥) → not (eqb n 0) ≡ true
+not-zero n k = rw (ne-eqb n 0 k) refl
 
 shared-slice-read-often : tie.Need-shared-slice-read-often
 shared-slice-read-often c = search needs
@@ -93,32 +100,65 @@ keeps-limits-requires c κs =
     let counts = n .counted-prices .ensures .1 in
     (s .pre .0 .blocksFit .columns, s .pre .0 .few, counts, counts)
 
+-- the start behind the limits, and the same behind another shift
+abbrev first : tie.After-keeps-limits → tie.Start
+first c = start (gaps (clear (priced c .before)) .before)
+
+abbrev missed : tie.Else4 → tie.Else3
+missed c = c .before .before
+
+found-at-requires : tie.Need-found-at-requires
+found-at-requires c κs = let p = first (c .before) .pre in (p .0 .blocksFit, p .0 .few, p .2, p .3)
+
 returns-3 : tie.Need-returns-3
 returns-3 c =
-    let p = priced (c .before) in
-    let clears = clear (p .before) in
-    decided-broken (gaps clears .counted-gaps .ensures) (not-false _ (clears .if1 .left)) (p .prices-at .ensures)
-    (rw (counting (c .before) .counted-prices .ensures .0) at (sym (c .before .keeps-limits .ensures) ∙ not-true _ (c .if3 .taken)))
-
-set-trades-requires : tie.Need-set-trades-requires
-set-trades-requires c κs =
-    let s = start (gaps (clear (priced (c .before) .before)) .before) in
-    (s .pre .0 .blocksFit, s .pre .0 .few)
-
-hours-traded-requires : tie.Need-hours-traded-requires
-hours-traded-requires c κs =
-    let s = start (gaps (clear (priced (c .before .before) .before)) .before) in
-    (s .pre .2, s .pre .3, c .set-trades .ensures .purchasesFit)
-
-returns-4 : tie.Need-returns-4
-returns-4 c =
-    let kept = c .before .before in
+    let kept = c .before in
     let p = priced (kept .before) in
     let less = p .before in
     let clears = clear less in
     decided-better (gaps clears .counted-gaps .ensures) (not-false _ (clears .if1 .left)) (p .prices-at .ensures)
-    (rw (counting (kept .before) .counted-prices .ensures .0) at (sym (kept .before .keeps-limits .ensures) ∙ not-false _ (kept .if3 .left))) (less .if2 .left) (c .before .set-trades .ensures)
-    (c .hours-traded .ensures)
+    (rw (counting (kept .before) .counted-prices .ensures .0) at (sym (kept .before .keeps-limits .ensures) ∙ kept .if3 .taken)) (less .if2 .left)
+    (c .found-at .ensures)
+
+shared-slice-read-if4 : tie.Need-shared-slice-read-if4
+shared-slice-read-if4 c = omega (arith, first (c .before .before) .pre .1)
+
+returns-4 : tie.Need-returns-4
+returns-4 c =
+    let misses = c .before .before in
+    let p = priced (misses .before) in
+    let clears = clear (p .before) in
+    decided-broken (gaps clears .counted-gaps .ensures) (not-false _ (clears .if1 .left)) (p .prices-at .ensures)
+    (rw (counting (misses .before) .counted-prices .ensures .0) at (sym (misses .before .keeps-limits .ensures) ∙ misses .if3 .left))
+    (rw (c .if4 .taken) refl)
+
+decide-at-shift-requires : tie.Need-decide-at-shift-requires
+decide-at-shift-requires c κs =
+    let less = priced (missed c .before) .before in
+    let g = gaps (clear less) in
+    let s = start (g .before) in (
+      record {
+        rows = s .pre .0 .priceRows;
+        pricesFit = s .pre .0 .pricesFit;
+        placesFit = places-small _ (clearsFirst (s .args .hours .now)) (clearsLast (s .args .hours .now)) (s .args .node .places)
+            (g .counted-gaps .ensures .inRange (not-false _ (clear less .if1 .left))) (s .pre .0 .lastInPrices) (size s);
+        columns = s .pre .0 .blocksFit .columns;
+        countFits = s .pre .0 .few;
+        oftenFits = s .pre .0 .changeFew;
+      },
+      s .pre .1,
+      s .pre .0 .blocksFit,
+      s .pre .2,
+      s .pre .3,
+    )
+
+returns-5 : tie.Need-returns-5
+returns-5 c =
+    let else = c .before in
+    let less = priced (missed else .before) .before in
+    let clears = clear less in
+    decided-at-shift (gaps clears .counted-gaps .ensures) (not-false _ (clears .if1 .left)) (less .if2 .left)
+    (not-zero _ (else .if4 .left)) (c .decide-at-shift .ensures _)
 
 pub decide-spec : {M : Type 1} → statement M
 decide-spec =
@@ -140,7 +180,9 @@ decide-spec =
     slice-aggregate-keeps-limits
     slice-aggregate-keeps-limits-2
     keeps-limits-requires
+    found-at-requires
     returns-3
-    set-trades-requires
-    hours-traded-requires
-    returns-4)
+    shared-slice-read-if4
+    returns-4
+    decide-at-shift-requires
+    returns-5)

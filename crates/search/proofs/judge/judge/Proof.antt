@@ -25,15 +25,17 @@ balanced c = c .before .before .before .before
 abbrev bounded : tie.Else4 → tie.After-counted-least-gaps
 bounded c = c .before .before
 
-abbrev counting : tie.After-keeps-limits → tie.After-counted-prices2
-counting c = c .before .before .before
+abbrev gaps : tie.After-bounds-at → tie.After-counted-least-gaps
+gaps c = bounded (c .before .before)
 
--- from the prices back to the least gaps, and to an hour's balance
-abbrev gaps : tie.After-counted-prices2 → tie.After-counted-least-gaps
-gaps c = bounded (c .before .before .before .before)
-
-abbrev back : tie.After-counted-prices2 → tie.Else3
+abbrev back : tie.After-bounds-at → tie.Else3
 back c = balanced (gaps c .before)
+
+abbrev priced : tie.After-low → tie.After-bounds-at
+priced c = c .before .before
+
+abbrev pricing : tie.After-keeps-limits → tie.After-bounds-at
+pricing c = priced (c .before .before .before)
 
 -- arrays of 24
 from-size : (f : tie.After-reach-at) → length (f .reach-at .result .from) ≡ hourPlaces
@@ -101,26 +103,20 @@ returns-4 c =
     let r = reached (balanced (g .before)) .reach-at .ensures in
     judged-dropped (dropped-by-gaps (r .rest) (r .reach) (omega (arith, c .if4 .taken, g .counted-least-gaps .ensures .0)))
 
-prices-at-requires : tie.Need-prices-at-requires
-prices-at-requires c κs =
-    let b = balanced (bounded c .before) in
+shared-slice-read-bounds-at : tie.Need-shared-slice-read-bounds-at
+shared-slice-read-bounds-at c = omega (arith, start (reached (balanced (bounded (c .before) .before)) .before) .pre .1)
+
+bounds-at-requires : tie.Need-bounds-at-requires
+bounds-at-requires c κs =
+    let b = balanced (bounded (c .before) .before) in
     let r = reached b in
-    let p = start (r .before) .pre .0 in
-    (p .priceRows, p .pricesFit, from-small (r .reach-at .ensures .reach) (p .lastInPrices) (not-false _ (b .if3 .left)) (from-size r))
-
-counted-prices-requires : tie.Need-counted-prices-requires
-counted-prices-requires c κs =
-    (c .prices-at .ensures .small, start (reached (balanced (bounded (c .before) .before)) .before) .pre .0 .changeFew)
-
-prices-at-requires-2 : tie.Need-prices-at-requires-2
-prices-at-requires-2 c κs =
-    let r = reached (balanced (bounded (c .before .before) .before)) in
-    let p = start (r .before) .pre .0 in
-    (p .priceRows, p .pricesFit, to-small (r .reach-at .ensures .reach) (p .lastInPrices) (to-size r))
-
-counted-prices-requires-2 : tie.Need-counted-prices-requires-2
-counted-prices-requires-2 c κs =
-    (c .prices-at2 .ensures .small, start (reached (balanced (bounded (c .before .before .before) .before)) .before) .pre .0 .changeFew)
+    let p = start (r .before) .pre .0 in (
+      p .priceRows,
+      p .pricesFit,
+      from-small (r .reach-at .ensures .reach) (p .lastInPrices) (not-false _ (b .if3 .left)) (from-size r),
+      to-small (r .reach-at .ensures .reach) (p .lastInPrices) (to-size r),
+      p .changeFew,
+    )
 
 slice-aggregate-keeps-limits : tie.Need-slice-aggregate-keeps-limits
 slice-aggregate-keeps-limits c = search needs
@@ -130,18 +126,15 @@ slice-aggregate-keeps-limits-2 c = search needs
 
 keeps-limits-requires : tie.Need-keeps-limits-requires
 keeps-limits-requires c κs =
-    let p = start (reached (back (c .before .before)) .before) .pre in
-    let low = c .before .before in
-    (p .0 .blocksFit .columns, omega (arith, p .0 .few), low .before .before .counted-prices .ensures .1, low .counted-prices2 .ensures .1)
+    let b = priced (c .before .before) in
+    let p = start (reached (back b) .before) .pre in
+    (p .0 .blocksFit .columns, omega (arith, p .0 .few), b .bounds-at .ensures .highFits, b .bounds-at .ensures .lowFits)
 
 returns-5 : tie.Need-returns-5
 returns-5 c =
-    let low = counting (c .before) in
-    let high = low .before .before in
-    let b = back low in
-    let r = reached b in
-    judged-dropped (dropped-by-limit (r .reach-at .ensures .rest) (r .reach-at .ensures .reach) (high .before .prices-at .ensures)
-    (low .before .prices-at2 .ensures) (not-false _ (b .if3 .left)) (high .counted-prices .ensures .0) (low .counted-prices2 .ensures .0)
+    let b = pricing (c .before) in
+    let r = reached (back b) in
+    judged-dropped (dropped-by-limit (r .reach-at .ensures .rest) (r .reach-at .ensures .reach) (b .bounds-at .ensures) (not-false _ (back b .if3 .left))
     (sym (c .before .keeps-limits .ensures) ∙ not-true _ (c .if5 .taken)))
 
 slice-aggregate-ruled-out : tie.Need-slice-aggregate-ruled-out
@@ -152,26 +145,23 @@ slice-aggregate-ruled-out-2 c = search needs
 
 ruled-out-requires : tie.Need-ruled-out-requires
 ruled-out-requires c κs =
-    let low = counting (c .before .before .before) in
-    let p = start (reached (back low) .before) .pre in
-    (p .0 .blocksFit, p .0 .few, omega (arith, p .2), low .before .before .counted-prices .ensures .1, low .counted-prices2 .ensures .1)
+    let b = pricing (c .before .before .before) in
+    let p = start (reached (back b) .before) .pre in
+    (p .0 .blocksFit, p .0 .few, omega (arith, p .2), b .bounds-at .ensures .highFits, b .bounds-at .ensures .lowFits)
 
 returns-6 : tie.Need-returns-6
 returns-6 c =
-    let low = counting (c .before .before .before .before .before) in
-    let high = low .before .before in
-    let b = back low in
-    let r = reached b in
+    let b = pricing (c .before .before .before .before .before) in
+    let r = reached (back b) in
     let p = start (r .before) .pre in
-    judged-open (r .reach-at .ensures .rest) (r .reach-at .ensures .reach) (high .before .prices-at .ensures) (low .before .prices-at2 .ensures)
-    (not-false _ (b .if3 .left)) (high .counted-prices .ensures .0) (low .counted-prices2 .ensures .0) (p .2) (c .before .ruled-out .ensures .0)
-    (gaps low .counted-least-gaps .ensures .0) (c .before .ruled-out .ensures .1 .0)
+    judged-open (r .reach-at .ensures .rest) (r .reach-at .ensures .reach) (b .bounds-at .ensures) (not-false _ (back b .if3 .left)) (p .2)
+    (c .before .ruled-out .ensures .0) (gaps b .counted-least-gaps .ensures .0) (c .before .ruled-out .ensures .1 .0)
 
 add-with-gains : tie.Need-add-with-gains
 add-with-gains c =
-    let low = counting (c .before .before .before .before .before) in
-    let p = start (reached (back low) .before) .pre in
-    omega (arith, gaps low .counted-least-gaps .ensures .1, c .before .ruled-out .ensures .1 .1, p .3 .lossFits, p .0 .few)
+    let b = pricing (c .before .before .before .before .before) in
+    let p = start (reached (back b) .before) .pre in
+    omega (arith, gaps b .counted-least-gaps .ensures .1, c .before .ruled-out .ensures .1 .1, p .3 .lossFits, p .0 .few)
 
 pub judge-spec : {M : Type 1} → statement M
 judge-spec =
@@ -191,10 +181,8 @@ judge-spec =
     counted-least-gaps-requires
     add-least
     returns-4
-    prices-at-requires
-    counted-prices-requires
-    prices-at-requires-2
-    counted-prices-requires-2
+    shared-slice-read-bounds-at
+    bounds-at-requires
     slice-aggregate-keeps-limits
     slice-aggregate-keeps-limits-2
     keeps-limits-requires

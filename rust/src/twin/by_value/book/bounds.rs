@@ -15,13 +15,16 @@ pub const CHANGE_HOUR: u32 = 3;
 
 pub const CHANGE_BIT: u32 = 4;
 
-// The editions that there are, in the head: 1 to 3.
+// The editions that there are, in the head: 1 to 4.
 pub const FIRST_EDITION: u8 = 1;
 
-pub const LAST_EDITION: u8 = 3;
+pub const LAST_EDITION: u8 = 4;
 
 // The first edition with links.
 pub const FIRST_LINK_EDITION: u8 = 3;
+
+// The first edition with a limit on steps.
+pub const FIRST_STEP_LIMIT_EDITION: u8 = 4;
 
 // The last portfolio: 1 to 255.
 pub const LAST_PORTFOLIO: u32 = 255;
@@ -34,6 +37,12 @@ pub const MAX_PRICE: u32 = 300000;
 
 // The largest quantity of a step: 1 to 99,999.
 pub const MOST_STEP_QUANTITY: u32 = 99999;
+
+// The numbers that a step's hour, 1 to 24, can be: below 25.
+pub const HOUR_NUMBERS: usize = 25;
+
+// The most steps of a portfolio in one hour.
+pub const MOST_STEPS_IN_HOUR: u16 = 256;
 
 // The fewest hours of a block: at least two are set.
 pub const FEWEST_HOURS: u32 = 2;

@@ -1,14 +1,16 @@
 // Written by `twin_source` from crates/book/src/causes.rt.
-// The causes for which a book by itself is refused, 1 to 6 (document 01, "Refused books and calls"), 9 and 10 (document 02), and the first
+// The causes for which a book by itself is refused, 1 to 6 (document 01, "Refused books and calls"), 9 to 11 (document 02), and the first
 // of them that holds. Assumes nothing.
 use crate::twin::by_value::book::Chain;
 use crate::twin::by_value::book::Surveyed;
 use crate::twin::by_value::book::bounds::AUTUMN_HOURS;
 use crate::twin::by_value::book::bounds::FIRST_EDITION;
 use crate::twin::by_value::book::bounds::FIRST_LINK_EDITION;
+use crate::twin::by_value::book::bounds::FIRST_STEP_LIMIT_EDITION;
 use crate::twin::by_value::book::bounds::LAST_EDITION;
 use crate::twin::by_value::book::bounds::MOST_BLOCKS;
 use crate::twin::by_value::book::bounds::MOST_RECORDS;
+use crate::twin::by_value::book::bounds::MOST_STEPS_IN_HOUR;
 use crate::twin::by_value::book::bounds::PORTFOLIO_NUMBERS;
 use crate::twin::by_value::book::bounds::SPRING_HOURS;
 use crate::twin::by_value::book::chains::counts_by_portfolio;
@@ -16,6 +18,7 @@ use crate::twin::by_value::book::chains::is_uncounted_on;
 use crate::twin::by_value::book::links::has_wrong_link;
 use crate::twin::by_value::book::ranges::is_within;
 use crate::twin::by_value::book::ranges::most_blocks_of_portfolio;
+use crate::twin::by_value::book::steps::has_more_steps;
 use crate::twin::by_value::records::HEAD_REST_OFFSET;
 use crate::twin::by_value::records::HEAD_REST_SIZE;
 use crate::twin::by_value::records::RECORD_SIZE;
@@ -99,6 +102,21 @@ fn finds_wrong_link(book: &[u8], before: u8) -> bool
     has_wrong_link(book)
 }
 
+// 11, looked for only where no other cause holds, in an edition with this limit, and where the chain has more steps than one portfolio may have in one hour.
+fn finds_too_many_steps(book: &[u8], steps: u16, before: u8) -> bool
+{
+    if before != 0 {
+        return false;
+    }
+    if edition_of(book) < FIRST_STEP_LIMIT_EDITION {
+        return false;
+    }
+    if steps <= MOST_STEPS_IN_HOUR {
+        return false;
+    }
+    has_more_steps(book)
+}
+
 // One cause more: the number that those before it gave, else, where it holds, its own.
 fn next_found(before: u8, holds: bool, number: u8) -> u8
 {
@@ -126,5 +144,7 @@ pub fn refusal_of(book: &[u8], steps: Surveyed, blocks: Surveyed, links: Surveye
     let many = (MOST_BLOCKS < blocks.length) | has_crowded_portfolio(book);
     let crowded = next_found(stray, many, 6);
     let uncounted = next_found(crowded, has_wrong_hours(book), 9);
-    next_found(uncounted, finds_wrong_link(book, uncounted), 10)
+    let misnamed = next_found(uncounted, finds_wrong_link(book, uncounted), 10);
+    let too_many = finds_too_many_steps(book, steps.length, misnamed);
+    next_found(misnamed, too_many, 11)
 }

@@ -33,7 +33,8 @@ const BY_SMALLNESS: u32 = 2;
 const MOST: u32 = 4294967295;
 
 // How soon a block is left out by a rule.
-fn urgency(rule: u32, miss: u32, gain: u32, size: u32) -> u32 {
+fn urgency(rule: u32, miss: u32, gain: u32, size: u32) -> u32
+{
     if rule == BY_MISS {
         return miss;
     }

@@ -1,9 +1,10 @@
 // Written by `twin_source` from crates/places/src/cells.rt.
 // What the tables have at the hours' places: gaps, prices, and the least gaps within reach. The price table has the unit price of the N before each
-// place: the price at a place is the middle of two neighbours. An hour that has a buy of 2 at 5000, a sell of 1 at 3000 and no block that buys has the row
+// place: H at a place is its own entry, L the next one, and the price is the middle of the two, or in edition 4 a shifted one. An hour that has a buy of 2 at 5000, a sell of 1 at 3000 and no block that buys has the row
 // 5000, 5000, 3000, 1, ..: at place 0 its price is 5000, at place 1 the middle of 5000 and 3000.
 use crate::twin::by_value::places::layout::CHANGE_ROW;
 use crate::twin::by_value::places::layout::HOURS;
+use crate::twin::by_value::places::layout::LAST_SHIFT;
 use crate::twin::by_value::places::numbers::larger;
 use crate::twin::by_value::places::numbers::smaller;
 
@@ -38,7 +39,7 @@ fn gaps_at(gap: &[u32], first: &[u32], last: &[u32], places: [u32; HOURS]) -> Ga
     }
 }
 
-// The price of each hour at its place.
+// The middle price of each hour at its place.
 pub fn prices_at(unit_prices: &[u32], places: [u32; HOURS]) -> [u32; HOURS]
 {
     let width = unit_prices.len() / HOURS;
@@ -47,6 +48,55 @@ pub fn prices_at(unit_prices: &[u32], places: [u32; HOURS]) -> [u32; HOURS]
     while h < HOURS {
         let at = h * width + (places[h] as usize);
         prices[h] = (unit_prices[at] + unit_prices[at + 1]) / 2;
+        h += 1;
+    }
+    prices
+}
+
+// An end of each hour's price at its place: H, or L where it is read one entry above.
+fn ends_at(unit_prices: &[u32], places: [u32; HOURS], above: usize) -> [u32; HOURS]
+{
+    let width = unit_prices.len() / HOURS;
+    let mut prices = [0; HOURS];
+    let mut h: usize = 0;
+    while h < HOURS {
+        let at = h * width + (places[h] as usize);
+        prices[h] = unit_prices[at + above];
+        h += 1;
+    }
+    prices
+}
+
+// H of each hour at its place.
+pub fn highs_at(unit_prices: &[u32], places: [u32; HOURS]) -> [u32; HOURS]
+{
+    ends_at(unit_prices, places, 0)
+}
+
+// L of each hour at its place.
+pub fn lows_at(unit_prices: &[u32], places: [u32; HOURS]) -> [u32; HOURS]
+{
+    ends_at(unit_prices, places, 1)
+}
+
+// The price at shift t between L and H, whichever of the two is more.
+fn shifted_price(t: u32, low: u32, high: u32) -> u32
+{
+    if high <= low {
+        return low;
+    }
+    low + (high - low) * t / LAST_SHIFT
+}
+
+// The price at shift t of each hour at its place.
+pub fn shifted_prices(unit_prices: &[u32], places: [u32; HOURS], t: u32) -> [u32; HOURS]
+{
+    let width = unit_prices.len() / HOURS;
+    let mut prices = [0; HOURS];
+    let mut h: usize = 0;
+    while h < HOURS {
+        let at = h * width + (places[h] as usize);
+        prices[h] = shifted_price(t, unit_prices[at + 1], unit_prices[at]);
         h += 1;
     }
     prices

@@ -1,6 +1,8 @@
 // Written by `twin_source` from crates/roots/src/moves.rt.
 // Prices on their way to those at which the blocks that gain are taken: a third of the way with each move, towards the prices at the average place so far.
 // Hour 3 counts `often` times.
+use crate::twin::by_value::roots::held::Bounds;
+use crate::twin::by_value::roots::held::held;
 use crate::twin::by_value::places::added::moved;
 use crate::twin::by_value::places::cells::counted_prices;
 use crate::twin::by_value::places::cells::prices_at;
@@ -92,6 +94,7 @@ pub fn moved_on(
     trail: Trail,
     n: u32,
     often: u32,
+    bounds: Bounds,
 ) -> Trail
 {
     let last = (unit_prices.len() / HOURS - LAST_AND_ABOVE) as u32;
@@ -102,7 +105,7 @@ pub fn moved_on(
         let more = added_places(sum, count, hours, limits, quantities, root, often);
         let mean = averaged(more, k + 1, last);
         let there = prices_at(unit_prices, mean);
-        let next = closer(root, there);
+        let next = closer(root, held(there, bounds));
         sum = more;
         root = next;
         k += 1;

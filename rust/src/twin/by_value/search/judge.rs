@@ -3,13 +3,17 @@
 use crate::twin::by_value::search::Node;
 use crate::twin::by_value::places::cells::counted_least_gaps;
 use crate::twin::by_value::places::cells::counted_prices;
+use crate::twin::by_value::places::cells::highs_at;
+use crate::twin::by_value::places::cells::lows_at;
 use crate::twin::by_value::places::cells::prices_at;
 use crate::twin::by_value::places::layout::AGAINST;
 use crate::twin::by_value::places::layout::CHANGE;
 use crate::twin::by_value::places::layout::GAIN;
+use crate::twin::by_value::places::layout::HOURS;
 use crate::twin::by_value::places::layout::LIMIT;
 use crate::twin::by_value::places::layout::PARENT;
 use crate::twin::by_value::places::layout::RUNS;
+use crate::twin::by_value::places::layout::SHIFTS;
 use crate::twin::by_value::places::layout::SIDE;
 use crate::twin::by_value::places::layout::TURN;
 use crate::twin::by_value::places::limits::keeps_limit;
@@ -101,6 +105,35 @@ fn is_forced(blocks: &[u32], at: usize, set: u32, loss: u64, limit: u64) -> bool
     limit <= loss + (other as u64)
 }
 
+// The best prices within reach, as they count: those for sells and those for buys.
+#[derive(Clone, Copy)]
+pub struct Bounds {
+    pub high: [u32; HOURS],
+    pub low: [u32; HOURS],
+}
+
+// The best prices over the places from `from` to `to`: for sells at the first of them, for buys at the last. Where prices can give way a completion's are
+// anywhere from L to H, so these are H and L there; else they are the middle prices.
+fn bounds_at(
+    unit_prices: &[u32],
+    shifts: bool,
+    often: u32,
+    from: [u32; HOURS],
+    to: [u32; HOURS],
+) -> Bounds
+{
+    if shifts {
+        return Bounds {
+            high: counted_prices(highs_at(unit_prices, from), often),
+            low: counted_prices(lows_at(unit_prices, to), often),
+        };
+    }
+    Bounds {
+        high: counted_prices(prices_at(unit_prices, from), often),
+        low: counted_prices(prices_at(unit_prices, to), often),
+    }
+}
+
 // Whether a branch is dropped, and its blocks that are out.
 #[derive(Clone, Copy)]
 pub struct Judged {
@@ -151,12 +184,13 @@ pub fn judge(
     if limit <= least {
         return drop;
     }
-    let high = counted_prices(prices_at(unit_prices, from), often);
-    let lowest = counted_prices(prices_at(unit_prices, to), often);
-    if !keeps_limits(blocks, at, node.set, &high, &lowest) {
+    let bounds = bounds_at(unit_prices, hours[SHIFTS] != 0, often, from, to);
+    let high = bounds.high;
+    let low = bounds.low;
+    if !keeps_limits(blocks, at, node.set, &high, &low) {
         return drop;
     }
-    let ruled = ruled_out(blocks, count as usize, at, node.set, out, &high, &lowest);
+    let ruled = ruled_out(blocks, count as usize, at, node.set, out, &high, &low);
     let with_gains = least + ruled.gains;
     Judged {
         dropped: limit <= with_gains,

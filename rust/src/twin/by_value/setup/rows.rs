@@ -5,7 +5,10 @@ use crate::twin::by_value::places::layout::HOUR_LIST;
 use crate::twin::by_value::places::layout::HOURS;
 use crate::twin::by_value::places::layout::LAST;
 use crate::twin::by_value::places::layout::LAST_AND_ABOVE;
+use crate::twin::by_value::places::layout::SHIFTS;
 use crate::twin::by_value::places::layout::TURN;
+use crate::twin::by_value::places::numbers::number_of;
+use crate::twin::by_value::roots::gives_way;
 use crate::twin::by_value::tables::all_totals;
 use crate::twin::by_value::tables::clear_range;
 use crate::twin::by_value::tables::fill_gaps;
@@ -136,16 +139,18 @@ pub fn fill_ranges(
     Ranges { first, last, turn }
 }
 
-// The hours' three columns in one list, and how often hour 3 counts.
+// The hours' three columns in one list, how often hour 3 counts, and whether prices can give way.
 pub fn joined(
     first: [u32; HOURS],
     last: [u32; HOURS],
     turn: [u32; HOURS],
     often: u32,
+    edition: u8,
 ) -> [u32; HOUR_LIST]
 {
     let mut r = [0; HOUR_LIST];
     r[CHANGE] = often;
+    r[SHIFTS] = number_of(gives_way(edition));
     let mut h: usize = 0;
     while h < HOURS {
         r[h] = first[h];

@@ -1,0 +1,3 @@
+-- A set's shift of prices, by the search's columns. Definitions only.
+pub mod Columns
+pub mod Cases
