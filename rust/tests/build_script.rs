@@ -4,9 +4,11 @@
 
 use std::fs;
 use std::io::Write;
-use std::os::unix::fs::PermissionsExt;
 use std::path::{Path, PathBuf};
 use std::process::{Child, Command, Output, Stdio};
+use turn::{copy_script, output, start, write_script};
+
+mod turn; // scripts written and run one at a time
 
 /// Proves at once, but for the crate that a file `broken` names, and never twice at the
 /// same time. Each program prints one line; the library has one call.
@@ -52,10 +54,9 @@ fn folder(name: &str) -> PathBuf {
     fs::create_dir_all(folder.join("crates/low/must-fail")).expect("a folder");
     for script in ["build", "auction-print", "family-print", "cash-print"] {
         let source = Path::new(env!("CARGO_MANIFEST_DIR")).join("..").join(script);
-        fs::copy(source, folder.join(script)).expect(script);
+        copy_script(&source, &folder.join(script));
     }
-    write(&folder, "bin/rt", RT);
-    fs::set_permissions(folder.join("bin/rt"), fs::Permissions::from_mode(0o755)).expect("rt");
+    write_script(&folder.join("bin/rt"), RT);
     write(&folder, "crates.txt", CRATES);
     write(&folder, "crates/low/source", "1");
     folder
@@ -73,7 +74,7 @@ fn started_with(folder: &Path, words: &[&str], input: Stdio) -> Child {
     let path = format!("{}:{}", folder.join("bin").display(), std::env::var("PATH").unwrap());
     let mut command = Command::new(folder.join(words[0]));
     command.args(&words[1..]).env("PATH", path).current_dir("/").stdin(input);
-    command.stdout(Stdio::piped()).stderr(Stdio::piped()).spawn().expect("it starts")
+    start(command.stdout(Stdio::piped()).stderr(Stdio::piped()))
 }
 
 fn ended(running: Child) -> (Option<i32>, String, String) {
@@ -134,12 +135,12 @@ fn what_changed_is_built_again() {
     assert_eq!(told(&folder, &both).last().unwrap(), "3 of 3: auction_print, proved");
     write(&folder, "target/lib/libauction.so", "no library");
     assert_eq!(told(&folder, &both).last().unwrap(), "3 of 3: exports, proved");
-    write(&folder, "target/bin/auction_print", "#!/bin/sh\necho another\n");
+    write_script(&folder.join("target/bin/auction_print"), "#!/bin/sh\necho another\n");
     assert_eq!(told(&folder, &both).last().unwrap(), "3 of 3: auction_print, proved");
     assert_eq!(run(&folder, &both), SILENT);
     // Each program by itself.
     assert_eq!(told(&folder, &["build", "families"]).len(), 3);
-    write(&folder, "target/bin/family_print", "#!/bin/sh\necho another\n");
+    write_script(&folder.join("target/bin/family_print"), "#!/bin/sh\necho another\n");
     assert_eq!(run(&folder, &both), SILENT);
     let families = told(&folder, &["build", "families"]);
     assert_eq!(families.last().unwrap(), "3 of 3: family_print, proved");
@@ -174,7 +175,8 @@ fn each_command_runs_its_program() {
 fn a_command_leaves_its_input_to_the_program() {
     let folder = folder("input");
     let reading = RT.replace("sleep 0.1", "cat >/dev/null");
-    write(&folder, "bin/rt", &reading.replace(r"\necho %s\n", r"\ncat # %s\n"));
+    let reading = reading.replace(r"\necho %s\n", r"\ncat # %s\n");
+    write_script(&folder.join("bin/rt"), &reading);
     for _ in 0..2 {
         let mut child = started_with(&folder, &["cash-print"], Stdio::piped());
         child.stdin.take().expect("piped").write_all(b"book").expect("it reads");
@@ -229,15 +231,15 @@ fn wrong_words_and_a_missing_toolchain() {
     let mut command = Command::new("/bin/sh");
     fs::remove_file(folder.join("bin/rt")).expect("it was there");
     for tool in ["awk", "cat", "cut", "dirname", "find", "sha256sum", "sort", "uname"] {
-        let found = Command::new("sh").args(["-c", &format!("command -v {tool}")]).output();
-        let path = String::from_utf8(found.expect("sh").stdout).expect("a path");
+        let found = output(Command::new("sh").args(["-c", &format!("command -v {tool}")]));
+        let path = String::from_utf8(found.stdout).expect("a path");
         std::os::unix::fs::symlink(path.trim(), folder.join("bin").join(tool)).expect(tool);
     }
-    let output = command.arg(folder.join("build")).arg("program").env("PATH", folder.join("bin"));
-    let output = output.output().expect("a shell");
-    let told = String::from_utf8(output.stderr).expect("text");
+    let command = command.arg(folder.join("build")).arg("program").env("PATH", folder.join("bin"));
+    let answer = output(command);
+    let told = String::from_utf8(answer.stderr).expect("text");
     assert_eq!(told, "build: there is no rt on the path, and a build needs it\n");
-    assert_eq!(output.status.code(), Some(1));
+    assert_eq!(answer.status.code(), Some(1));
 }
 
 /// Ten at once: each crate is proved once, and each build succeeds.

@@ -3,9 +3,11 @@
 //! takes from its environment.
 
 use std::fs;
-use std::os::unix::fs::PermissionsExt;
 use std::path::{Path, PathBuf};
 use std::process::{Command, Output};
+use turn::{copy_script, output, write_script};
+
+mod turn; // scripts written and run one at a time
 
 /// Tests that pass.
 const RUST: &str = "echo 'test result: ok. 3 passed; 0 failed; 0 ignored'\n";
@@ -19,10 +21,8 @@ fn folder(name: &str, rust: Option<&str>, python: Option<&str>) -> PathBuf {
         fs::create_dir_all(folder.join(part)).expect("a folder");
     }
     let gate = Path::new(env!("CARGO_MANIFEST_DIR")).join("../.ci/run");
-    fs::copy(gate, folder.join(".ci/run")).expect("the gate");
-    let rt = folder.join("bin/rt");
-    fs::write(&rt, "#!/bin/sh\necho '1 passed, 0 failed'\n").expect("a file");
-    fs::set_permissions(&rt, fs::Permissions::from_mode(0o755)).expect("rt");
+    copy_script(&gate, &folder.join(".ci/run"));
+    write_script(&folder.join("bin/rt"), "#!/bin/sh\necho '1 passed, 0 failed'\n");
     for (part, words) in [("rust", rust), ("bindings/python", python)] {
         if let Some(words) = words {
             fs::write(folder.join(part).join("run-tests"), words).expect("a file");
@@ -35,7 +35,7 @@ fn gate(folder: &Path, variables: &[(&str, &str)]) -> Output {
     let path = format!("{}:{}", folder.join("bin").display(), std::env::var("PATH").unwrap());
     let mut command = Command::new("bash");
     command.arg(folder.join(".ci/run")).env("PATH", path);
-    command.envs(variables.iter().copied()).output().expect("bash")
+    output(command.envs(variables.iter().copied()))
 }
 
 /// Whether the gate passes, and its last line.
