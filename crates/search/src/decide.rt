@@ -1,6 +1,6 @@
 // All blocks are decided: whether the set becomes the best, with its day.
 ghost use mathlib.Core.Path.{_≡_};
-ghost use Prim.Native.Nat.{_+_, _≤_};
+ghost use Prim.Native.Nat.{_+_, _≤_, _<_};
 ghost use lib.ListN.{length};
 ghost use Rattle.book.specs.Bounds.{mostBlocks};
 ghost use Rattle.places.specs.Layout.{hourPlaces, mostLoss, hourListSize};
@@ -8,7 +8,7 @@ ghost use Rattle.places.specs.Hours.{changeOften};
 ghost use Rattle.places.specs.Blocks.{BlocksSized};
 ghost use Rattle.places.specs.Steps.{stepsAt, StepsSized};
 ghost use Rattle.shift.specs.Columns.{ShiftSized};
-ghost use Rattle.search.specs.Meaning.{Sized, FoundAt, ShiftDecidedIn, Decided};
+ghost use Rattle.search.specs.Meaning.{Sized, limitLeft, FoundAt, ShiftDecidedIn, Decided};
 ghost use Rattle.search.specs.Tables.{tablesOf};
 use crate::Best;
 use crate::Day;
@@ -29,7 +29,20 @@ use places::trades::hours_traded;
 use places::trades::set_trades;
 use shift::shift_of;
 
-// The set as the best, with what it loses and its day at these prices.
+// The limit that a set which loses so much leaves: what it loses, and where ties are looked for one more, so that sets that lose the same are still met; 0
+// where one is met.
+fn limit_left(total: u64, margin: u64, limit: u64) -> u64
+    requires { ⌜ (total < limit) × (margin ≤ 1) ⌝ }
+    ensures { λ r. ⌜ r ≡ limitLeft total margin limit ⌝ }
+{
+    let left = total + margin;
+    if left < limit {
+        return left;
+    }
+    0
+}
+
+// The set as the best, with the limit that it leaves and its day at these prices.
 fn found_at(
     blocks: &[u32],
     sides: &[u8],
@@ -38,13 +51,13 @@ fn found_at(
     ends: &[u16],
     count: u32,
     set: u32,
-    total: u64,
+    limit: u64,
     set_prices: [u32; HOURS],
 ) -> Best
     requires { ⌜ BlocksSized (now blocks) × (count ≤ mostBlocks) × (length (now ends) ≡ hourPlaces + 1)
         × StepsSized (now ends) (now sides) (now prices) (now quantities) ⌝ }
     ensures { λ r. ⌜ FoundAt (now (blocks .entry)) count (stepsAt (now (ends .entry)) (now (sides .entry)) (now (prices .entry)) (now (quantities .entry)))
-        set total «set_prices» r ⌝ }
+        set limit «set_prices» r ⌝ }
 {
     let trades = set_trades(blocks, count as usize, set);
     let traded = hours_traded(sides, prices, quantities, ends, trades, set_prices);
@@ -53,7 +66,7 @@ fn found_at(
         quantities: traded,
     };
     Best {
-        limit: total,
+        limit: limit,
         set: set,
         day: day,
     }
@@ -70,13 +83,13 @@ fn decide_at_shift(
     ends: &[u16],
     count: u32,
     node: Node,
-    total: u64,
+    limit: u64,
     best: Best,
 ) -> Best
     requires { ⌜ ShiftSized (now «unit_prices») (now blocks) count (node .places) (changeOften (now hours)) × (length (now hours) ≡ hourListSize)
         × BlocksSized (now blocks) × (length (now ends) ≡ hourPlaces + 1) × StepsSized (now ends) (now sides) (now prices) (now quantities) ⌝ }
     ensures { λ r. ⌜ ShiftDecidedIn (now («unit_prices» .entry)) (now (hours .entry)) (now (blocks .entry)) count
-        (stepsAt (now (ends .entry)) (now (sides .entry)) (now (prices .entry)) (now (quantities .entry))) node total best r ⌝ }
+        (stepsAt (now (ends .entry)) (now (sides .entry)) (now (prices .entry)) (now (quantities .entry))) node limit best r ⌝ }
 {
     let places = node.places;
     let shift = shift_of(
@@ -99,7 +112,7 @@ fn decide_at_shift(
         ends,
         count,
         node.set,
-        total,
+        limit,
         shifted,
     )
 }
@@ -116,13 +129,15 @@ pub fn decide(
     quantities: &[u32],
     ends: &[u16],
     count: u32,
+    margin: u64,
     node: Node,
     best: Best,
 ) -> Best
     requires { ⌜ Sized (tablesOf (now «unit_prices») (now gap) (now hours) (now blocks) count) × (length (now hours) ≡ hourListSize)
-        × (length (now ends) ≡ hourPlaces + 1) × StepsSized (now ends) (now sides) (now prices) (now quantities) × (node .loss ≤ mostLoss) ⌝ }
+        × (length (now ends) ≡ hourPlaces + 1) × StepsSized (now ends) (now sides) (now prices) (now quantities) × (node .loss ≤ mostLoss)
+        × (margin ≤ 1) ⌝ }
     ensures { λ r. ⌜ Decided (tablesOf (now («unit_prices» .entry)) (now (gap .entry)) (now (hours .entry)) (now (blocks .entry)) count)
-        (stepsAt (now (ends .entry)) (now (sides .entry)) (now (prices .entry)) (now (quantities .entry))) node best r ⌝ }
+        (stepsAt (now (ends .entry)) (now (sides .entry)) (now (prices .entry)) (now (quantities .entry))) margin node best r ⌝ }
 {
     let places = node.places;
     let often = hours[CHANGE];
@@ -134,6 +149,7 @@ pub fn decide(
     if best.limit <= total {
         return best;
     }
+    let left = limit_left(total, margin, best.limit);
     let middles = prices_at(unit_prices, places);
     let counted = counted_prices(middles, often);
     if keeps_limits(blocks, count as usize, node.set, &counted, &counted) {
@@ -145,7 +161,7 @@ pub fn decide(
             ends,
             count,
             node.set,
-            total,
+            left,
             middles,
         );
     }
@@ -162,7 +178,7 @@ pub fn decide(
         ends,
         count,
         node,
-        total,
+        left,
         best,
     )
 }

@@ -98,13 +98,15 @@ pub fn explore(
     count: u32,
     left: u32,
     out: u32,
+    margin: u64,
     node: Node,
     best: Best,
 ) -> Best
     requires { ⌜ Sized (tablesOf (now «unit_prices») (now gap) (now hours) (now blocks) count) × (length (now hours) ≡ hourListSize)
-        × (length (now ends) ≡ hourPlaces + 1) × StepsSized (now ends) (now sides) (now prices) (now quantities) × (left ≤ count) × Fits (count - left) node ⌝ }
+        × (length (now ends) ≡ hourPlaces + 1) × StepsSized (now ends) (now sides) (now prices) (now quantities) × (left ≤ count) × Fits (count - left) node
+        × (margin ≤ 1) ⌝ }
     ensures { λ r. ⌜ ExploredFrom (tablesOf (now («unit_prices» .entry)) (now (gap .entry)) (now (hours .entry)) (now (blocks .entry)) count)
-        (stepsAt (now (ends .entry)) (now (sides .entry)) (now (prices .entry)) (now (quantities .entry))) left out node best r ⌝ }
+        (stepsAt (now (ends .entry)) (now (sides .entry)) (now (prices .entry)) (now (quantities .entry))) left out margin node best r ⌝ }
 {
     let limit = best.limit;
     let judged = judge(
@@ -132,6 +134,7 @@ pub fn explore(
             quantities,
             ends,
             count,
+            margin,
             node,
             best,
         );
@@ -153,6 +156,7 @@ pub fn explore(
             count,
             after,
             still,
+            margin,
             without,
             best,
         );
@@ -170,6 +174,7 @@ pub fn explore(
         count,
         after,
         still,
+        margin,
         with,
         best,
     );
@@ -188,6 +193,7 @@ pub fn explore(
         count,
         after,
         still,
+        margin,
         without,
         taken,
     )

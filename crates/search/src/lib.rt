@@ -127,6 +127,7 @@ pub fn find(
             count,
             count,
             0,
+            0,
             root,
             start,
         );
@@ -152,6 +153,7 @@ pub fn find(
         ends,
         count,
         count,
+        0,
         0,
         root,
         start,
