@@ -30,6 +30,7 @@ pub mod TableLaws
 pub mod NeighbourLaws
 pub mod LossLaws
 pub mod LossSearchLaws
+pub mod AloneLaws
 pub mod SetBits
 pub mod PlaceLaws
 pub mod QuietHours
