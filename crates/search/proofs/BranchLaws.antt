@@ -23,7 +23,6 @@ use Rattle.rules.proofs.LinkLaws.{Closed}
 use Rattle.rules.proofs.TwinLaws.{InTurn, turn-left, turn-taken}
 use Rattle.rules.proofs.SetBits.{bits-taken, bits-left, bits-room}
 use Rattle.rules.proofs.PlaceLaws.{place-taken, place-left}
-use Rattle.rules.proofs.LossSearchLaws as by-loss
 use Rattle.book.specs.Bounds.{mostBlocks}
 use Rattle.places.specs.Layout.{hourPlaces, mostAdded}
 use Rattle.places.specs.Hours.{Small, ofHour}
@@ -51,6 +50,7 @@ use Rattle.search.specs.Tables.{Tables}
 use Rattle.places.proofs.AddedLaws.{places-grow}
 use Rattle.search.proofs.ClosedLaws.{next-closed, lawful-closed}
 use Rattle.search.proofs.DecisionLaws.{left-some, neither}
+use Rattle.search.proofs.MarginLaws.{joined, only-left, only-taken}
 use Rattle.search.proofs.TradedLaws.{sells-at, buys-at}
 use Rattle.search.proofs.DecidedLaws.{decided-bit, as-it-was}
 use Rattle.search.specs.declared.Best.{Best}
@@ -199,14 +199,14 @@ module _ {day : Day} {p rest : ℕ → ℕ} {tables : Tables} (known : Known day
 -- A BRANCH, one law for each way out
 module _ {tables : Tables} where
   -- the branch is dropped
-  pub explored-dropped : {steps : ℕ → List Step} {left out : ℕ} {node : Node} {best : Best} → DroppedFrom tables left out node (best .limit) →
-      ExploredFrom tables steps left out node best best
+  pub explored-dropped : {steps : ℕ → List Step} {left out margin : ℕ} {node : Node} {best : Best} → DroppedFrom tables left out node (best .limit) →
+      ExploredFrom tables steps left out margin node best best
   explored-dropped dropped day p rest d same at = as-it-was (λ t l law. dropped day p rest d t at l law)
 
   -- the branch is judged: what is out of it then
-  pub explored-judged : {steps : ℕ → List Step} {left out r-out : ℕ} {node : Node} {best r : Best} {isDropped : Bool} → isDropped ≡ false →
+  pub explored-judged : {steps : ℕ → List Step} {left out r-out margin : ℕ} {node : Node} {best r : Best} {isDropped : Bool} → isDropped ≡ false →
       JudgedFrom tables left out node (best .limit) isDropped r-out →
-      ExploredFrom tables steps left r-out node best r → ExploredFrom tables steps left out node best r
+      ExploredFrom tables steps left r-out margin node best r → ExploredFrom tables steps left out margin node best r
   explored-judged e judged f day p rest d same at =
       f day p rest d same record {
         known = at .known;
@@ -218,9 +218,9 @@ module _ {tables : Tables} where
       }
 
   -- no block is left
-  pub explored-decided : {steps : ℕ → List Step} {left out : ℕ} {node : Node} {best r : Best} → left ≡ 0 → node .set < 2 ^ tables .count →
-      Decided tables steps node best r →
-      ExploredFrom tables steps left out node best r
+  pub explored-decided : {steps : ℕ → List Step} {left out margin : ℕ} {node : Node} {best r : Best} → left ≡ 0 → node .set < 2 ^ tables .count →
+      Decided tables steps margin node best r →
+      ExploredFrom tables steps left out margin node best r
   explored-decided e room f day p rest d same at =
       rw e (f day p rest d same (at .known) (at .branch) (at .closed) (omega (arith, at .size)) room)
 
@@ -263,59 +263,61 @@ module _ {tables : Tables} where
     }
 
   -- a block is taken and then left out
-  pub explored-both : {steps : ℕ → List Step} {left out : ℕ} {node taken-node left-node : Node} {best m r : Best} → 0 < left → left ≤ tables .count →
+  pub explored-both : {steps : ℕ → List Step} {left out margin : ℕ} {node taken-node left-node : Node} {best m r : Best} → 0 < left → left ≤ tables .count →
       node .set < 2 ^ (tables .count - left) → isBarred (tables .blocks) (tables .count - left) (node .set) ≡ false →
       TakenTo (tables .blocks) (tables .count - left) node taken-node → LeftTo (tables .blocks) (tables .count - left) node left-node →
-      ExploredFrom tables steps (left - 1) (out / 2) taken-node best m →
-      ExploredFrom tables steps (left - 1) (out / 2) left-node m r →
-      ExploredFrom tables steps left out node best r
-  explored-both {left = left} {best = best} {m} {r} pos le room free t l f g day p rest d same at =
+      ExploredFrom tables steps (left - 1) (out / 2) margin taken-node best m →
+      ExploredFrom tables steps (left - 1) (out / 2) margin left-node m r →
+      ExploredFrom tables steps left out margin node best r
+  explored-both {left = left} {margin = margin} {best = best} {m} {r} pos le room free t l f g day p rest d same at =
       let a = f day p rest (d ++ (true ∷ [])) same (at-taken pos le room at (best .limit) free t (omega arith)) in
-      let lower₁ : m .limit ≤ best .limit = a .explored .noMore in
+      let lower₁ : m .limit ≤ best .limit = a .noMore in
       let b = g day p rest (d ++ (false ∷ [])) same (at-left pos le room at (m .limit) l lower₁) in
       let one : suc (left - 1) ≡ left = omega arith in
-      let lower₂ : r .limit ≤ m .limit = b .explored .noMore in
+      let lower₂ : r .limit ≤ m .limit = b .noMore in
       record {
-        explored = rw one at (by-loss.joined day (InTurn day p) (lossAbove day p rest) (left - 1) d _ _ _ (a .explored) (b .explored));
+        tried = rw one at (joined margin day (InTurn day p) (lossAbove day p rest) (left - 1) d _ _ _ (a .tried) (b .tried));
+        noMore = omega arith;
         same = λ e. b .same (omega arith) ∙ a .same (omega arith);
         found = λ less. by-which less a b lower₂ (eq-or-lt-of-le lower₂);
       }
     where
       by-which : {day : Day} {p rest : ℕ → ℕ} {dt dl : List Bool} → r .limit < best .limit →
-          Outcome day p rest (tables .count) (left - 1) dt best m → Outcome day p rest (tables .count) (left - 1) dl m r → r .limit ≤ m .limit →
+          Outcome margin day p rest (tables .count) (left - 1) dt best m → Outcome margin day p rest (tables .count) (left - 1) dl m r → r .limit ≤ m .limit →
           (r .limit ≡ m .limit) ⊎ (r .limit < m .limit) → (r .set < 2 ^ tables .count) × DayOf day (decisions (tables .count) (r .set)) (r .day)
       by-which less a b le (inl e) = rw (b .same e) (a .found (omega arith))
       by-which less a b le (inr e) = b .found e
 
-  pub explored-left : {steps : ℕ → List Step} {left out : ℕ} {node left-node : Node} {best r : Best} → 0 < left → left ≤ tables .count →
+  pub explored-left : {steps : ℕ → List Step} {left out margin : ℕ} {node left-node : Node} {best r : Best} → 0 < left → left ≤ tables .count →
       node .set < 2 ^ (tables .count - left) →
       (isOut out 0 || isBarred (tables .blocks) (tables .count - left) (node .set)) ≡ true → LeftTo (tables .blocks) (tables .count - left) node left-node →
-      ExploredFrom tables steps (left - 1) (out / 2) left-node best r →
-      ExploredFrom tables steps left out node best r
-  explored-left {left = left} {out} {node} {best = best} pos le room barred l g day p rest d same at =
+      ExploredFrom tables steps (left - 1) (out / 2) margin left-node best r →
+      ExploredFrom tables steps left out margin node best r
+  explored-left {left = left} {out} {margin} {node} {best = best} pos le room barred l g day p rest d same at =
       let here : tables .count - left ≡ length d = omega (arith, at .size) in
       let b = g day p rest (d ++ (false ∷ [])) same (at-left pos le room at (best .limit) l (omega arith)) in
       let one : suc (left - 1) ≡ left = omega arith in
       record {
-        explored = rw one at (by-loss.only-left day (InTurn day p) (lossAbove day p rest) (left - 1) d _ _
+        tried = rw one at (only-left margin day (InTurn day p) (lossAbove day p rest) (left - 1) d _ _
             (λ t lt law kept. by-test (λ u. (u || isBarred (tables .blocks) (length d) (node .set)) ≡ true → isOut out 0 ≡ u →
             best .limit ≤ lossAbove day p rest (d ++ (true ∷ t))) (isOut out 0)
             (λ is _ _. out-not day p rest d left (best .limit) out pos (at .outOf) is t lt law)
             (λ _ is _. absurd (barred-not (at .known) (at .branch) (omega (arith, at .size)) is t
             (omega (arith, length-append d (true ∷ t), at .size)) law kept))
             (rw here at barred) refl)
-            (b .explored));
+            (b .tried));
+        noMore = b .noMore;
         same = b .same;
         found = b .found;
       }
 
-  pub explored-taken : {steps : ℕ → List Step} {left out : ℕ} {node taken-node : Node} {best r : Best} → 0 < left → left ≤ tables .count →
+  pub explored-taken : {steps : ℕ → List Step} {left out margin : ℕ} {node taken-node : Node} {best r : Best} → 0 < left → left ≤ tables .count →
       node .set < 2 ^ (tables .count - left) → isBarred (tables .blocks) (tables .count - left) (node .set) ≡ false →
       isDue (tables .blocks) (tables .count - left) (node .set) ≡ true → TakenTo (tables .blocks) (tables .count - left) node taken-node →
-      ExploredFrom tables steps (left - 1) (out / 2) taken-node best r →
-      ExploredFrom tables steps left out node best r
+      ExploredFrom tables steps (left - 1) (out / 2) margin taken-node best r →
+      ExploredFrom tables steps left out margin node best r
   unfolding isDue
-  explored-taken {left = left} {node = node} {best = best} pos le room free due t f day p rest d same at =
+  explored-taken {left = left} {margin = margin} {node} {best = best} pos le room free due t f day p rest d same at =
       let here : tables .count - left ≡ length d = omega (arith, at .size) in
       let k : length d < tables .count = omega (arith, at .size) in
       let known = at .known in
@@ -330,8 +332,9 @@ module _ {tables : Tables} where
       let inside : getD d (behindAt (tables .blocks) (length d) - 1) false ≡ true =
       decided-bit branch (behindAt (tables .blocks) (length d) - 1) (twin .0) ∙ tests .1 in
       record {
-        explored = rw one at (by-loss.only-taken day (InTurn day p) (lossAbove day p rest) (left - 1) d _ _
-            (λ s _ _ kept. turn-taken day p d (behindAt (tables .blocks) (length d) - 1) (twin .0) (twin .1) inside s kept) (b .explored));
+        tried = rw one at (only-taken margin day (InTurn day p) (lossAbove day p rest) (left - 1) d _ _
+            (λ s _ _ kept. turn-taken day p d (behindAt (tables .blocks) (length d) - 1) (twin .0) (twin .1) inside s kept) (b .tried));
+        noMore = b .noMore;
         same = b .same;
         found = b .found;
       }

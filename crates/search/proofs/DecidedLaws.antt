@@ -39,14 +39,14 @@ use Rattle.rules.proofs.PlaceLaws.{
 }
 use Rattle.rules.proofs.QuietHours.{each-in-place}
 use Rattle.rules.proofs.LawCutLaws.{taken-passes}
-use Rattle.rules.proofs.LossSearchLaws as by-loss
 use Rattle.places.specs.Layout.{hourPlaces, mostCountedGaps}
 use Rattle.places.specs.Hours.{sumOfHours, sumOver, countedColumn, cell, ofHour, PlacesClear, GapsOf, PricesOf}
 use Rattle.places.specs.Blocks.{hoursAt, keepsAt, allKeep}
-use Rattle.search.specs.Meaning.{AnHour, Shown, Known, Branch, lossAbove, bestAs, DayOf, Outcome, StepsAre, Decided, FoundAt, ShiftDecided, lastReached}
+use Rattle.search.specs.Meaning.{AnHour, Shown, Known, Branch, lossAbove, bestAs, DayOf, limitLeft, Outcome, StepsAre, Decided, FoundAt, ShiftDecided, lastReached}
 use Rattle.search.specs.Tables.{Tables}
 use Rattle.places.proofs.LimitLaws.{keepsHere, all-keep-at, all-keep}
 use Rattle.places.proofs.CountedLaws.{day-sum, block-sum}
+use Rattle.search.proofs.MarginLaws.{left-lower, branch-cut, leaf-kept, leaf-lowered}
 use Rattle.search.proofs.TradedLaws.{traded-are}
 use Rattle.search.specs.declared.Best.{Best}
 use Rattle.search.specs.declared.Node.{Node}
@@ -225,47 +225,51 @@ module _ {day : Day} {p rest : ℕ → ℕ} {tables : Tables} (known : Known day
         ∙ lawful-limits day d size (known .prices) (known .hours) law) e
 
 -- WHAT COMES BACK
-module _ {day : Day} {p rest : ℕ → ℕ} {count left : ℕ} {d : List Bool} {best : Best} where
+module _ {margin : ℕ} {day : Day} {p rest : ℕ → ℕ} {count left : ℕ} {d : List Bool} {best : Best} where
   -- the best as it was
   pub as-it-was : ((t : List Bool) → length t ≡ left → lawful day (d ++ t) ≡ true → best .limit ≤ lossAbove day p rest (d ++ t)) →
-      Outcome day p rest count left d best best
+      Outcome margin day p rest count left d best best
   as-it-was f = record {
-    explored = by-loss.branch-cut day (InTurn day p) (lossAbove day p rest) left d (bestAs count best) (λ t l law _. f t l law);
+    tried = branch-cut margin day (InTurn day p) (lossAbove day p rest) left d (bestAs count best) (λ t l law _. f t l law);
+    noMore = omega arith;
     same = λ _. refl;
     found = λ k. absurd (omega arith);
   }
 
 -- the set itself
-module _ (day : Day) (p rest : ℕ → ℕ) (count : ℕ) (d : List Bool) (set : ℕ) (best r : Best) where
-  pub newly-found : decisions count set ≡ d → set < 2 ^ count → r .set ≡ set → r .limit ≡ lossAbove day p rest d → r .limit < best .limit →
-      lawful day d ≡ true → DayOf day d (r .day) → Outcome day p rest count 0 d best r
+module _ (margin : ℕ) (day : Day) (p rest : ℕ → ℕ) (count : ℕ) (d : List Bool) (set : ℕ) (best r : Best) where
+  pub newly-found : decisions count set ≡ d → set < 2 ^ count → r .set ≡ set → r .limit ≡ limitLeft (lossAbove day p rest d) margin (best .limit) →
+      lossAbove day p rest d < best .limit → lawful day d ≡ true → DayOf day d (r .day) → Outcome margin day p rest count 0 d best r
   newly-found e room es el less law of =
       let is : decisions count (r .set) ≡ d = rw es e in
+      let lower : r .limit < best .limit = rw el (left-lower (lossAbove day p rest d) margin (best .limit) less) in
       record {
-        explored = rw (is, el) (by-loss.leaf-lowered day (InTurn day p) (lossAbove day p rest) d (bestAs count best) law (rw (sym el) less));
+        tried = rw (is, el) (leaf-lowered margin day (InTurn day p) (lossAbove day p rest) d (bestAs count best) law less);
+        noMore = omega arith;
         same = λ z. absurd (omega arith);
         found = λ _. (rw es room, rw is of);
       }
 
 -- a set that is lawful and loses less than the best becomes the best, with its day
-pub becomes-best : {tables : Tables} {node : Node} {steps : ℕ → List Step} {total : ℕ} {prices : List ℕ} {best r : Best} →
-    FoundAt (tables .blocks) (tables .count) steps (node .set) total prices r → total < best .limit →
-    {day : Day} {p rest : ℕ → ℕ} {d : List Bool} → total ≡ lossAbove day p rest d → StepsAre day steps → Known day p rest tables → Branch day p d node →
+pub becomes-best : {tables : Tables} {node : Node} {steps : ℕ → List Step} {limit margin : ℕ} {prices : List ℕ} {best r : Best} →
+    FoundAt (tables .blocks) (tables .count) steps (node .set) limit prices r →
+    {day : Day} {p rest : ℕ → ℕ} {d : List Bool} → lossAbove day p rest d < best .limit → limit ≡ limitLeft (lossAbove day p rest d) margin (best .limit) →
+    StepsAre day steps → Known day p rest tables → Branch day p d node →
     length d ≡ tables .count → node .set < 2 ^ tables .count → lawful day d ≡ true →
-    ((h : ℕ) → AnHour h → ofHour prices h ≡ setPrices day (taken (day .blocks) d) h) → Outcome day p rest (tables .count) 0 d best r
-becomes-best {tables} {node} {prices = prices} {best} {r} found less {day} {p} {rest} {d} loses same known branch whole room law is =
-    newly-found day p rest (tables .count) d (node .set) best r (rw whole at (branch .setIs)) room (found .setIs) (found .limitIs ∙ loses)
-    (rw (found .limitIs) less) law
+    ((h : ℕ) → AnHour h → ofHour prices h ≡ setPrices day (taken (day .blocks) d) h) → Outcome margin day p rest (tables .count) 0 d best r
+becomes-best {tables} {node} {margin = margin} {prices} {best} {r} found {day} {p} {rest} {d} less leaves same known branch whole room law is =
+    newly-found margin day p rest (tables .count) d (node .set) best r (rw whole at (branch .setIs)) room (found .setIs) (found .limitIs ∙ leaves) less law
     record {
       pricesAre = λ h c. rw (found .pricesAre) (is h c);
       tradedAre = traded-are known same whole (branch .setIs) law prices (r .day .quantities) (found .trades) is (found .traded);
     }
 
 -- A DECIDED SET, one law for each way out
-pub leaf-as-it-was : {day : Day} {p rest : ℕ → ℕ} {count : ℕ} {d : List Bool} {best : Best} → (lawful day d ≡ true → best .limit ≤ lossAbove day p rest d) →
-    Outcome day p rest count 0 d best best
-leaf-as-it-was {day} {p} {rest} {count} {d} {best} f = record {
-  explored = by-loss.leaf-kept day (InTurn day p) (lossAbove day p rest) d (bestAs count best) (λ law _. f law);
+pub leaf-as-it-was : {margin : ℕ} {day : Day} {p rest : ℕ → ℕ} {count : ℕ} {d : List Bool} {best : Best} →
+    (lawful day d ≡ true → best .limit ≤ lossAbove day p rest d) → Outcome margin day p rest count 0 d best best
+leaf-as-it-was {margin} {day} {p} {rest} {count} {d} {best} f = record {
+  tried = leaf-kept margin day (InTurn day p) (lossAbove day p rest) d (bestAs count best) (λ law _. f law);
+  noMore = omega arith;
   same = λ _. refl;
   found = λ k. absurd (omega arith);
 }
@@ -273,7 +277,7 @@ leaf-as-it-was {day} {p} {rest} {count} {d} {best} f = record {
 module _ {tables : Tables} {node : Node} {clears : Bool} {sum : ℕ}
     (gapped : GapsOf (sumOver (tables .change)) mostCountedGaps (tables .gaps) (tables .first) (tables .last) (node .places) clears sum) where
   -- some hour does not clear
-  pub decided-unclear : {steps : ℕ → List Step} {best : Best} → clears ≡ false → Decided tables steps node best best
+  pub decided-unclear : {steps : ℕ → List Step} {margin : ℕ} {best : Best} → clears ≡ false → Decided tables steps margin node best best
   decided-unclear e day p rest d same known branch closed whole room =
       leaf-as-it-was (λ law. absurd (gapped .notInRange e (lawful-in-range known branch whole law)))
 
@@ -284,7 +288,7 @@ module _ {tables : Tables} {node : Node} {clears : Bool} {sum : ℕ}
     loss-here known branch whole = omega (arith, loss-is known branch whole (gapped .inRange e) sum (gapped .sumIs e))
 
     -- it loses as much as the best or more
-    pub decided-worse : {steps : ℕ → List Step} {best : Best} → best .limit ≤ node .loss + sum → Decided tables steps node best best
+    pub decided-worse : {steps : ℕ → List Step} {margin : ℕ} {best : Best} → best .limit ≤ node .loss + sum → Decided tables steps margin node best best
     decided-worse k day p rest d same known branch closed whole room = leaf-as-it-was (λ law. omega (arith, loss-here known branch whole))
 
     -- the limits at the middle prices
@@ -296,28 +300,30 @@ module _ {tables : Tables} {node : Node} {clears : Bool} {sum : ℕ}
         keeps-by-columns known branch whole (gapped .inRange e) middleShift prices (priced .size)
         (priced-at known branch whole middle middleShift shifted-is-middle prices (priced .are))
 
-    module _ {steps : ℕ → List Step} {best : Best} where
+    module _ {steps : ℕ → List Step} {margin : ℕ} {best : Best} where
       -- another shift is looked for
-      pub decided-at-shift : {r : Best} → node .loss + sum < best .limit → tables .shifts ≡ true → ShiftDecided tables steps node (node .loss + sum) best r →
-          Decided tables steps node best r
-      decided-at-shift less way f day p rest d same known branch closed whole room =
-          f day p rest d same known branch closed whole room (loss-here known branch whole) less (gapped .inRange e) way
+      pub decided-at-shift : {limit : ℕ} {r : Best} → node .loss + sum < best .limit → limit ≡ limitLeft (node .loss + sum) margin (best .limit) →
+          tables .shifts ≡ true → ShiftDecided tables steps node limit best r → Decided tables steps margin node best r
+      decided-at-shift less leaves way f day p rest d same known branch closed whole room =
+          let loses = loss-here known branch whole in
+          f margin day p rest d same known branch closed whole room (rw loses less) (rw loses leaves) (gapped .inRange e) way
 
       module _ {prices : List ℕ} (priced : PricesOf middle (tables .unitPrices) (node .places) prices) where
         -- a block misses its limit there, and prices cannot give way
         pub decided-broken : allKeep (tables .blocks) (node .set) (countedColumn (tables .change) prices) (countedColumn (tables .change) prices) (tables .count) ≡ false →
-            tables .shifts ≡ false → Decided tables steps node best best
+            tables .shifts ≡ false → Decided tables steps margin node best best
         decided-broken k way day p rest d same known branch closed whole room =
             leaf-as-it-was (λ law. absurd (limits-broken known branch whole (gapped .inRange e)
             (rw (no-shift day (taken (day .blocks) d) (known .shiftsIs ∙ way)) (keeps-middle priced known branch whole ∙ k)) law))
 
         -- it is lawful and loses less
         pub decided-better : allKeep (tables .blocks) (node .set) (countedColumn (tables .change) prices) (countedColumn (tables .change) prices) (tables .count) ≡ true →
-            node .loss + sum < best .limit → {r : Best} → FoundAt (tables .blocks) (tables .count) steps (node .set) (node .loss + sum) prices r →
-            Decided tables steps node best r
-        decided-better k less found day p rest d same known branch closed whole room =
+            node .loss + sum < best .limit → {limit : ℕ} → limit ≡ limitLeft (node .loss + sum) margin (best .limit) → {r : Best} →
+            FoundAt (tables .blocks) (tables .count) steps (node .set) limit prices r → Decided tables steps margin node best r
+        decided-better k less leaves found day p rest d same known branch closed whole room =
             let kept = keeps-middle priced known branch whole ∙ k in
-            becomes-best found less (sym (loss-here known branch whole)) same known branch whole room
+            let loses = loss-here known branch whole in
+            becomes-best found (rw loses less) (rw loses leaves) same known branch whole room
             (limits-kept known branch whole (gapped .inRange e) closed (middle-is (day .edition)) kept)
             (prices-are known branch whole (gapped .inRange e) middleShift prices (priced .size)
             (priced-at known branch whole middle middleShift shifted-is-middle prices (priced .are))

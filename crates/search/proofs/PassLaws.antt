@@ -99,8 +99,8 @@ module _ {tables : Tables} (few : tables .count ≤ mostBlocks) (small : (i : �
       (λ set size law. omega (arith, bound-with day p [] set 0 rest (omega arith) (λ h c. rest-below known set (size ∙ known .counted) law h (an-hour c))))
 
   module _ {steps : ℕ → List Step} (turning : Turning tables) (same : StepsAre day steps) {best r : Best}
-      (pass : ExploredFrom tables steps (tables .count) 0 root best r) where
-    outcome-of : Outcome day p rest (tables .count) (tables .count) [] best r
+      (pass : ExploredFrom tables steps (tables .count) 0 0 root best r) where
+    outcome-of : Outcome 0 day p rest (tables .count) (tables .count) [] best r
     outcome-of = pass day p rest [] same record {
       known = known;
       turning = turning;
@@ -113,7 +113,7 @@ module _ {tables : Tables} (few : tables .count ≤ mostBlocks) (small : (i : �
     whole-pass : by-loss.Pass day (InTurn day p) (lossAbove day p rest) (bestAs (tables .count) best) (bestAs (tables .count) r)
     whole-pass =
         subst (λ n. by-loss.Explored day (InTurn day p) (lossAbove day p rest) n [] (bestAs (tables .count) best) (bestAs (tables .count) r))
-        (sym (known .counted)) (outcome-of .explored)
+        (sym (known .counted)) (outcome-of .tried .explored refl)
 
     in-turn : InTurn day p (outcome day)
     in-turn = outcome-in-turn day (known .prices) (known .hours) p

@@ -40,11 +40,11 @@ module _ {tables : Tables} {node : Node} {day : Day} {p rest : ℕ → ℕ} (kno
       keeps-by-columns known branch whole inside t (shiftedColumn (tables .unitPrices) (node .places) t) (column-size hourPlaces _)
       (priced-at known branch whole (shifted t) t (λ l h k. refl) (shiftedColumn (tables .unitPrices) (node .places) t) (column-of hourPlaces _))))
 
-module _ {tables : Tables} {steps : ℕ → List Step} {node : Node} {total : ℕ} {best : Best} {found : ℕ}
+module _ {tables : Tables} {steps : ℕ → List Step} {node : Node} {limit : ℕ} {best : Best} {found : ℕ}
     (is : shiftFrom found ≡ chosenShift (tables .unitPrices) (tables .blocks) (tables .count) (node .set) (node .places) (tables .change)) where
   -- no shift keeps all blocks
-  pub shift-missing : lastShift < found → ShiftDecided tables steps node total best best
-  shift-missing k day p rest d same known branch closed whole room loses less inside way =
+  pub shift-missing : lastShift < found → ShiftDecided tables steps node limit best best
+  shift-missing k margin day p rest d same known branch closed whole room less leaves inside way =
       leaf-as-it-was (λ law. absurd (limits-broken known branch whole inside
       (rw (own-shift day (taken (day .blocks) d) (known .shiftsIs ∙ way))
       (shift-not-chosen day (taken (day .blocks) d) (chosen-same known branch whole inside ∙ sym is ∙ above-none found k) _
@@ -52,11 +52,11 @@ module _ {tables : Tables} {steps : ℕ → List Step} {node : Node} {total : �
 
   -- the set at its shift
   pub shift-found : found ≤ lastShift → {prices : List ℕ} → PricesOf (shifted found) (tables .unitPrices) (node .places) prices → {r : Best} →
-      FoundAt (tables .blocks) (tables .count) steps (node .set) total prices r → ShiftDecided tables steps node total best r
-  shift-found k {prices} priced at day p rest d same known branch closed whole room loses less inside way =
+      FoundAt (tables .blocks) (tables .count) steps (node .set) limit prices r → ShiftDecided tables steps node limit best r
+  shift-found k {prices} priced at margin day p rest d same known branch closed whole room less leaves inside way =
       let gives = known .shiftsIs ∙ way in
       let chosen = shift-chosen day (taken (day .blocks) d) (chosen-same known branch whole inside ∙ sym is ∙ shift-some found k) in
-      becomes-best at less (sym loses) same known branch whole room
+      becomes-best at less leaves same known branch whole room
       (limits-kept known branch whole inside closed (any-shift gives found k) (chosen .1))
       (prices-are known branch whole inside found prices (priced .size) (priced-at known branch whole (shifted found) found (λ l h z. refl) prices (priced .are))
       (own-shift day (taken (day .blocks) d) gives ∙ chosen .0))

@@ -2,7 +2,7 @@
 -- contracts of private functions; the promise of the clearing itself is in Promise. Definitions only. Assumes nothing.
 use Prim.Native.Nat.{ℕ, suc, _+_, _-_, _*_, _^_, _≤_, _<_}
 use mathlib.Core.Bool.{Bool, true, false, not}
-use lib.Dec.{eqb}
+use lib.Dec.{eqb, ltb}
 use mathlib.Core.List.{List, _∷_, _++_}
 use mathlib.Core.Path.{_≡_}
 use lib.ListN.{length, drop, getD}
@@ -20,6 +20,7 @@ use Rattle.rules.proofs.NeighbourLaws.{slack}
 use Rattle.rules.proofs.BoundLaws.{gain}
 use Rattle.rules.proofs.LossLaws.{against, losses, lossOf}
 use Rattle.rules.proofs.LossSearchLaws as by-loss
+use Rattle.rules.proofs.AloneLaws as alone
 use Rattle.rules.proofs.PlaceLaws.{place, hourAt}
 use Rattle.rules.proofs.QuietHours.{Quiet}
 use Rattle.rules.proofs.LinkLaws.{Closed, Parents}
@@ -129,9 +130,20 @@ pub record DayOf (day : Day) (set : List Bool) (found : code-day.Day) : Type 0 w
   pub pricesAre : (h : ℕ) → AnHour h → ofHour (found .prices) h ≡ setPrices day (taken (day .blocks) set) h
   pub tradedAre : (h : ℕ) → AnHour h → ofHour (found .quantities) h ≡ traded day (taken (day .blocks) set) h
 
+-- THE LIMIT that a set leaves which loses so much, less than the limit: that and the margin; 0 where it is no lower
+unfoldable pub limitLeft : (total margin limit : ℕ) → ℕ
+limitLeft total margin limit = when (ltb (total + margin) limit) (total + margin)
+
+-- WHAT IS MADE of the best so far over the completions of d by n more: without a margin the set of least loss that the tie rule takes; with a margin of 1
+-- the only set of so little loss, or word of a tie
+pub record Tried (margin : ℕ) (day : Day) (sought : List Bool → Type 0) (loss : List Bool → ℕ) (n : ℕ) (d : List Bool) (best r : by-loss.Best) : Type 0 where
+  pub explored : margin ≡ 0 → by-loss.Explored day sought loss n d best r
+  pub narrowed : margin ≡ 1 → alone.Narrowed day sought loss n d best r
+
 -- WHAT A BRANCH GIVES BACK of the best so far
-pub record Outcome (day : Day) (p rest : ℕ → ℕ) (count left : ℕ) (d : List Bool) (best r : Best) : Type 0 where
-  pub explored : by-loss.Explored day (InTurn day p) (lossAbove day p rest) left d (bestAs count best) (bestAs count r)
+pub record Outcome (margin : ℕ) (day : Day) (p rest : ℕ → ℕ) (count left : ℕ) (d : List Bool) (best r : Best) : Type 0 where
+  pub tried : Tried margin day (InTurn day p) (lossAbove day p rest) left d (bestAs count best) (bestAs count r)
+  pub noMore : r .limit ≤ best .limit
   pub same : r .limit ≡ best .limit → r ≡ best
   pub found : r .limit < best .limit → (r .set < 2 ^ count) × DayOf day (decisions count (r .set)) (r .day)
 
@@ -139,14 +151,14 @@ pub record Outcome (day : Day) (p rest : ℕ → ℕ) (count left : ℕ) (d : Li
 abbrev pub StepsAre : Day → (ℕ → List Step) → Type 0
 StepsAre day steps = (h : ℕ) → 1 ≤ h → h ≤ hourPlaces → steps h ≡ stepsIn h (day .steps)
 
-abbrev pub Decided : (t : Tables) (steps : ℕ → List Step) (node : Node) (best r : Best) → Type 0
-Decided t steps node best r =
+abbrev pub Decided : (t : Tables) (steps : ℕ → List Step) (margin : ℕ) (node : Node) (best r : Best) → Type 0
+Decided t steps margin node best r =
     (day : _) (p rest : ℕ → ℕ) (d : List Bool) → StepsAre day steps → (known : Known day p rest t) → Branch day p d node →
-    Closed (known .parent) d → length d ≡ t .count → node .set < 2 ^ t .count → Outcome day p rest (t .count) 0 d best r
+    Closed (known .parent) d → length d ≡ t .count → node .set < 2 ^ t .count → Outcome margin day p rest (t .count) 0 d best r
 
--- A SET THAT BECOMES THE BEST at prices, with what it loses: its day has these prices, and what is traded at them.
-pub record FoundAt (blocks : List ℕ) (count : ℕ) (steps : ℕ → List Step) (set total : ℕ) (prices : List ℕ) (r : Best) : Type 0 where
-  pub limitIs : r .limit ≡ total
+-- A SET THAT BECOMES THE BEST at prices, with the limit that it leaves: its day has these prices, and what is traded at them.
+pub record FoundAt (blocks : List ℕ) (count : ℕ) (steps : ℕ → List Step) (set limit : ℕ) (prices : List ℕ) (r : Best) : Type 0 where
+  pub limitIs : r .limit ≡ limit
   pub setIs : r .set ≡ set
   pub pricesAre : r .day .prices ≡ prices
   pub sales : List ℕ
@@ -154,17 +166,18 @@ pub record FoundAt (blocks : List ℕ) (count : ℕ) (steps : ℕ → List Step)
   pub trades : SetTrades blocks count set sales purchases
   pub traded : HoursTraded steps sales purchases prices (r .day .quantities)
 
--- The same set where prices can give way, once its hours clear and it loses so much, less than the best.
-abbrev pub ShiftDecided : (t : Tables) (steps : ℕ → List Step) (node : Node) (total : ℕ) (best r : Best) → Type 0
-ShiftDecided t steps node total best r =
-    (day : _) (p rest : ℕ → ℕ) (d : List Bool) → StepsAre day steps → (known : Known day p rest t) → Branch day p d node →
-    Closed (known .parent) d → length d ≡ t .count → node .set < 2 ^ t .count → lossAbove day p rest d ≡ total → total < best .limit →
-    PlacesClear (t .first) (t .last) (node .places) → t .shifts ≡ true → Outcome day p rest (t .count) 0 d best r
+-- The same set where prices can give way, once its hours clear and it loses less than the best, by which it leaves this limit.
+abbrev pub ShiftDecided : (t : Tables) (steps : ℕ → List Step) (node : Node) (limit : ℕ) (best r : Best) → Type 0
+ShiftDecided t steps node limit best r =
+    (margin : ℕ) (day : _) (p rest : ℕ → ℕ) (d : List Bool) → StepsAre day steps → (known : Known day p rest t) → Branch day p d node →
+    Closed (known .parent) d → length d ≡ t .count → node .set < 2 ^ t .count → lossAbove day p rest d < best .limit →
+    limit ≡ limitLeft (lossAbove day p rest d) margin (best .limit) → PlacesClear (t .first) (t .last) (node .places) → t .shifts ≡ true →
+    Outcome margin day p rest (t .count) 0 d best r
 
 -- The gaps play no part in that.
-abbrev pub ShiftDecidedIn : (unitPrices hours blocks : List ℕ) (count : ℕ) (steps : ℕ → List Step) (node : Node) (total : ℕ) (best r : Best) → Type 0
-ShiftDecidedIn unitPrices hours blocks count steps node total best r =
-    (gaps : List ℕ) → ShiftDecided (tablesOf unitPrices gaps hours blocks count) steps node total best r
+abbrev pub ShiftDecidedIn : (unitPrices hours blocks : List ℕ) (count : ℕ) (steps : ℕ → List Step) (node : Node) (limit : ℕ) (best r : Best) → Type 0
+ShiftDecidedIn unitPrices hours blocks count steps node limit best r =
+    (gaps : List ℕ) → ShiftDecided (tablesOf unitPrices gaps hours blocks count) steps node limit best r
 
 -- THE BEST PRICES WITHIN REACH: for a sell those of the lowest places, for a buy those of the highest; H and L there where prices can give way, else the middle.
 abbrev pub bestForSells : Bool → (low high : ℕ) → ℕ
@@ -201,10 +214,10 @@ pub record At (t : Tables) (left : ℕ) (node : Node) (limit out : ℕ) (day : D
   pub size : length d + left ≡ t .count
   pub outOf : OutOf day p rest d left limit out
 
-abbrev pub ExploredFrom : (t : Tables) (steps : ℕ → List Step) (left out : ℕ) (node : Node) (best r : Best) → Type 0
-ExploredFrom t steps left out node best r =
+abbrev pub ExploredFrom : (t : Tables) (steps : ℕ → List Step) (left out margin : ℕ) (node : Node) (best r : Best) → Type 0
+ExploredFrom t steps left out margin node best r =
     (day : _) (p rest : ℕ → ℕ) (d : List Bool) → StepsAre day steps → At t left node (best .limit) out day p rest d →
-    Outcome day p rest (t .count) left d best r
+    Outcome margin day p rest (t .count) left d best r
 
 -- A BRANCH TO DROP: no lawful completion loses less than the limit.
 abbrev pub DroppedFrom : (t : Tables) (left out : ℕ) (node : Node) (limit : ℕ) → Type 0

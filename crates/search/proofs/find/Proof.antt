@@ -32,7 +32,7 @@ loop-holds c = (omega arith, omega arith, omega arith)
 explore-requires : tie.Need-explore-requires Inv-loop μ-loop
 explore-requires c κs =
     let p = start (c .before) .pre in
-    (p .0, p .1, p .2, p .3, omega arith, root-fits _)
+    (p .0, p .1, p .2, p .3, omega arith, root-fits _, omega arith)
 
 returns : tie.Need-returns Inv-loop μ-loop
 returns c =
@@ -60,7 +60,7 @@ loop-again c = (omega (arith, c .limit-after .ensures), c .limit-after .ensures 
 explore-requires-2 : tie.Need-explore-requires-2 Inv-loop μ-loop
 explore-requires-2 c κs =
     let p = start (c .before) .pre in
-    (p .0, p .1, p .2, p .3, omega arith, root-fits _)
+    (p .0, p .1, p .2, p .3, omega arith, root-fits _, omega arith)
 
 returns-2 : tie.Need-returns-2 Inv-loop μ-loop
 returns-2 c =

@@ -14,7 +14,7 @@ use borrow.Author.Needs.{needs}
 use Rattle.search.proofs.decide.decide.Statement.{statement}
 use Rattle.search.proofs.decide.decide.Tie as tie
 
--- THE STATES on the way: the start behind the gaps, the gaps behind an hour's clearing, that behind a lower loss, that behind the prices, these behind the
+-- THE STATES on the way: the start behind the gaps, the gaps behind an hour's clearing, that behind a lower loss and the limit that it leaves, that behind the prices, these behind the
 -- prices as they count, these behind the limits
 abbrev start : tie.After-counted-gaps-arg2 → tie.Start
 start c = c .before .before .before .before .before .before .before .before .before .before .before .before
@@ -22,8 +22,8 @@ start c = c .before .before .before .before .before .before .before .before .bef
 abbrev gaps : tie.Else1 → tie.After-counted-gaps
 gaps c = c .before .before
 
-abbrev clear : tie.Else2 → tie.Else1
-clear c = c .before .before .before .before
+abbrev clear : tie.After-limit-left → tie.Else1
+clear c = c .before .before .before .before .before
 
 abbrev counting : tie.After-keeps-limits → tie.After-counted-prices
 counting c = c .before .before .before
@@ -74,6 +74,9 @@ returns-2 c =
     let clears = c .before .before .before .before in
     decided-worse (gaps clears .counted-gaps .ensures) (not-false _ (clears .if1 .left)) (c .if2 .taken)
 
+limit-left-requires : tie.Need-limit-left-requires
+limit-left-requires c κs = (c .if2 .left, start (gaps (c .before .before .before .before) .before) .pre .5)
+
 prices-at-requires : tie.Need-prices-at-requires
 prices-at-requires c κs =
     let g = gaps (clear c) in
@@ -117,8 +120,8 @@ returns-3 c =
     let less = p .before in
     let clears = clear less in
     decided-better (gaps clears .counted-gaps .ensures) (not-false _ (clears .if1 .left)) (p .prices-at .ensures)
-    (rw (counting (kept .before) .counted-prices .ensures .0) at (sym (kept .before .keeps-limits .ensures) ∙ kept .if3 .taken)) (less .if2 .left)
-    (c .found-at .ensures)
+    (rw (counting (kept .before) .counted-prices .ensures .0) at (sym (kept .before .keeps-limits .ensures) ∙ kept .if3 .taken)) (less .before .if2 .left)
+    (less .limit-left .ensures) (c .found-at .ensures)
 
 shared-slice-read-if4 : tie.Need-shared-slice-read-if4
 shared-slice-read-if4 c = omega (arith, first (c .before .before) .pre .1)
@@ -157,8 +160,8 @@ returns-5 c =
     let else = c .before in
     let less = priced (missed else .before) .before in
     let clears = clear less in
-    decided-at-shift (gaps clears .counted-gaps .ensures) (not-false _ (clears .if1 .left)) (less .if2 .left)
-    (not-zero _ (else .if4 .left)) (c .decide-at-shift .ensures _)
+    decided-at-shift (gaps clears .counted-gaps .ensures) (not-false _ (clears .if1 .left)) (less .before .if2 .left)
+    (less .limit-left .ensures) (not-zero _ (else .if4 .left)) (c .decide-at-shift .ensures _)
 
 pub decide-spec : {M : Type 1} → statement M
 decide-spec =
@@ -175,6 +178,7 @@ decide-spec =
     returns
     add-total
     returns-2
+    limit-left-requires
     prices-at-requires
     counted-prices-requires
     slice-aggregate-keeps-limits

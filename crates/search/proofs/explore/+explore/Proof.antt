@@ -63,7 +63,7 @@ explore-returns t c = explored-dropped (c .before .judge .ensures .dropped (c .i
 explore-decide-requires : (t : ℕ) → explore-lts.Need-decide-requires (claims-explore t) (explore-at t) explore.Post
 explore-decide-requires t c κs =
     let p = start t (c .before .before) .pre .1 in
-    (p .0, p .1, p .2, p .3, omega (arith, p .0 .few, p .5 .lossFits))
+    (p .0, p .1, p .2, p .3, omega (arith, p .0 .few, p .5 .lossFits), p .6)
 
 explore-returns-2 : (t : ℕ) → explore-lts.Need-returns-2 (claims-explore t) (explore-at t) explore.Post
 explore-returns-2 t c =
@@ -97,7 +97,7 @@ explore-explore-requires t c κs =
     let s = start t j in
     let k = l .before .before .if2 .left in
     let e : s .args .count - s .args .left + 1 ≡ s .args .count - (s .args .left - 1) = omega (arith, s .pre .1 .4) in
-    (omega (arith, s .pre .0), (s .pre .1 .0, s .pre .1 .1, s .pre .1 .2, s .pre .1 .3, omega (arith, s .pre .1 .4), rw e at (l .leave .ensures .0)))
+    (omega (arith, s .pre .0), (s .pre .1 .0, s .pre .1 .1, s .pre .1 .2, s .pre .1 .3, omega (arith, s .pre .1 .4), rw e at (l .leave .ensures .0), s .pre .1 .6))
 
 explore-returns-3 : (t : ℕ) → explore-lts.Need-returns-3 (claims-explore t) (explore-at t) explore.Post
 explore-returns-3 t c =
@@ -123,7 +123,7 @@ explore-explore-requires-2 t c κs =
     let s = start t (judged t l) in
     let k = l .before .before .if2 .left in
     let e : s .args .count - s .args .left + 1 ≡ s .args .count - (s .args .left - 1) = omega (arith, s .pre .1 .4) in
-    (omega (arith, s .pre .0), (s .pre .1 .0, s .pre .1 .1, s .pre .1 .2, s .pre .1 .3, omega (arith, s .pre .1 .4), rw e at (c .take .ensures .0)))
+    (omega (arith, s .pre .0), (s .pre .1 .0, s .pre .1 .1, s .pre .1 .2, s .pre .1 .3, omega (arith, s .pre .1 .4), rw e at (c .take .ensures .0), s .pre .1 .6))
 
 explore-cast-is-due : (t : ℕ) → explore-lts.Need-cast-is-due (claims-explore t) (explore-at t) explore.Post
 explore-cast-is-due t c = omega (arith, start t (judged t (left t (c .before .before))) .pre .1 .0 .few)
@@ -153,7 +153,7 @@ explore-explore-requires-3 t c κs =
     let fits = l .leave .ensures .0 in
     let k = l .before .before .if2 .left in
     let e : s .args .count - s .args .left + 1 ≡ s .args .count - (s .args .left - 1) = omega (arith, s .pre .1 .4) in
-    (omega (arith, s .pre .0), (s .pre .1 .0, s .pre .1 .1, s .pre .1 .2, s .pre .1 .3, omega (arith, s .pre .1 .4), rw e at fits))
+    (omega (arith, s .pre .0), (s .pre .1 .0, s .pre .1 .1, s .pre .1 .2, s .pre .1 .3, omega (arith, s .pre .1 .4), rw e at fits, s .pre .1 .6))
 
 explore-returns-5 : (t : ℕ) → explore-lts.Need-returns-5 (claims-explore t) (explore-at t) explore.Post
 explore-returns-5 t c =
