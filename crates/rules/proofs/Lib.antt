@@ -39,6 +39,7 @@ pub mod FamilyCases
 pub mod LinkLaws
 pub mod TwinLaws
 pub mod SameBlocksLaws
+pub mod RearrangedLaws
 pub mod OutcomeRulesLaws
 pub mod SharingRuleLaws
 pub mod BoundsLaws

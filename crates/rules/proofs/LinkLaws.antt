@@ -36,8 +36,9 @@ parentPlace day j = placeFrom 0 (day .blocks) (parentOf (day .links) (numberAt (
 abbrev pub Closed : (parent : ℕ → ℕ) → List Bool → Type 0
 Closed parent set = (j k : ℕ) → parent j ≡ suc k → getD set j false ≡ true → getD set k false ≡ true
 
--- such positions are those of the day's parents: allowed sets are the closed ones
+-- such positions are those of the day's parents: they are positions of blocks, and allowed sets are the closed ones
 pub record ClosedBy (day : Day) (parent : ℕ → ℕ) : Type 0 where
+  pub inside : (j : ℕ) → j < length (day .blocks) → parent j ≤ length (day .blocks)
   pub closed : (set : List Bool) → length set ≡ length (day .blocks) → allowed day set ≡ true → Closed parent set
   pub allows : (set : List Bool) → length set ≡ length (day .blocks) → Closed parent set → allowed day set ≡ true
 
@@ -268,5 +269,11 @@ module _ (day : Day) (stand : LinksStand day) where
 
   -- the positions of a day's parents
   pub parents-stand : Parents day (parentPlace day)
-  parents-stand =
-      record { links = record { closed = λ set size. allowed-closed set; allows = λ set size. closed-allowed set }; before = parent-before }
+  parents-stand = record {
+    links = record {
+      inside = λ j k. omega (arith, parent-before j);
+      closed = λ set size. allowed-closed set;
+      allows = λ set size. closed-allowed set;
+    };
+    before = parent-before;
+  }
