@@ -38,6 +38,8 @@ pub mod LawCutLaws
 pub mod FamilyCases
 pub mod LinkLaws
 pub mod TwinLaws
+pub mod SameBlocksLaws
+pub mod RearrangedLaws
 pub mod OutcomeRulesLaws
 pub mod SharingRuleLaws
 pub mod BoundsLaws

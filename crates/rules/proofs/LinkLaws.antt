@@ -36,10 +36,15 @@ parentPlace day j = placeFrom 0 (day .blocks) (parentOf (day .links) (numberAt (
 abbrev pub Closed : (parent : ℕ → ℕ) → List Bool → Type 0
 Closed parent set = (j k : ℕ) → parent j ≡ suc k → getD set j false ≡ true → getD set k false ≡ true
 
--- such positions are those of the day's parents: allowed sets are the closed ones, and a parent stands before its child
-pub record Parents (day : Day) (parent : ℕ → ℕ) : Type 0 where
+-- such positions are those of the day's parents: they are positions of blocks, and allowed sets are the closed ones
+pub record ClosedBy (day : Day) (parent : ℕ → ℕ) : Type 0 where
+  pub inside : (j : ℕ) → j < length (day .blocks) → parent j ≤ length (day .blocks)
   pub closed : (set : List Bool) → length set ≡ length (day .blocks) → allowed day set ≡ true → Closed parent set
   pub allows : (set : List Bool) → length set ≡ length (day .blocks) → Closed parent set → allowed day set ≡ true
+
+-- and a parent stands before its child
+pub record Parents (day : Day) (parent : ℕ → ℕ) : Type 0 where
+  pub links : ClosedBy day parent
   pub before : (j : ℕ) → parent j ≤ j
 
 -- POSITIONS: numbers rise, so each block's number stands at its own position alone
@@ -64,6 +69,13 @@ numbers-order last (b ∷ l) zero (suc k) rise x y h = omega arith
 numbers-order last (b ∷ l) (suc j) zero rise x y h = absurd (omega (arith, numbers-above (b .number) l j (rise .1) (omega arith)))
 numbers-order last (b ∷ l) (suc j) (suc k) rise x y h =
     omega (arith, numbers-order (b .number) l j k (rise .1) (omega arith) (omega arith) h)
+
+-- and a higher one at a higher position
+pub positions-order : (last : ℕ) (l : List Block) (j k : ℕ) → NumbersRise last l → j < k → k < length l → numberAt l j < numberAt l k
+positions-order last [] j k rise x y = absurd (omega arith)
+positions-order last (b ∷ l) j zero rise x y = absurd (omega arith)
+positions-order last (b ∷ l) zero (suc k) rise x y = numbers-above (b .number) l k (rise .1) (omega arith)
+positions-order last (b ∷ l) (suc j) (suc k) rise x y = positions-order (b .number) l j k (rise .1) (omega arith) (omega arith)
 
 -- a number that is among the blocks stands at a position
 pub among-stands : (l : List Block) (number : ℕ) → isAmong l number ≡ true → (j : ℕ) × StandsAt l number j
@@ -257,5 +269,11 @@ module _ (day : Day) (stand : LinksStand day) where
 
   -- the positions of a day's parents
   pub parents-stand : Parents day (parentPlace day)
-  parents-stand =
-      record { closed = λ set size. allowed-closed set; allows = λ set size. closed-allowed set; before = parent-before }
+  parents-stand = record {
+    links = record {
+      inside = λ j k. omega (arith, parent-before j);
+      closed = λ set size. allowed-closed set;
+      allows = λ set size. closed-allowed set;
+    };
+    before = parent-before;
+  }

@@ -17,7 +17,7 @@ use Rattle.rules.specs.Hour.{bySide}
 use Rattle.rules.specs.Execution.{testSide}
 use Rattle.rules.specs.Day.{Day, taken, sells, buys, hourCount, priceSum, keepsLimit, everyBlock, allowed, lawful, welfare}
 use Rattle.rules.specs.Outcome.{outcome}
-use Rattle.rules.specs.Contender.{HoldsLowest, PricesInRange, HoursInRange}
+use Rattle.rules.specs.Contender.{HoldsLowest, PricesInRange, HoursInRange, NumbersRise}
 use Rattle.rules.proofs.Tests.{by-test, clash}
 use Rattle.rules.proofs.BestLaws.{FirstBest, outcome-first}
 use Rattle.rules.proofs.HourSums.{daySum-same}
@@ -27,7 +27,7 @@ use Rattle.rules.proofs.LossLaws.{against, losses, lossOf, welfare-and-
 use Rattle.rules.proofs.PlaceLaws.{place, pricesAt, gaps-by-place, lawful-by-places, lawful-clears, lawful-limits}
 use Rattle.rules.proofs.SetPriceLaws.{dayShift, is-shift}
 use Rattle.rules.proofs.LawCutLaws.{taken-passes}
-use Rattle.rules.proofs.LinkLaws.{Closed, Parents}
+use Rattle.rules.proofs.LinkLaws.{Closed, ClosedBy, numberAt, numbers-order, positions-order}
 
 -- a block's limit: its price times its hour count
 abbrev pub limitOf : ℕ → Block → ℕ
@@ -36,7 +36,7 @@ limitOf hours b = b .price * hourCount hours b
 -- block a may stand in for block b: where the day's parents are at such positions, a has no parent or b's, and b is nobody's parent
 pub record Exchangeable (day : Day) (a b : ℕ) : Type 0 where
   pub parent : ℕ → ℕ
-  pub parents : Parents day parent
+  pub parents : ClosedBy day parent
   pub noneOrSame : (k : ℕ) → parent a ≡ suc k → parent b ≡ suc k
   pub nobodys : (j : ℕ) → j < length (day .blocks) → parent j ≡ suc b → ⊥
 
@@ -55,7 +55,8 @@ pub record Ahead (day : Day) (p : ℕ → ℕ) (a b : ℕ) : Type 0 where
       ≤ bySide (first .side) (limitOf (day .hours) first) (limitOf (day .hours) second)
   pub losesNoMore : against (day .hours) p first + gain (day .hours) p second ≤ gain (day .hours) p first + against (day .hours) p second
   -- less, where it has the higher number
-  pub losesLess : b < a → against (day .hours) p first + gain (day .hours) p second < gain (day .hours) p first + against (day .hours) p second
+  pub losesLess : second .number < first .number →
+      against (day .hours) p first + gain (day .hours) p second < gain (day .hours) p first + against (day .hours) p second
   pub unlinked : Exchangeable day a b
 
 -- a set in turn takes no block without every block ahead of it
@@ -71,6 +72,12 @@ block-at (x ∷ l) (suc j) b after other e = block-at l j b after other e
 
 pub block-within : (l : List Block) (j : ℕ) (b : Block) (after : List Block) → drop j l ≡ b ∷ after → j < length l
 block-within l j b after e = omega (arith, length-drop j l, ap length e)
+
+pub number-at : (l : List Block) (j : ℕ) (b : Block) (after : List Block) → drop j l ≡ b ∷ after → numberAt l j ≡ b .number
+number-at [] zero b after e = let z : _≡_ {A = ℕ} 0 1 = cc in absurd (omega arith)
+number-at [] (suc j) b after e = let z : _≡_ {A = ℕ} 0 1 = cc in absurd (omega arith)
+number-at (x ∷ l) zero b after e = cc
+number-at (x ∷ l) (suc j) b after e = number-at l j b after e
 
 -- a set holds decisions as far as it takes blocks
 pub taken-within : (set : List Bool) (j : ℕ) → getD set j false ≡ true → j < length set
@@ -189,14 +196,20 @@ module _ (day : Day) (p : ℕ → ℕ) (a b : ℕ) (first second : Block)
   unfolding gain
   second-gain = let sum = twin-sum first second side runs H p in cc
 
-  pub ahead-by-limits : Exchangeable day a b → bySide (first .side) (limitOf (day .hours) second) (limitOf (day .hours) first)
+  -- the block at the lower position has the lower number
+  numbered : NumbersRise 0 (day .blocks) → second .number < first .number → b < a
+  numbered rise k =
+      numbers-order 0 (day .blocks) b a rise (block-within (day .blocks) b _ _ secondAt) (block-within (day .blocks) a _ _ firstAt)
+      (omega (arith, number-at (day .blocks) a _ _ firstAt, number-at (day .blocks) b _ _ secondAt))
+
+  pub ahead-by-limits : NumbersRise 0 (day .blocks) → Exchangeable day a b → bySide (first .side) (limitOf (day .hours) second) (limitOf (day .hours) first)
       ≤ bySide (first .side) (limitOf (day .hours) first) (limitOf (day .hours) second) →
       (b < a → (1 ≤ first .quantity)
       × (bySide (first .side) (limitOf (day .hours) second) (limitOf (day .hours) first)
       < bySide (first .side) (limitOf (day .hours) first) (limitOf (day .hours) second))) →
       Ahead day p a b
   unfolding against gain
-  ahead-by-limits unlinked le less = record {
+  ahead-by-limits rise unlinked le less = record {
     first = first;
     second = second;
     firstAt = firstAt;
@@ -207,7 +220,7 @@ module _ (day : Day) (p : ℕ → ℕ) (a b : ℕ) (first second : Block)
     limits = le;
     losesNoMore = rw (second-against, second-gain) (below-by-limits (first .side) (first .quantity) (priceSum H p first) mine yours le);
     losesLess = λ k. rw (second-against, second-gain)
-        (less-by-limits (first .side) (first .quantity) (priceSum H p first) mine yours (less k .0) (less k .1));
+        (less-by-limits (first .side) (first .quantity) (priceSum H p first) mine yours (less (numbered rise k) .0) (less (numbered rise k) .1));
     unlinked = unlinked;
   }
 
@@ -343,34 +356,42 @@ module _ (day : Day) (p : ℕ → ℕ) (a b : ℕ) (ahead : Ahead day p a b) (se
 
     -- the exchanged set's welfare is no less, and more where the first has the higher number
     pub exchanged-gains : (welfare day set ≤ welfare day (put (put set a true) b false))
-        × (b < a → welfare day set < welfare day (put (put set a true) b false))
+        × (ahead .second .number < ahead .first .number → welfare day set < welfare day (put (put set a true) b false))
     exchanged-gains =
         let here = welfare-and-loss day prices hours p set size law in
         let there = welfare-and-loss day prices hours p exchanged exchanged-size exchanged-lawful in
         let moved = loss-exchanged in
         (omega (arith, ahead .losesNoMore), λ k. omega (arith, ahead .losesLess k))
 
-    -- so the set is not the first of the best
-    pub not-first : FirstBest day set → ⊥
-    not-first best = elim (decLe a b) [
+    -- so the set is not the first of the best, where numbers rise
+    pub not-first : NumbersRise 0 (day .blocks) → FirstBest day set → ⊥
+    not-first rise best = elim (decLe a b) [
       | yes k ↦ not-lowest set exchanged a (omega (arith, within .0)) (omega (arith, within .0, exchanged-size)) (below k) out in-a
           (w .1 (omega (arith, w .0, exchanged-gains .0)))
-      | no k ↦ omega (arith, w .0, exchanged-gains .1 (lt-of-not-le k))
+      | no k ↦ omega (arith, w .0, exchanged-gains .1 (higher (lt-of-not-le k)))
     ]
       where
         w : (welfare day exchanged ≤ welfare day set) × (welfare day exchanged ≡ welfare day set → HoldsLowest set exchanged)
         w = best .wins exchanged exchanged-size exchanged-lawful
 
+        higher : b < a → ahead .second .number < ahead .first .number
+        higher k = omega (
+          arith,
+          positions-order 0 (day .blocks) b a rise k (within .0),
+          number-at (day .blocks) a _ _ (ahead .firstAt),
+          number-at (day .blocks) b _ _ (ahead .secondAt),
+        )
+
         below : a ≤ b → (j : ℕ) → j < a → getD set j false ≡ getD exchanged j false
         below k j i = sym (as-before j (λ e. omega arith) (λ e. omega arith))
 
 -- THE PUBLISHED SET takes the block ahead wherever it takes its twin
-module _ (day : Day) (prices : PricesInRange (day .steps)) (hours : HoursInRange (day .steps)) (p : ℕ → ℕ) where
+module _ (day : Day) (prices : PricesInRange (day .steps)) (hours : HoursInRange (day .steps)) (rise : NumbersRise 0 (day .blocks)) (p : ℕ → ℕ) where
   pub outcome-ahead : (a b : ℕ) → Ahead day p a b → getD (outcome day) b false ≡ true → getD (outcome day) a false ≡ true
   outcome-ahead a b ahead is =
       by-test (λ t. t ≡ true) (getD (outcome day) a false) (λ e. refl) (λ out.
       let f = outcome-first day (empty-lawful day prices hours) in
-      absurd (not-first day p a b ahead (outcome day) (f .ofBlocks) out is prices hours (f .isLawful) f))
+      absurd (not-first day p a b ahead (outcome day) (f .ofBlocks) out is prices hours (f .isLawful) rise f))
 
   -- so it is a set in turn
   pub outcome-in-turn : InTurn day p (outcome day)

@@ -40,4 +40,4 @@ pub lawful-closed : {day : Day} {p rest : ℕ → ℕ} {tables : Tables} (known 
     lawful day set ≡ true → Closed (known .parent) set
 lawful-closed {day} known set size law =
     let n : length set ≡ length (day .blocks) = size ∙ sym (known .counted) in
-    known .parents .closed set n (lawful-contends day (known .prices) (known .hours) set law n .permitted)
+    known .parents .links .closed set n (lawful-contends day (known .prices) (known .hours) set law n .permitted)

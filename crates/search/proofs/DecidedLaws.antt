@@ -216,7 +216,7 @@ module _ {day : Day} {p rest : ℕ → ℕ} {tables : Tables} (known : Known day
     -- LAWFUL by its limits alone, since every hour clears and no link is broken
     pub limits-kept : Closed (known .parent) d → {t : ℕ} → IsShift (day .edition) t → keepsAll day (taken (day .blocks) d) t ≡ true → lawful day d ≡ true
     limits-kept closed {t} shift e =
-        lawful-by-places day d size (known .prices) (known .hours) (known .parents .allows d size closed) (λ h c. clear-at h (an-hour c)) shift
+        lawful-by-places day d size (known .prices) (known .hours) (known .parents .links .allows d size closed) (λ h c. clear-at h (an-hour c)) shift
         (sym (keeps-at-places day d size (known .prices) (known .hours) t (λ h c. clear-at h (an-hour c))) ∙ e)
 
     pub limits-broken : keepsAll day (taken (day .blocks) d) (dayShift day (taken (day .blocks) d)) ≡ false → lawful day d ≡ true → ⊥

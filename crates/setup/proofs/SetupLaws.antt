@@ -240,7 +240,7 @@ module _ (b ends stepRecords sides prices quantities : List ℕ) (count : ℕ) (
     exchangeable : (i j : ℕ) → i < count → j < count → StandsIn columns i j → Exchangeable (dayFrom b) i j
     exchangeable i j ki kj s = record {
       parent = parentPlace (dayFrom b);
-      parents = po .stand;
+      parents = po .stand .links;
       noneOrSame = λ k e. sym (parent-at j kj) ∙ s .noneOrSame k (parent-at i ki ∙ e);
       nobodys = λ c k e.
           let inside : c < count = omega (arith, blocks-counted) in
@@ -262,7 +262,7 @@ module _ (b ends stepRecords sides prices quantities : List ℕ) (count : ℕ) (
         let hour : getD hours i 0 ≡ getD hours j 0 = sym (wi .hoursIs) ∙ t .sameHours ∙ wj .hoursIs in
         ahead-by-limits (dayFrom b) _ i j (blockHere i) (blockHere j) (block-next i ki) (block-next j kj)
         (ap sideFor (sym (wi .sideIs) ∙ t .sameSide ∙ wj .sideIs)) (λ h. rw hour) (sym (wi .quantityIs) ∙ t .sameQuantity ∙ wj .quantityIs)
-        (exchangeable i j ki kj s) (rw (mine, yours, ← wi .sideIs) le)
+        (links-stand b a .numbers) (exchangeable i j ki kj s) (rw (mine, yours, ← wi .sideIs) le)
         (λ n. (rw (← wi .quantityIs) (less n .0), rw (mine, yours, ← wi .sideIs) (less n .1)))
 
     is-ahead : (j a : ℕ) → j < count → aheadAt columns j ≡ suc a → (a < j) × Ahead (dayFrom b) (λ h. getD root (h - 1) 0) a j
