@@ -7,22 +7,22 @@ use mathlib.Core.Path.{_≡_, refl, sym, ap, subst, _∙_}
 use mathlib.Core.List.{List, [], _∷_}
 use native.Mathlib.Omega.{arith}
 use native.Mathlib.Nat.{suc-inj}
-use lib.Dec.{eqb}
+use lib.Dec.{eqb, ltb}
 use lib.ListN.{length, drop, getD}
 use lib.Seq.{drop-cons, ext-getD}
-use borrow.Author.Tests.{eq-eqb, ne-eqb}
+use borrow.Author.Tests.{eq-eqb, ne-eqb, lt-ltb}
 use Rattle.rules.specs.Orders.{buy, Block}
 use Rattle.rules.specs.Hour.{when}
 use Rattle.rules.specs.Day.{Day, taken, overBlocks, buys, setPrices, allowed, lawful, welfare, traded}
 use Rattle.rules.specs.Outcome.{outcome}
 use Rattle.rules.specs.Contender.{PricesInRange, HoursInRange, NumbersRise}
 use Rattle.rules.specs.OutcomeRules.{EachBlock}
-use Rattle.rules.proofs.Tests.{by-test, by-eq}
+use Rattle.rules.proofs.Tests.{by-lt, by-eq}
 use Rattle.rules.proofs.BestLaws.{FirstBest, outcome-first}
 use Rattle.rules.proofs.DayLaws.{empty-lawful}
 use Rattle.rules.proofs.PlaceLaws.{hourAt}
 use Rattle.rules.proofs.QuietHours.{BlocksCount, Quiet}
-use Rattle.rules.proofs.LinkLaws.{Closed, ClosedBy}
+use Rattle.rules.proofs.LinkLaws.{Closed, ClosedBy, Parents}
 use Rattle.rules.proofs.TwinLaws.{Exchangeable, Ahead, InTurn, block-at, block-within, taken-within, outcome-in-turn}
 use Rattle.rules.proofs.AloneLaws.{OnlyBest}
 use Rattle.rules.proofs.SameBlocksLaws.{SameBlocks, withBlocks, allowed-same, lawful-same, welfare-same, set-prices-same, traded-same}
@@ -66,6 +66,10 @@ placedName place (suc k) = suc (place k)
 -- the parents' positions in that order
 abbrev pub placedParent : (place order parent : ℕ → ℕ) → ℕ → ℕ
 placedParent place order parent j = placedName place (parent (order j))
+
+-- positions of the parents of n blocks; past them there is none
+unfoldable pub parentWithin : ℕ → (ℕ → ℕ) → ℕ → ℕ
+parentWithin n parent j = when (ltb j n) (parent j)
 
 -- SUMS over the numbers below n
 unfoldable sumFirst : ℕ → (ℕ → ℕ) → ℕ
@@ -200,6 +204,33 @@ pub each-by : (P : Block → Type 0) (l : List Block) (order : ℕ → ℕ) (n :
 unfolding listBy
 each-by P l order zero each = tt
 each-by P l order (suc n) each = (each 0 (omega arith), each-by P l (λ j. order (suc j)) n (λ j k. each (suc j) (omega arith)))
+
+-- PARENTS BEFORE CHILDREN: it is enough that each block's parent stands before it
+pub parent-within : (n : ℕ) (parent : ℕ → ℕ) (j : ℕ) → j < n → parentWithin n parent j ≡ parent j
+unfolding parentWithin
+parent-within n parent j k = rw (lt-ltb j n k)
+
+before-all : (n : ℕ) (parent : ℕ → ℕ) → ((j : ℕ) → j < n → parent j ≤ j) → (j : ℕ) → parentWithin n parent j ≤ j
+unfolding parentWithin
+before-all n parent before j = by-lt (λ t. when t (parent j) ≤ j) j n (λ k. before j k) (λ k. omega arith)
+
+pub parents-within : (day : Day) (parent : ℕ → ℕ) → ClosedBy day parent → ((j : ℕ) → j < length (day .blocks) → parent j ≤ j) →
+    Parents day (parentWithin (length (day .blocks)) parent)
+parents-within day parent links before = record {
+  links = record {
+    inside = λ j k. rw (parent-within n parent j k) (links .inside j k);
+    closed = λ set size e j k name is. links .closed set size e j k (sym (known set size j is) ∙ name) is;
+    allows = λ set size closed. links .allows set size (λ j k name is. closed j k (known set size j is ∙ name) is);
+  };
+  before = before-all n parent before;
+}
+  where
+    n : ℕ
+    n = length (day .blocks)
+
+    -- a taken block is one of the n
+    known : (set : List Bool) → length set ≡ n → (j : ℕ) → getD set j false ≡ true → parentWithin n parent j ≡ parent j
+    known set size j is = parent-within n parent j (omega (arith, size, taken-within set j is))
 
 -- THE DAY REARRANGED
 module _ (order place : ℕ → ℕ) (day : Day) (is : IsOrder (length (day .blocks)) order place) where
