@@ -21,7 +21,7 @@ use Rattle.rules.proofs.Tests.{by-lt, by-eq}
 use Rattle.rules.proofs.BestLaws.{FirstBest, outcome-first}
 use Rattle.rules.proofs.DayLaws.{empty-lawful}
 use Rattle.rules.proofs.PlaceLaws.{hourAt}
-use Rattle.rules.proofs.QuietHours.{BlocksCount, Quiet}
+use Rattle.rules.proofs.QuietHours.{Quiet}
 use Rattle.rules.proofs.LinkLaws.{Closed, ClosedBy, Parents}
 use Rattle.rules.proofs.TwinLaws.{Exchangeable, Ahead, InTurn, block-at, block-within, taken-within, outcome-in-turn}
 use Rattle.rules.proofs.AloneLaws.{OnlyBest}
