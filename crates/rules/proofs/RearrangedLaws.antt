@@ -7,22 +7,22 @@ use mathlib.Core.Path.{_≡_, refl, sym, ap, subst, _∙_}
 use mathlib.Core.List.{List, [], _∷_}
 use native.Mathlib.Omega.{arith}
 use native.Mathlib.Nat.{suc-inj}
-use lib.Dec.{eqb}
+use lib.Dec.{eqb, ltb}
 use lib.ListN.{length, drop, getD}
 use lib.Seq.{drop-cons, ext-getD}
-use borrow.Author.Tests.{eq-eqb, ne-eqb}
+use borrow.Author.Tests.{eq-eqb, ne-eqb, lt-ltb}
 use Rattle.rules.specs.Orders.{buy, Block}
 use Rattle.rules.specs.Hour.{when}
 use Rattle.rules.specs.Day.{Day, taken, overBlocks, buys, setPrices, allowed, lawful, welfare, traded}
 use Rattle.rules.specs.Outcome.{outcome}
 use Rattle.rules.specs.Contender.{PricesInRange, HoursInRange, NumbersRise}
 use Rattle.rules.specs.OutcomeRules.{EachBlock}
-use Rattle.rules.proofs.Tests.{by-test, by-eq}
+use Rattle.rules.proofs.Tests.{by-lt, by-eq}
 use Rattle.rules.proofs.BestLaws.{FirstBest, outcome-first}
 use Rattle.rules.proofs.DayLaws.{empty-lawful}
 use Rattle.rules.proofs.PlaceLaws.{hourAt}
-use Rattle.rules.proofs.QuietHours.{BlocksCount, Quiet}
-use Rattle.rules.proofs.LinkLaws.{Closed, ClosedBy}
+use Rattle.rules.proofs.QuietHours.{Quiet}
+use Rattle.rules.proofs.LinkLaws.{Closed, ClosedBy, Parents}
 use Rattle.rules.proofs.TwinLaws.{Exchangeable, Ahead, InTurn, block-at, block-within, taken-within, outcome-in-turn}
 use Rattle.rules.proofs.AloneLaws.{OnlyBest}
 use Rattle.rules.proofs.SameBlocksLaws.{SameBlocks, withBlocks, allowed-same, lawful-same, welfare-same, set-prices-same, traded-same}
@@ -66,6 +66,10 @@ placedName place (suc k) = suc (place k)
 -- the parents' positions in that order
 abbrev pub placedParent : (place order parent : ℕ → ℕ) → ℕ → ℕ
 placedParent place order parent j = placedName place (parent (order j))
+
+-- positions of the parents of n blocks; past them there is none
+unfoldable pub parentWithin : ℕ → (ℕ → ℕ) → ℕ → ℕ
+parentWithin n parent j = when (ltb j n) (parent j)
 
 -- SUMS over the numbers below n
 unfoldable sumFirst : ℕ → (ℕ → ℕ) → ℕ
@@ -201,6 +205,33 @@ unfolding listBy
 each-by P l order zero each = tt
 each-by P l order (suc n) each = (each 0 (omega arith), each-by P l (λ j. order (suc j)) n (λ j k. each (suc j) (omega arith)))
 
+-- PARENTS BEFORE CHILDREN: it is enough that each block's parent stands before it
+pub parent-within : (n : ℕ) (parent : ℕ → ℕ) (j : ℕ) → j < n → parentWithin n parent j ≡ parent j
+unfolding parentWithin
+parent-within n parent j k = rw (lt-ltb j n k)
+
+before-all : (n : ℕ) (parent : ℕ → ℕ) → ((j : ℕ) → j < n → parent j ≤ j) → (j : ℕ) → parentWithin n parent j ≤ j
+unfolding parentWithin
+before-all n parent before j = by-lt (λ t. when t (parent j) ≤ j) j n (λ k. before j k) (λ k. omega arith)
+
+pub parents-within : (day : Day) (parent : ℕ → ℕ) → ClosedBy day parent → ((j : ℕ) → j < length (day .blocks) → parent j ≤ j) →
+    Parents day (parentWithin (length (day .blocks)) parent)
+parents-within day parent links before = record {
+  links = record {
+    inside = λ j k. rw (parent-within n parent j k) (links .inside j k);
+    closed = λ set size e j k name is. links .closed set size e j k (sym (known set size j is) ∙ name) is;
+    allows = λ set size closed. links .allows set size (λ j k name is. closed j k (known set size j is ∙ name) is);
+  };
+  before = before-all n parent before;
+}
+  where
+    n : ℕ
+    n = length (day .blocks)
+
+    -- a taken block is one of the n
+    known : (set : List Bool) → length set ≡ n → (j : ℕ) → getD set j false ≡ true → parentWithin n parent j ≡ parent j
+    known set size j is = parent-within n parent j (omega (arith, size, taken-within set j is))
+
 -- THE DAY REARRANGED
 module _ (order place : ℕ → ℕ) (day : Day) (is : IsOrder (length (day .blocks)) order place) where
   abbrev n : ℕ
@@ -265,3 +296,149 @@ module _ (order place : ℕ → ℕ) (day : Day) (is : IsOrder (length (day .blo
         traded (rearranged order day) (taken ((rearranged order day) .blocks) (byOrder order (length (day .blocks)) set)) h
         ≡ traded day (taken (day .blocks) set) h
     traded-rearranged = traded-same (taken (D .blocks) (byOrder order n set)) (taken (day .blocks) set) same-set day (D .blocks)
+
+  -- PARENTS at their places
+  -- what a parent's name says in the order
+  named : (name k : ℕ) → placedName place name ≡ suc k → (m : ℕ) × (name ≡ suc m) × (place m ≡ k)
+  named zero k e = absurd (omega arith)
+  named (suc m) k e = (m, refl, suc-inj e)
+
+  module _ (parent : ℕ → ℕ) (links : ClosedBy day parent) where
+    -- a position that is named as a parent is that of a block
+    parent-in : (j k : ℕ) → j < n → parent j ≡ suc k → k < n
+    parent-in j k inside e = omega (arith, links .inside j inside)
+
+    -- a set of the day rearranged, put back, has the decision of each block
+    module _ (set : List Bool) (size : length set ≡ n) where
+      abbrev set₀ : List Bool
+      set₀ = byOrder place n set
+
+      decided : (i : ℕ) → i < n → getD set₀ i false ≡ getD set (place i) false
+      decided i k = at-by false place n set i k
+
+      same-allowed : allowed D set ≡ allowed day set₀
+      same-allowed = rw (by-place-back n order place is set size) at (allowed-rearranged set₀)
+
+      closed-there : Closed parent set₀ → Closed (placedParent place order parent) set
+      closed-there closed j k e taken = at-parent (named (parent (order j)) k e)
+        where
+          inside : j < n
+          inside = omega (arith, size, taken-within set j taken)
+
+          at-parent : ((m : ℕ) × (parent (order j) ≡ suc m) × (place m ≡ k)) → getD set k false ≡ true
+          at-parent (m, f, g) =
+              let here : getD set₀ (order j) false ≡ true = decided (order j) (is .orderIn j inside) ∙ rw (is .there j inside) taken in
+              rw (← g) (sym (decided m (parent-in (order j) m (is .orderIn j inside) f)) ∙ closed (order j) m f here)
+
+      closed-back : Closed (placedParent place order parent) set → Closed parent set₀
+      closed-back closed j k e taken =
+          let inside : j < n = omega (arith, length-by false place n set, taken-within set₀ j taken) in
+          decided k (parent-in j k inside e)
+          ∙ closed (place j) (place k) (rw (is .back j inside, e) refl) (sym (decided j inside) ∙ taken)
+
+    pub closed-rearranged : ClosedBy (rearranged order day) (placedParent place order parent)
+    closed-rearranged = record {
+      inside = λ j k. rw size-rearranged (bounded (parent (order j)) (links .inside (order j) (is .orderIn j (omega (arith, size-rearranged)))));
+      closed = λ set size e.
+          let fits : length set ≡ n = size ∙ size-rearranged in
+          closed-there set fits (links .closed (byOrder place n set) (length-by false place n set) (sym (same-allowed set fits) ∙ e));
+      allows = λ set size closed.
+          let fits : length set ≡ n = size ∙ size-rearranged in
+          same-allowed set fits ∙ links .allows (byOrder place n set) (length-by false place n set) (closed-back set fits closed);
+    }
+      where
+        bounded : (name : ℕ) → name ≤ n → placedName place name ≤ n
+        bounded zero k = omega arith
+        bounded (suc m) k = omega (arith, is .placeIn m (omega arith))
+
+  -- TWINS at their places
+  exchangeable-at : (a b : ℕ) → a < n → b < n → Exchangeable day a b → Exchangeable D (place a) (place b)
+  exchangeable-at a b ka kb links = record {
+    parent = placedParent place order (links .parent);
+    parents = closed-rearranged (links .parent) (links .parents);
+    noneOrSame = λ k e. same k (named (links .parent a) k (rw (is .back a ka) at e));
+    nobodys = λ j k e. nobody j (omega (arith, size-rearranged)) (named (links .parent (order j)) (place b) e);
+  }
+    where
+      same : (k : ℕ) → ((m : ℕ) × (links .parent a ≡ suc m) × (place m ≡ k)) → placedName place (links .parent (order (place b))) ≡ suc k
+      same k (m, f, g) = rw (is .back b kb, links .noneOrSame m f, g) refl
+
+      nobody : (j : ℕ) → j < n → ((m : ℕ) × (links .parent (order j) ≡ suc m) × (place m ≡ place b)) → ⊥
+      nobody j k (m, f, g) =
+          let inside : m < n = parent-in (links .parent) (links .parents) (order j) m (is .orderIn j k) f in
+          let met : m ≡ b = sym (is .back m inside) ∙ ap order g ∙ is .back b kb in
+          links .nobodys (order j) (is .orderIn j k) (f ∙ ap suc met)
+
+  module _ (p : ℕ → ℕ) where
+    -- what stands at a position stands at its place
+    stands-at : (a : ℕ) (b : Block) → drop a (day .blocks) ≡ b ∷ drop (suc a) (day .blocks) →
+        drop (place a) (D .blocks) ≡ b ∷ drop (suc (place a)) (D .blocks)
+    stands-at a b at =
+        let k = block-within (day .blocks) a _ _ at in
+        rw (is .back a k, block-at (day .blocks) a _ _ noBlock at) at (next-rearranged (place a) (is .placeIn a k))
+
+    pub ahead-placed : (a b : ℕ) → Ahead day p a b → Ahead (rearranged order day) p (place a) (place b)
+    ahead-placed a b ahead = record {
+      first = ahead .first;
+      second = ahead .second;
+      firstAt = stands-at a (ahead .first) (ahead .firstAt);
+      secondAt = stands-at b (ahead .second) (ahead .secondAt);
+      sameSide = ahead .sameSide;
+      sameHours = ahead .sameHours;
+      sameQuantity = ahead .sameQuantity;
+      limits = ahead .limits;
+      losesNoMore = ahead .losesNoMore;
+      losesLess = ahead .losesLess;
+      unlinked = exchangeable-at a b (block-within (day .blocks) a _ _ (ahead .firstAt)) (block-within (day .blocks) b _ _ (ahead .secondAt))
+          (ahead .unlinked);
+    }
+
+-- and the other way round: the day is the rearranged one, rearranged
+module _ (order place : ℕ → ℕ) (day : Day) (is : IsOrder (length (day .blocks)) order place) (p : ℕ → ℕ) where
+  pub ahead-rearranged : (a b : ℕ) → Ahead (rearranged order day) p a b → Ahead day p (order a) (order b)
+  ahead-rearranged a b ahead =
+      subst (λ d. Ahead d p (order a) (order b)) (rearranged-back order place day is)
+      (ahead-placed place order (rearranged order day) (order-back-rearranged order place day is) p a b ahead)
+
+  -- SETS IN TURN stay in turn
+  pub in-turn-rearranged : (set : List Bool) → InTurn day p set → InTurn (rearranged order day) p (byOrder order (length (day .blocks)) set)
+  in-turn-rearranged set turn a b ahead e =
+      let n : ℕ = length (day .blocks) in
+      let size = size-rearranged order place day is in
+      let ka : a < n = omega (arith, block-within ((rearranged order day) .blocks) a _ _ (ahead .firstAt)) in
+      let kb : b < n = omega (arith, block-within ((rearranged order day) .blocks) b _ _ (ahead .secondAt)) in
+      at-by false order n set a ka ∙ turn (order a) (order b) (ahead-rearranged a b ahead) (sym (at-by false order n set b kb) ∙ e)
+
+  -- ALONE IS OUTCOME: where numbers rise, the only best of the sets in turn, in whatever order it was found, is the published set
+  module _ (prices : PricesInRange (day .steps)) (hours : HoursInRange (day .steps)) (rise : NumbersRise 0 (day .blocks)) where
+    pub alone-is-outcome : (set : List Bool) → OnlyBest (rearranged order day) (InTurn (rearranged order day) p) set →
+        outcome day ≡ byOrder place (length (day .blocks)) set
+    alone-is-outcome set best =
+        sym (by-order-back n order place is (outcome day) (first .ofBlocks)) ∙ ap (byOrder place n) met
+      where
+        n : ℕ
+        n = length (day .blocks)
+
+        first : FirstBest day (outcome day)
+        first = outcome-first day (empty-lawful day prices hours)
+
+        -- the set, put back
+        mine : List Bool
+        mine = byOrder place n set
+
+        again : byOrder order n mine ≡ set
+        again = by-place-back n order place is set (best .ofBlocks ∙ size-rearranged order place day is)
+
+        mine-lawful : lawful day mine ≡ true
+        mine-lawful = sym (lawful-rearranged order place day is mine) ∙ rw again (best .isLawful)
+
+        no-more : welfare (rearranged order day) set ≤ welfare (rearranged order day) (byOrder order n (outcome day))
+        no-more =
+            rw (← again, welfare-rearranged order place day is mine, welfare-rearranged order place day is (outcome day))
+            (first .wins mine (length-by false place n set) mine-lawful .0)
+
+        met : byOrder order n (outcome day) ≡ set
+        met =
+            best .only (byOrder order n (outcome day)) (length-by false order n (outcome day) ∙ sym (size-rearranged order place day is))
+            (lawful-rearranged order place day is (outcome day) ∙ first .isLawful)
+            (in-turn-rearranged (outcome day) (outcome-in-turn day prices hours rise p)) no-more

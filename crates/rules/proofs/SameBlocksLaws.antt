@@ -1,7 +1,7 @@
 -- THE SAME BLOCKS IN ANOTHER ORDER: what the rules say of a set of blocks is made of sums and tests over its blocks, so it does not hang on the order in
 -- which they are listed, nor on that in which the day lists its own. Two lists have the same blocks where every sum over them is the same. Assumes nothing.
 use Prim.Native.Nat.{ℕ, _+_}
-use mathlib.Core.Bool.{Bool, true, false, not, _&&_, _||_}
+use mathlib.Core.Bool.{Bool, false, not, _&&_, _||_}
 use mathlib.Core.Path.{_≡_, refl, ap, _∙_, fun-ext}
 use mathlib.Core.List.{List, [], _∷_}
 use native.Mathlib.Omega.{arith}
