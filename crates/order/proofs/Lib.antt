@@ -1,0 +1,1 @@
+-- Another order of the blocks for the search: the laws of an order, of the columns in it, of sets by number, and of what private functions answer.
