@@ -1,1 +1,6 @@
--- Another order of the blocks for the search: the laws of an order, of the columns in it, of sets by number, and of what private functions answer.
+-- Another order of the blocks for the search: the laws of names by place, of the test, of the columns, of sets by number, and of the chosen order.
+pub mod NameLaws
+pub mod TestLaws
+pub mod ColumnLaws
+pub mod NumberLaws
+pub mod ChosenLaws

@@ -23,8 +23,10 @@ fn stands_at(
 {
     let i = order[j];
     let at = place[j];
-    let inside = (i < count) & (at < count);
-    if !inside {
+    if count <= i {
+        return false;
+    }
+    if count <= at {
         return false;
     }
     let leads_back = (place[i] == j) & (order[at] == j);

@@ -1,32 +1,33 @@
+-- `order::names::stands_before` meets its contract. Assumes nothing.
+use Prim.Native.Nat.{_<_}
+use native.Mathlib.Omega.{arith}
+use Rattle.order.proofs.NameLaws.{name-none, name-some}
 use borrow.Author.Needs.{needs}
+use borrow.Author.Tests.{le-leb}
 use Rattle.order.proofs.names.stands_before.Statement.{statement}
 use Rattle.order.proofs.names.stands_before.Tie as tie
-use Rattle.order.proofs.names.stands_before.Reads as reads
-use Rattle.order.proofs.names.stands_before.Lts as lts
 
--- src/names.rt:16:9
 returns : tie.Need-returns
-returns c = ?
+returns c =
+    let a = c .before .args in
+    rw (name-none (a .t1) (a .name) (omega arith), le-leb 0 (a .j) (omega arith))
 
--- src/names.rt:18:12
 sub-result : tie.Need-sub-result
 sub-result c = search needs
 
--- src/names.rt:18:11
 cast-result : tie.Need-cast-result
 cast-result c = search needs
 
--- src/names.rt:18:5
 mul-result : tie.Need-mul-result
 mul-result c = search needs
 
--- src/names.rt:18:5
 array-read-result : tie.Need-array-read-result
 array-read-result c = search needs
 
--- src/names.rt:11:1
 returns-2 : tie.Need-returns-2
-returns-2 c = ?
+returns-2 c =
+    let a = c .before .args in
+    rw (name-some (a .t1) (a .name) (omega arith))
 
 pub stands-before-spec : {M : Type 1} → statement M
 stands-before-spec =
