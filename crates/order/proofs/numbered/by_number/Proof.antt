@@ -1,58 +1,61 @@
+-- `order::numbered::by_number` meets its contract: the bits of the blocks from number i on stand. Assumes nothing.
+use Prim.Native.Nat.{_-_, _≤_}
+use mathlib.Core.Path.{_≡_}
+use native.Mathlib.Omega.{arith}
+use lib.ListN.{getD}
+use Rattle.order.proofs.NumberLaws.{numberedFrom, none-numbered, numbered-next, numbered-room, numbered-all}
 use borrow.Author.Needs.{needs}
 use Rattle.order.proofs.numbered.by_number.Statement.{statement}
 use Rattle.order.proofs.numbered.by_number.Tie as tie
-use Rattle.order.proofs.numbered.by_number.Reads as reads
-use Rattle.order.proofs.numbered.by_number.Lts as lts
 
 abbrev Inv-loop : tie.InvT-loop
-Inv-loop set count place numbered₀ i₀ numbered i = ?
+Inv-loop set count place numbered₀ i₀ numbered i = (i ≤ count) × (numbered ≡ numberedFrom place set (count - i) i)
 
 abbrev μ-loop : tie.MeasureT-loop
-μ-loop set count place numbered₀ i₀ numbered i = ?
+μ-loop set count place numbered₀ i₀ numbered i = i
 
--- src/numbered.rt:14:5
 loop-holds : tie.Need-loop-holds Inv-loop μ-loop
-loop-holds c = ?
+loop-holds c = (omega arith, none-numbered _ _ _)
 
--- src/numbered.rt:15:9
 sub-i : tie.Need-sub-i Inv-loop μ-loop
 sub-i c = search needs
 
--- src/numbered.rt:16:28
 mul-held : tie.Need-mul-held Inv-loop μ-loop
 mul-held c = search needs
 
--- src/numbered.rt:16:28
 array-read-held : tie.Need-array-read-held Inv-loop μ-loop
 array-read-held c = search needs
 
--- src/numbered.rt:16:28
 cast-held : tie.Need-cast-held Inv-loop μ-loop
-cast-held c = search needs
+cast-held c =
+    let start = c .before .before in
+    omega (arith, start .pre .1 (c .before .loop .i - 1) (omega arith))
 
--- src/numbered.rt:16:21
 shr-held : tie.Need-shr-held Inv-loop μ-loop
-shr-held c = ?
+shr-held c =
+    let start = c .before .before in
+    omega (arith, start .pre .1 (c .before .loop .i - 1) (omega arith))
 
--- src/numbered.rt:17:20
 mul-numbered : tie.Need-mul-numbered Inv-loop μ-loop
-mul-numbered c = search needs
+mul-numbered c =
+    let loop = c .before in
+    omega (arith, numbered-room _ _ _ _ _ (c .loop-test .taken) (loop .before .pre .0) (loop .loop .inv .1))
 
--- src/numbered.rt:17:20
 add-numbered : tie.Need-add-numbered Inv-loop μ-loop
-add-numbered c = search needs
+add-numbered c =
+    let loop = c .before in
+    omega (arith, numbered-room _ _ _ _ _ (c .loop-test .taken) (loop .before .pre .0) (loop .loop .inv .1))
 
--- src/numbered.rt:14:5
 loop-less : tie.Need-loop-less Inv-loop μ-loop
 loop-less c = search needs
 
--- src/numbered.rt:14:5
 loop-again : tie.Need-loop-again Inv-loop μ-loop
-loop-again c = ?
+loop-again c =
+    let loop = c .before in
+    (omega arith, numbered-next _ _ _ _ _ (c .loop-test .taken) (loop .loop .inv .0) (loop .loop .inv .1))
 
--- src/numbered.rt:8:1
 returns : tie.Need-returns Inv-loop μ-loop
-returns c = ?
+returns c = numbered-all _ _ _ _ _ (omega (arith, c .loop-test .left)) (c .before .loop .inv .1)
 
 pub by-number-spec : {M : Type 1} → statement M
 by-number-spec =
