@@ -25,7 +25,7 @@ use records::record_count;
 use result::Clearing;
 use result::RECORD_ROW;
 use result::RECORD_ROWS;
-use search::find;
+use passes::find;
 use setup::prepare;
 use setup::row_needed;
 

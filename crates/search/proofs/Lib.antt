@@ -1,4 +1,4 @@
--- Laws of the search: sets that take no block without its parent, decisions made for certain, the best so far with a margin or without, a decided set and what it trades, branches, why one is dropped, a pass over all blocks.
+-- Laws of the search: sets that take no block without its parent, decisions made for certain, the best so far with a margin or without, a decided set and what it trades, branches, why one is dropped.
 pub mod ClosedLaws
 pub mod DecisionLaws
 pub mod TradedLaws
@@ -7,4 +7,3 @@ pub mod DecidedLaws
 pub mod ShiftedLaws
 pub mod BranchLaws
 pub mod DropLaws
-pub mod PassLaws

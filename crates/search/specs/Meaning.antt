@@ -12,7 +12,6 @@ use Rattle.records.specs.Records.{holdsHour}
 use Rattle.orders.specs.Columns.{sideFor}
 use Rattle.rules.specs.Orders.{Step, Block, maxPrice}
 use Rattle.rules.specs.Day.{Day, changeHour, weight, daySum, taken, decisions, overBlocks, sells, buys, stepsIn, givesWay, setPrices, hourCount, lawful, traded}
-use Rattle.rules.specs.Outcome.{outcome}
 use Rattle.rules.specs.Contender.{PricesInRange, HoursInRange}
 use Rattle.rules.proofs.PricingLaws.{Clearable, net}
 use Rattle.rules.proofs.TableLaws.{unitPrice}
@@ -242,9 +241,3 @@ pub record LeftTo (blocks : List ℕ) (at : ℕ) (node r : Node) : Type 0 where
   pub lossIs : r .loss ≡ node .loss + gainAt blocks at
   pub placesAre : (h : ℕ) → 1 ≤ h → h ≤ hourPlaces →
       ofHour (r .places) h ≡ ofHour (node .places) h + when (eqb (sideAt blocks at) 0) (rowQuantity blocks at h)
-
--- THE PUBLISHED SET, with its day
-abbrev pub FoundIn : (t : Tables) (steps : ℕ → List Step) (r : Best) → Type 0
-FoundIn t steps r =
-    (day : _) (p rest : ℕ → ℕ) → StepsAre day steps → Known day p rest t → Turning t →
-    (decisions (t .count) (r .set) ≡ outcome day) × (r .set < 2 ^ t .count) × DayOf day (outcome day) (r .day)

@@ -1,0 +1,2 @@
+-- The passes of the search: what they promise. Definitions only.
+pub mod Passes
