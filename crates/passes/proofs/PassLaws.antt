@@ -1,4 +1,5 @@
--- A pass over all blocks: one that finds a set has found the published one, and one with a large threshold finds. Assumes nothing.
+-- A pass over all blocks: one by number that finds a set has found the published one, and one with a large limit finds; one that looks for ties and finds a
+-- set, but no tie, has found a set that no other ties with. Assumes nothing.
 use Prim.Native.Nat.{ℕ, zero, suc, _+_, _-_, _*_, _/_, _^_, _≤_, _<_}
 use mathlib.Core.Path.{_≡_, refl, sym, subst, _∙_}
 use mathlib.Core.List.{List, []}
@@ -10,6 +11,7 @@ use lib.Pow.{shr-le, pow-pos}
 use Rattle.rules.specs.Orders.{Step, Block}
 use Rattle.rules.specs.Day.{Day, changeHour, daySum, sumTo, taken, decisions, overBlocks, hourOf}
 use Rattle.rules.specs.Outcome.{outcome}
+use Rattle.rules.specs.Contender.{NumbersRise}
 use Rattle.rules.proofs.HourSums.{daySum-add}
 use Rattle.rules.proofs.Tests.{clash}
 use Rattle.rules.proofs.DayLaws.{empty-lawful}
@@ -19,23 +21,21 @@ use Rattle.rules.proofs.LossLaws.{daySum-counted, gaps, wholeOf, lossOf, losses
 use Rattle.rules.proofs.TwinLaws.{InTurn, outcome-in-turn}
 use Rattle.rules.proofs.PlaceLaws.{place, place-none}
 use Rattle.rules.proofs.LossSearchLaws as by-loss
+use Rattle.rules.proofs.AloneLaws as alone
 use Rattle.book.specs.Bounds.{mostBlocks}
 use Rattle.places.specs.Layout.{hourPlaces, lastLimit, gainColumn}
 use Rattle.places.specs.Hours.{cell, rowWidth}
 use Rattle.places.specs.Reach.{isOut}
-use Rattle.search.specs.Meaning.{Fits, Known, Turning, Branch, lossAbove, bestAs, DayOf, Outcome, StepsAre, ExploredFrom}
+use Rattle.search.specs.Meaning.{Fits, Known, Turning, Branch, lossAbove, bestAs, DayOf, Outcome, StepsAre}
 use Rattle.search.specs.Tables.{Tables}
 use Rattle.orders.proofs.ColumnLaws.{zeros}
 use Rattle.places.proofs.CountedLaws.{change-apart, day-sum}
 use Rattle.search.proofs.ClosedLaws.{none-closed}
 use Rattle.search.proofs.DecidedLaws.{an-hour, gap-of-lawful, rest-below}
 use Rattle.search.specs.declared.Best.{Best}
-use Rattle.search.specs.declared.Node.{Node}
+use Rattle.passes.specs.Passes.{root, startAt, Passed, FoundIn, AloneIn}
 
--- THE ROOT: nothing is decided
-abbrev pub root : Node
-root = record { set = 0; loss = 0; places = replicate hourPlaces 0 }
-
+-- THE ROOT
 pub root-fits : (n : ℕ) → Fits n root
 root-fits n = record { setFits = pow-pos n; lossFits = omega arith; placesSize = refl; placesFit = λ i. omega (arith, zeros hourPlaces i) }
 
@@ -92,40 +92,57 @@ module _ {tables : Tables} (few : tables .count ≤ mostBlocks) (small : (i : �
         sum-fits hourPlaces (2 ^ 32) at small-at,
       )
 
+-- A PASS over all blocks of a day
+module _ {tables : Tables} {day : Day} {p rest : ℕ → ℕ} (known : Known day p rest tables) where
+  -- welfare and what a set loses by the tables add up to one number
   adds : by-loss.Adds day (lossAbove day p rest) (wholeOf day p - daySum (day .hours) rest)
   unfolding lossAbove
   adds =
       by-loss.adds-less day (lossOf day p) (lossAbove day p rest) _ (daySum (day .hours) rest) (by-loss.loss-adds day (known .prices) (known .hours) p)
       (λ set size law. omega (arith, bound-with day p [] set 0 rest (omega arith) (λ h c. rest-below known set (size ∙ known .counted) law h (an-hour c))))
 
-  module _ {steps : ℕ → List Step} (turning : Turning tables) (same : StepsAre day steps) {best r : Best}
-      (pass : ExploredFrom tables steps (tables .count) 0 0 root best r) where
-    outcome-of : Outcome 0 day p rest (tables .count) (tables .count) [] best r
-    outcome-of = pass day p rest [] same record {
+  module _ {steps : ℕ → List Step} (turning : Turning tables) (same : StepsAre day steps) {margin limit : ℕ} {r : Best}
+      (pass : Passed tables steps margin limit r) where
+    outcome-of : Outcome margin day p rest (length (day .blocks)) (length (day .blocks)) [] (startAt limit) r
+    outcome-of = rw (known .counted) (pass day p rest [] same record {
       known = known;
       turning = turning;
       branch = root-branch day p;
       closed = none-closed (known .parent);
       size = omega arith;
       outOf = λ t k l law less inside is. clash is (none-out k);
-    }
+    })
 
-    whole-pass : by-loss.Pass day (InTurn day p) (lossAbove day p rest) (bestAs (tables .count) best) (bestAs (tables .count) r)
-    whole-pass =
-        subst (λ n. by-loss.Explored day (InTurn day p) (lossAbove day p rest) n [] (bestAs (tables .count) best) (bestAs (tables .count) r))
-        (sym (known .counted)) (outcome-of .tried .explored refl)
+  -- with a margin a set that it finds, and no tie, is one that no other ties with
+  pub pass-alone : {steps : ℕ → List Step} → Turning tables → StepsAre day steps → {limit : ℕ} {r : Best} → Passed tables steps 1 limit r →
+      r .limit < limit → 0 < r .limit →
+      alone.OnlyBest day (InTurn day p) (decisions (tables .count) (r .set)) × (r .set < 2 ^ tables .count)
+      × DayOf day (decisions (tables .count) (r .set)) (r .day)
+  pass-alone turning same pass less some =
+      let o = outcome-of turning same pass in
+      rw (← (known .counted))
+      (alone.pass-alone day (InTurn day p) (lossAbove day p rest) _ adds _ _ (o .tried .narrowed refl) less some, o .found less .0, o .found less .1)
 
+  -- BY NUMBER: the blocks' numbers rise
+  module _ (rise : NumbersRise 0 (day .blocks)) where
     in-turn : InTurn day p (outcome day)
-    in-turn = outcome-in-turn day (known .prices) (known .hours) p
+    in-turn = outcome-in-turn day (known .prices) (known .hours) rise p
 
-    pub pass-is : r .limit < best .limit → (decisions (tables .count) (r .set) ≡ outcome day) × (r .set < 2 ^ tables .count) × DayOf day (outcome day) (r .day)
-    pass-is less =
-        let o = outcome-of in
-        let e : decisions (tables .count) (r .set) ≡ outcome day =
-        by-loss.pass-outcome day (InTurn day p) (known .prices) (known .hours) (lossAbove day p rest) _ adds _ _ whole-pass in-turn less in
-        (e, o .found less .0, rw e at (o .found less .1))
+    -- without a margin a set that it finds is the published one
+    pub pass-is : {steps : ℕ → List Step} → Turning tables → StepsAre day steps → {limit : ℕ} {r : Best} → Passed tables steps 0 limit r → r .limit < limit →
+        (decisions (tables .count) (r .set) ≡ outcome day) × (r .set < 2 ^ tables .count) × DayOf day (outcome day) (r .day)
+    pass-is turning same {r = r} pass less =
+        let o = outcome-of turning same pass in
+        let e : decisions (length (day .blocks)) (r .set) ≡ outcome day =
+        by-loss.pass-outcome day (InTurn day p) (known .prices) (known .hours) (lossAbove day p rest) _ adds _ _ (o .tried .explored refl) in-turn less in
+        rw (← (known .counted)) (e, o .found less .0, rw e at (o .found less .1))
 
-    pub pass-found : lastLimit ≤ best .limit → r .limit < best .limit
-    pass-found k =
-        by-loss.pass-finds-any day (InTurn day p) (known .prices) (known .hours) (lossAbove day p rest) _ adds _ _ whole-pass in-turn
-        (replicate (length (day .blocks)) false) (length-replicate _ _) (empty-lawful day (known .prices) (known .hours)) (omega (arith, empty-loss))
+    -- and it finds one where the limit is large
+    pub pass-found : tables .count ≤ mostBlocks → ((i : ℕ) → getD (tables .blocks) i 0 < 2 ^ 32) → ((i : ℕ) → getD (tables .gaps) i 0 < 2 ^ 32) →
+        {steps : ℕ → List Step} → Turning tables → StepsAre day steps → {limit : ℕ} {r : Best} → Passed tables steps 0 limit r →
+        lastLimit ≤ limit → r .limit < limit
+    pass-found few small smallGap turning same pass k =
+        let o = outcome-of turning same pass in
+        by-loss.pass-finds-any day (InTurn day p) (known .prices) (known .hours) (lossAbove day p rest) _ adds _ _ (o .tried .explored refl) in-turn
+        (replicate (length (day .blocks)) false) (length-replicate _ _) (empty-lawful day (known .prices) (known .hours))
+        (omega (arith, empty-loss few small smallGap known))
