@@ -95,7 +95,8 @@ module _ (blocks : List ℕ) (i : ℕ) (was gone : Bool) (high low : List ℕ) w
   unfolding isRuledOut
   ruled-now e keeps k = rw (neither was gone e .0, neither was gone e .1, k)
 
-decisions-long : (m r : ℕ) → length (decisions m r) ≡ m
+-- there are as many decisions as blocks
+pub decisions-long : (m r : ℕ) → length (decisions m r) ≡ m
 unfolding decisions
 decisions-long zero r = refl
 decisions-long (suc m) r = ap suc (decisions-long m (r / 2))

@@ -1,0 +1,186 @@
+-- THE COLUMNS IN ANOTHER ORDER are those of the day with its blocks in that order, whose tables are the same; and a set that no other ties with there is,
+-- put back by number, the published one of the day itself, with the same prices and traded quantities. Assumes nothing.
+use Prim.Native.Nat.{ℕ, zero, suc, _+_, _-_, _/_, _%_, _^_, _≤_, _<_}
+use mathlib.Core.Bool.{Bool, true, false, cond}
+use mathlib.Core.List.{List}
+use mathlib.Core.Path.{_≡_, refl, sym, ap, _∙_}
+use native.Mathlib.Omega.{arith}
+use lib.Dec.{eqb}
+use lib.ListN.{length, getD}
+use lib.Seq.{ext-getD}
+use Rattle.rules.specs.Orders.{Step, Block}
+use Rattle.rules.specs.Day.{Day, decisions, overBlocks, sells, buys}
+use Rattle.rules.specs.Outcome.{outcome}
+use Rattle.rules.specs.Contender.{NumbersRise}
+use Rattle.rules.proofs.AloneLaws.{OnlyBest}
+use Rattle.rules.proofs.LinkLaws.{Parents}
+use Rattle.rules.proofs.TwinLaws.{Ahead, InTurn, block-at}
+use Rattle.rules.proofs.SetBits.{bits-at}
+use Rattle.rules.proofs.RearrangedLaws as other-order
+use Rattle.rules.proofs.RearrangedLaws.{
+  noBlock,
+  blockAt,
+  byOrder,
+  IsOrder,
+  rearranged,
+  placedParent,
+  parentWithin,
+  length-by,
+  at-by,
+  by-place-back,
+  size-rearranged,
+  next-rearranged,
+  sum-rearranged,
+  hour-rearranged,
+  quiet-rearranged,
+  prices-rearranged,
+  traded-rearranged,
+  closed-rearranged,
+  ahead-placed,
+  alone-is-outcome,
+  parent-within,
+  parents-within,
+}
+use Rattle.places.specs.Blocks.{parentAt}
+use Rattle.order.specs.Order.{placedName, IsOrderOf, Reordered, ByNumber}
+use Rattle.search.specs.Tables.{Tables}
+use Rattle.search.specs.Meaning.{AnHour, Shown, Known, Turning, DayOf, StepsAre, lastReached}
+use Rattle.search.proofs.DecisionLaws.{decisions-long}
+use Rattle.search.specs.declared.Day as code-day
+use Rattle.search.specs.declared.Best.{Best}
+
+-- the tables with other columns of the blocks
+abbrev pub withColumns : List ℕ → Tables → Tables
+withColumns columns t = record {
+  unitPrices = t .unitPrices;
+  gaps = t .gaps;
+  first = t .first;
+  last = t .last;
+  turn = t .turn;
+  change = t .change;
+  shifts = t .shifts;
+  blocks = columns;
+  count = t .count;
+}
+
+-- an order and its places as numbers of positions
+abbrev pub at : List ℕ → ℕ → ℕ
+at l i = getD l i 0
+
+-- a name by its place, in the columns and in the rules
+name-placed : (place : List ℕ) (name : ℕ) → placedName place name ≡ other-order.placedName (at place) name
+unfolding placedName
+name-placed place zero = refl
+name-placed place (suc k) = refl
+
+module _ {day : Day} {p rest : ℕ → ℕ} {t : Tables} (known : Known day p rest t) {order place other : List ℕ}
+    (is : IsOrderOf (t .blocks) (t .count) order place) where
+  -- the order tested is an order of the day's blocks
+  order-of : IsOrder (length (day .blocks)) (at order) (at place)
+  order-of = rw (known .counted) record { orderIn = is .orderIn; placeIn = is .placeIn; there = is .there; back = is .back }
+
+  abbrev D : Day
+  D = rearranged (at order) day
+
+  -- the places that blocks reach are the same
+  reached-same : (h : ℕ) → lastReached (rearranged (at order) day) h ≡ lastReached day h
+  reached-same h = rw (sum-rearranged (at order) (at place) day order-of (sells h), sum-rearranged (at order) (at place) day order-of (buys h))
+
+  module _ (columns : Reordered (t .count) order place (t .blocks) other) where
+    -- the block at place j and its columns
+    shown-there : (j : ℕ) → j < t .count → Shown (rearranged (at order) day) p other j
+    shown-there j k =
+        let inside : j < length (day .blocks) = omega (arith, known .counted) in
+        let s = known .shown (at order j) (is .orderIn j k) in
+        let block-is : blockAt (day .blocks) (at order j) ≡ s .block = block-at (day .blocks) (at order j) (s .block) _ noBlock (s .next) in
+        record {
+          block = s .block;
+          next = next-rearranged (at order) (at place) day order-of j inside ∙ rw block-is;
+          sideIs = s .sideIs ∙ rw (columns .sideIs j k);
+          runsIs = λ h. s .runsIs h ∙ rw (columns .hoursIs j k);
+          rowIs = λ h c. columns .rowIs j h k (c .first) (c .last) ∙ s .rowIs h c;
+          limitIs = s .limitIs ∙ sym (columns .limitIs j k);
+          againstIs = s .againstIs ∙ sym (columns .againstIs j k);
+          gainIs = s .gainIs ∙ sym (columns .gainIs j k);
+        }
+
+    -- the parents at their places
+    abbrev parentThere : ℕ → ℕ
+    parentThere = placedParent (at place) (at order) (known .parent)
+
+    parent-there : (j : ℕ) → j < t .count → placedName place (parentAt (t .blocks) (at order j)) ≡ parentThere j
+    parent-there j k = name-placed place (parentAt (t .blocks) (at order j)) ∙ rw (known .parentIs (at order j) (is .orderIn j k))
+
+    parents-there : Parents (rearranged (at order) day) (parentWithin (length ((rearranged (at order) day) .blocks)) parentThere)
+    parents-there =
+        parents-within D parentThere (closed-rearranged (at order) (at place) day order-of (known .parent) (known .parents .links)) (λ j k.
+        let inside : j < t .count = omega (arith, size-rearranged (at order) (at place) day order-of, known .counted) in
+        rw (← (parent-there j inside)) (is .parentsBefore j inside))
+
+    -- twins at their places
+    ahead-there : (a j : ℕ) → a < t .count → j < t .count → Ahead day p (at order a) (at order j) → Ahead (rearranged (at order) day) p a j
+    ahead-there a j ka kj ahead =
+        rw (is .there a ka, is .there j kj) at (ahead-placed (at order) (at place) day order-of p (at order a) (at order j) ahead)
+
+    -- THE DAY REARRANGED is behind the columns in that order
+    pub known-there : Known (rearranged (at order) day) p rest (withColumns other t)
+    known-there = record {
+      prices = known .prices;
+      hours = known .hours;
+      quiet = quiet-rearranged (at order) (at place) day order-of (known .quiet);
+      changeIs = known .changeIs;
+      changeFew = known .changeFew;
+      shiftsIs = known .shiftsIs;
+      counted = size-rearranged (at order) (at place) day order-of ∙ known .counted;
+      unitPriceIs = λ h i c k.
+          rw (sum-rearranged (at order) (at place) day order-of (buys h)) (known .unitPriceIs h i c (rw (reached-same h) at k));
+      lastIs = λ h c. rw (reached-same h) (known .lastIs h c);
+      clears = λ h i c from to. rw (hour-rearranged (at order) (at place) day order-of h i) (known .clears h i c from to);
+      clearsOnly = λ h i c k clear.
+          known .clearsOnly h i c (rw (reached-same h) at k) (rw (hour-rearranged (at order) (at place) day order-of h i) at clear);
+      gapIs = λ h i c from to. rw (hour-rearranged (at order) (at place) day order-of h i) (known .gapIs h i c from to);
+      shown = shown-there;
+      parent = parentWithin (length (D .blocks)) parentThere;
+      parents = parents-there;
+      parentIs = λ j k.
+          let inside : j < length (D .blocks) = omega (arith, size-rearranged (at order) (at place) day order-of, known .counted) in
+          columns .parentIs j k ∙ parent-there j k ∙ sym (parent-within (length (D .blocks)) parentThere j inside);
+      ahead = λ j a k e.
+          let twin = columns .aheadIs j a k e in
+          (twin .0, ahead-there a j (omega (arith, twin .0)) k (known .ahead (at order j) (at order a) (is .orderIn j k) (twin .1) .1));
+      behind = λ j b k e.
+          let twin = columns .behindIs j b k e in
+          (twin .0, ahead-there j b k (omega (arith, twin .0)) (known .behind (at order j) (at order b) (is .orderIn j k) (twin .1) .1));
+    }
+
+  -- A SET THAT NO OTHER TIES WITH there, by number
+  module _ {set numbered : ℕ} (by : ByNumber (t .count) place set numbered) where
+    -- its decisions are those of the places, put back
+    pub decided-back : decisions (t .count) numbered ≡ byOrder (at place) (length (day .blocks)) (decisions (t .count) set)
+    decided-back =
+        rw (known .counted)
+        (ext-getD false (decisions (t .count) numbered) (byOrder (at place) (t .count) (decisions (t .count) set))
+        (decisions-long (t .count) numbered ∙ sym (length-by false (at place) (t .count) (decisions (t .count) set))) (λ i k.
+        let inside : i < t .count = omega (arith, decisions-long (t .count) numbered) in
+        bits-at (t .count) numbered i inside
+        ∙ rw (by .bits i inside)
+        ∙ sym (at-by false (at place) (t .count) (decisions (t .count) set) i inside ∙ bits-at (t .count) set (at place i) (is .placeIn i inside))))
+
+    module _ (rise : NumbersRise 0 (day .blocks))
+        (alone : OnlyBest (rearranged (at order) day) (InTurn (rearranged (at order) day) p) (decisions (t .count) set)) where
+      -- it is the published one
+      pub published-back : decisions (t .count) numbered ≡ outcome day
+      published-back = decided-back ∙ sym (alone-is-outcome (at order) (at place) day order-of p (known .prices) (known .hours) rise (decisions (t .count) set) alone)
+
+      -- put in the order again, it is the set that was found
+      there-again : byOrder (at order) (length (day .blocks)) (outcome day) ≡ decisions (t .count) set
+      there-again =
+          rw (← published-back, decided-back)
+          (by-place-back (length (day .blocks)) (at order) (at place) order-of (decisions (t .count) set) (decisions-long (t .count) set ∙ sym (known .counted)))
+
+      -- and its day is the published one's
+      pub day-back : {found : code-day.Day} → DayOf (rearranged (at order) day) (decisions (t .count) set) found → DayOf day (outcome day) found
+      day-back of = record {
+        pricesAre = λ h c. of .pricesAre h c ∙ rw there-again at (prices-rearranged (at order) (at place) day order-of (outcome day) h);
+        tradedAre = λ h c. of .tradedAre h c ∙ rw there-again at (traded-rearranged (at order) (at place) day order-of (outcome day) h);
+      }

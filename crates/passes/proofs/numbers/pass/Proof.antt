@@ -1,0 +1,18 @@
+-- `passes::numbers::pass` meets its contract: all blocks are explored from the root. Assumes nothing.
+use native.Mathlib.Omega.{arith}
+use Rattle.passes.proofs.PassLaws.{root-fits}
+use borrow.Author.Needs.{needs}
+use Rattle.passes.proofs.numbers.pass.Statement.{statement}
+use Rattle.passes.proofs.numbers.pass.Tie as tie
+
+start-at-requires : tie.Need-start-at-requires
+start-at-requires c κs = search needs
+
+explore-requires : tie.Need-explore-requires
+explore-requires c κs = ?
+
+returns : tie.Need-returns
+returns c = rw (← (c .before .start-at .ensures)) (c .explore .ensures)
+
+pub pass-spec : {M : Type 1} → statement M
+pass-spec = tie.close (tie.spec start-at-requires explore-requires returns)
