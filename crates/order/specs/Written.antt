@@ -8,7 +8,7 @@ use lib.Dec.{ltb, leb, eqb}
 use lib.ListN.{length, getD}
 use Rattle.rules.specs.Hour.{when}
 use Rattle.book.specs.Bounds.{mostBlocks}
-use Rattle.places.specs.Layout.{hourPlaces, mostAdded, parentColumn, rowsColumn, blockListSize}
+use Rattle.places.specs.Layout.{hourPlaces, parentColumn, rowsColumn, blockListSize}
 use Rattle.places.specs.Blocks.{parentAt, aheadAt, behindAt, rowQuantity}
 use Rattle.order.specs.Order.{placedName}
 
@@ -50,9 +50,9 @@ pub record LinksIn (count : ℕ) (order place blocks before r : List ℕ) : Type
   pub behindIs : (j : ℕ) → j < count → behindAt r j ≡ earlierName place count j (behindAt blocks (getD order j 0))
   pub none : (j : ℕ) → count ≤ j → j < mostBlocks → (parentAt r j ≡ 0) × (aheadAt r j ≡ 0) × (behindAt r j ≡ 0)
 
--- The rows of the first count places stand; all in front of them is as it was.
+-- The rows of the first count places stand; all else is as it was.
 pub record RowsIn (count : ℕ) (order blocks before r : List ℕ) : Type 0 where
   pub size : length r ≡ blockListSize
   pub same : (k : ℕ) → k < rowsColumn → getD r k 0 ≡ getD before k 0
   pub rowIs : (j h : ℕ) → j < count → 1 ≤ h → h ≤ hourPlaces → rowQuantity r j h ≡ rowQuantity blocks (getD order j 0) h
-  pub fits : (k : ℕ) → rowsColumn ≤ k → getD r k 0 ≤ mostAdded
+  pub rest : (k : ℕ) → rowsColumn + hourPlaces * count ≤ k → getD r k 0 ≡ getD before k 0

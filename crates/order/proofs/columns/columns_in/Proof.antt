@@ -1,66 +1,69 @@
+-- `order::columns::columns_in` meets its contract: the numbers before k of the six columns stand. Assumes nothing.
+use Prim.Native.Nat.{_-_, _%_, _<_}
+use mathlib.Core.Logic.{⊎-elim}
+use native.Mathlib.Omega.{arith}
+use lib.ListN.{getD}
+use Rattle.book.specs.Bounds.{mostBlocks}
+use Rattle.places.specs.Layout.{parentColumn}
+use Rattle.order.proofs.ColumnLaws.{ColumnsTo, columns-start, columns-next, columns-skip, columns-all}
 use borrow.Author.Needs.{needs}
 use Rattle.order.proofs.columns.columns_in.Statement.{statement}
 use Rattle.order.proofs.columns.columns_in.Tie as tie
-use Rattle.order.proofs.columns.columns_in.Reads as reads
-use Rattle.order.proofs.columns.columns_in.Lts as lts
 
 abbrev Inv-loop : tie.InvT-loop
-Inv-loop blocks count order r₀ k₀ r k = ?
+Inv-loop blocks count order r₀ k₀ r k = ColumnsTo count order blocks k r
 
 abbrev μ-loop : tie.MeasureT-loop
-μ-loop blocks count order r₀ k₀ r k = ?
+μ-loop blocks count order r₀ k₀ r k = parentColumn - k
 
--- src/columns.rt:28:5
+-- the number of the block at place k % mostBlocks fits
+block-fits : (c : tie.Then1 Inv-loop μ-loop) → getD (c .before .before .before .args .t2) (c .before .before .loop .k % mostBlocks) 0 < mostBlocks
+block-fits c = c .before .before .before .pre .2 (c .before .before .loop .k % mostBlocks) (c .if1 .taken)
+
 loop-holds : tie.Need-loop-holds Inv-loop μ-loop
-loop-holds c = ?
+loop-holds c = columns-start _ _ _
 
--- src/columns.rt:31:27
 sub-r : tie.Need-sub-r Inv-loop μ-loop
 sub-r c = search needs
 
--- src/columns.rt:31:35
 mul-r : tie.Need-mul-r Inv-loop μ-loop
 mul-r c = search needs
 
--- src/columns.rt:31:35
 array-read-r : tie.Need-array-read-r Inv-loop μ-loop
 array-read-r c = search needs
 
--- src/columns.rt:31:27
 add-r : tie.Need-add-r Inv-loop μ-loop
-add-r c = search needs
+add-r c = omega (arith, block-fits c)
 
--- src/columns.rt:31:20
 mul-r-2 : tie.Need-mul-r-2 Inv-loop μ-loop
-mul-r-2 c = search needs
+mul-r-2 c = omega (arith, block-fits c)
 
--- src/columns.rt:31:20
 shared-slice-read-r : tie.Need-shared-slice-read-r Inv-loop μ-loop
-shared-slice-read-r c = search needs
+shared-slice-read-r c = omega (arith, block-fits (c .before))
 
--- src/columns.rt:31:13
 mul-r-3 : tie.Need-mul-r-3 Inv-loop μ-loop
 mul-r-3 c = search needs
 
--- src/columns.rt:31:13
 array-write-r : tie.Need-array-write-r Inv-loop μ-loop
 array-write-r c = search needs
 
--- src/columns.rt:33:9
 add-k : tie.Need-add-k Inv-loop μ-loop
 add-k c = search needs
 
--- src/columns.rt:28:5
 loop-less : tie.Need-loop-less Inv-loop μ-loop
 loop-less c = search needs
 
--- src/columns.rt:28:5
 loop-again : tie.Need-loop-again Inv-loop μ-loop
-loop-again c = ?
+loop-again c =
+    let turn = c .before in
+    let loop = turn .before in
+    ⊎-elim
+    (λ w. rw (w .2) (columns-next _ _ _ _ _ (loop .loop .inv) (turn .loop-test .taken)))
+    (λ w. rw (w .1) (columns-skip _ _ _ _ _ (loop .loop .inv) (turn .loop-test .taken) (w .0 .left)))
+    (c .if1 .came)
 
--- src/columns.rt:22:1
 returns : tie.Need-returns Inv-loop μ-loop
-returns c = ?
+returns c = columns-all _ _ _ _ _ (c .before .loop .inv) (c .loop-test .left)
 
 pub columns-in-spec : {M : Type 1} → statement M
 columns-in-spec =

@@ -1,27 +1,32 @@
+-- `order::columns::reordered` meets its contract. Assumes nothing.
+use native.Mathlib.Omega.{arith}
+use Rattle.order.proofs.ColumnLaws.{reordered-sized, reordered-is}
 use borrow.Author.Needs.{needs}
 use Rattle.order.proofs.columns.reordered.Statement.{statement}
 use Rattle.order.proofs.columns.reordered.Tie as tie
-use Rattle.order.proofs.columns.reordered.Reads as reads
-use Rattle.order.proofs.columns.reordered.Lts as lts
-use Rattle.order.proofs.columns.columns_in.Reads as columns-in-reads
-use Rattle.order.proofs.columns.with_links.Reads as with-links-reads
-use Rattle.order.proofs.columns.with_rows.Reads as with-rows-reads
 
--- src/columns.rt:91:9
 columns-in-requires : tie.Need-columns-in-requires
-columns-in-requires c κs = search needs
+columns-in-requires c κs =
+    let pre = c .before .pre in
+    (pre .0, pre .1, λ j k. omega (arith, pre .2 .orderIn j k, pre .1))
 
--- src/columns.rt:92:9
 with-links-requires : tie.Need-with-links-requires
 with-links-requires c κs = search needs
 
--- src/columns.rt:93:5
 with-rows-requires : tie.Need-with-rows-requires
-with-rows-requires c κs = search needs
+with-rows-requires c κs =
+    let pre = c .before .before .before .pre in
+    (pre .0, pre .1, λ j k. omega (arith, pre .2 .orderIn j k, pre .1))
 
--- src/columns.rt:82:1
 returns : tie.Need-returns
-returns c = ?
+returns c =
+    let links = c .before in
+    let columns = links .before in
+    let pre = columns .before .before .pre in
+    (
+      reordered-sized _ _ _ _ _ _ _ (pre .0) (pre .1) (pre .2) (columns .columns-in .ensures) (links .with-links .ensures) (c .with-rows .ensures),
+      reordered-is _ _ _ _ _ _ _ (pre .0) (pre .1) (pre .2) (columns .columns-in .ensures) (links .with-links .ensures) (c .with-rows .ensures),
+    )
 
 pub reordered-spec : {M : Type 1} → statement M
 reordered-spec =

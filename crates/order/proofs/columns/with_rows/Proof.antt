@@ -1,78 +1,73 @@
+-- `order::columns::with_rows` meets its contract: the numbers before k of the rows stand. Assumes nothing.
+use Prim.Native.Nat.{_-_, _*_, _/_, _<_}
+use native.Mathlib.Omega.{arith}
+use lib.ListN.{getD}
+use Rattle.book.specs.Bounds.{mostBlocks}
+use Rattle.places.specs.Layout.{hourPlaces}
+use Rattle.order.proofs.ColumnLaws.{RowsTo, rows-start, rows-next, rows-all}
 use borrow.Author.Needs.{needs}
 use Rattle.order.proofs.columns.with_rows.Statement.{statement}
 use Rattle.order.proofs.columns.with_rows.Tie as tie
-use Rattle.order.proofs.columns.with_rows.Reads as reads
-use Rattle.order.proofs.columns.with_rows.Lts as lts
 
 abbrev Inv-loop : tie.InvT-loop
-Inv-loop blocks count order r₀ k₀ r k = ?
+Inv-loop blocks count order r₀ k₀ r k = RowsTo count order blocks r₀ k r
 
 abbrev μ-loop : tie.MeasureT-loop
-μ-loop blocks count order r₀ k₀ r k = ?
+μ-loop blocks count order r₀ k₀ r k = hourPlaces * count - k
 
--- src/columns.rt:73:5
+-- the number of the block whose row it is fits
+block-fits : (c : tie.In-loop Inv-loop μ-loop) → getD (c .before .before .args .t3) (c .before .loop .k / hourPlaces) 0 < mostBlocks
+block-fits c = c .before .before .pre .2 (c .before .loop .k / hourPlaces) (omega (arith, c .loop-test .taken))
+
 loop-holds : tie.Need-loop-holds Inv-loop μ-loop
-loop-holds c = ?
+loop-holds c = rows-start _ _ _ _ (search needs)
 
--- src/columns.rt:73:15
 mul-loop : tie.Need-mul-loop Inv-loop μ-loop
 mul-loop c = search needs
 
--- src/columns.rt:74:40
 mul-row : tie.Need-mul-row Inv-loop μ-loop
 mul-row c = search needs
 
--- src/columns.rt:74:40
 array-read-row : tie.Need-array-read-row Inv-loop μ-loop
 array-read-row c = search needs
 
--- src/columns.rt:74:32
 mul-row-2 : tie.Need-mul-row-2 Inv-loop μ-loop
-mul-row-2 c = search needs
+mul-row-2 c = omega (arith, block-fits c)
 
--- src/columns.rt:74:19
 add-row : tie.Need-add-row Inv-loop μ-loop
-add-row c = search needs
+add-row c = omega (arith, block-fits c)
 
--- src/columns.rt:75:36
 add-r : tie.Need-add-r Inv-loop μ-loop
-add-r c = search needs
+add-r c = omega (arith, block-fits c)
 
--- src/columns.rt:75:29
 mul-r : tie.Need-mul-r Inv-loop μ-loop
-mul-r c = search needs
+mul-r c = omega (arith, block-fits c)
 
--- src/columns.rt:75:29
 shared-slice-read-r : tie.Need-shared-slice-read-r Inv-loop μ-loop
-shared-slice-read-r c = search needs
+shared-slice-read-r c = omega (arith, block-fits (c .before))
 
--- src/columns.rt:75:11
 add-r-2 : tie.Need-add-r-2 Inv-loop μ-loop
 add-r-2 c = search needs
 
--- src/columns.rt:75:9
 mul-r-2 : tie.Need-mul-r-2 Inv-loop μ-loop
 mul-r-2 c = search needs
 
--- src/columns.rt:75:9
 array-write-r : tie.Need-array-write-r Inv-loop μ-loop
 array-write-r c = search needs
 
--- src/columns.rt:76:9
 add-k : tie.Need-add-k Inv-loop μ-loop
 add-k c = search needs
 
--- src/columns.rt:73:5
 loop-less : tie.Need-loop-less Inv-loop μ-loop
 loop-less c = search needs
 
--- src/columns.rt:73:5
 loop-again : tie.Need-loop-again Inv-loop μ-loop
-loop-again c = ?
+loop-again c =
+    let turn = c .before in
+    rows-next _ _ _ _ _ _ (turn .before .loop .inv) (turn .before .before .pre .1) (turn .loop-test .taken)
 
--- src/columns.rt:62:1
 returns : tie.Need-returns Inv-loop μ-loop
-returns c = ?
+returns c = rows-all _ _ _ _ _ _ (c .before .loop .inv) (c .loop-test .left)
 
 pub with-rows-spec : {M : Type 1} → statement M
 with-rows-spec =
