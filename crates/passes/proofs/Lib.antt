@@ -1,2 +1,3 @@
--- Laws of the passes: a whole pass, by number and in another order.
+-- Laws of the passes: a whole pass, by number and in another order; the columns of the blocks in another order.
 pub mod PassLaws
+pub mod ReorderedLaws

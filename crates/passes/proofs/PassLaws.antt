@@ -26,7 +26,7 @@ use Rattle.book.specs.Bounds.{mostBlocks}
 use Rattle.places.specs.Layout.{hourPlaces, lastLimit, gainColumn}
 use Rattle.places.specs.Hours.{cell, rowWidth}
 use Rattle.places.specs.Reach.{isOut}
-use Rattle.search.specs.Meaning.{Fits, Known, Turning, Branch, lossAbove, bestAs, DayOf, Outcome, StepsAre}
+use Rattle.search.specs.Meaning.{Fits, Known, Turning, Branch, lossAbove, bestAs, DayOf, Outcome, StepsAre, ExploredFrom}
 use Rattle.search.specs.Tables.{Tables}
 use Rattle.orders.proofs.ColumnLaws.{zeros}
 use Rattle.places.proofs.CountedLaws.{change-apart, day-sum}
@@ -46,6 +46,11 @@ root-branch day p = record {
   lossIs = sym (losses-none (day .hours) p (day .blocks));
   placesAre = λ h c. zeros hourPlaces (h - 1) ∙ sym (place-none (day .blocks) h);
 }
+
+-- a pass is an exploration from it, once no set is found yet
+pub pass-from : {t : Tables} {steps : ℕ → List Step} {margin limit : ℕ} {start r : Best} → start ≡ startAt limit →
+    ExploredFrom t steps (t .count) 0 margin root start r → Passed t steps margin limit r
+pass-from e explored = rw e at explored
 
 -- and none is out
 none-out : (k : ℕ) → isOut 0 k ≡ false

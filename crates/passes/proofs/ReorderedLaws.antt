@@ -5,7 +5,7 @@ use mathlib.Core.Bool.{Bool, true, false, cond}
 use mathlib.Core.List.{List}
 use mathlib.Core.Path.{_≡_, refl, sym, ap, _∙_}
 use native.Mathlib.Omega.{arith}
-use lib.Dec.{eqb}
+use borrow.Author.Tests.{ne-eqb}
 use lib.ListN.{length, getD}
 use lib.Seq.{ext-getD}
 use Rattle.rules.specs.Orders.{Step, Block}
@@ -71,9 +71,9 @@ at l i = getD l i 0
 name-placed : (place : List ℕ) (name : ℕ) → placedName place name ≡ other-order.placedName (at place) name
 unfolding placedName
 name-placed place zero = refl
-name-placed place (suc k) = refl
+name-placed place (suc k) = let same : suc k - 1 ≡ k = omega arith in rw (ne-eqb (suc k) 0 (λ z. omega arith), same) refl
 
-module _ {day : Day} {p rest : ℕ → ℕ} {t : Tables} (known : Known day p rest t) {order place other : List ℕ}
+module _ {day : Day} {p rest : ℕ → ℕ} {t : Tables} (known : Known day p rest t) {order place : List ℕ}
     (is : IsOrderOf (t .blocks) (t .count) order place) where
   -- the order tested is an order of the day's blocks
   order-of : IsOrder (length (day .blocks)) (at order) (at place)
@@ -86,7 +86,7 @@ module _ {day : Day} {p rest : ℕ → ℕ} {t : Tables} (known : Known day p re
   reached-same : (h : ℕ) → lastReached (rearranged (at order) day) h ≡ lastReached day h
   reached-same h = rw (sum-rearranged (at order) (at place) day order-of (sells h), sum-rearranged (at order) (at place) day order-of (buys h))
 
-  module _ (columns : Reordered (t .count) order place (t .blocks) other) where
+  module _ {other : List ℕ} (columns : Reordered (t .count) order place (t .blocks) other) where
     -- the block at place j and its columns
     shown-there : (j : ℕ) → j < t .count → Shown (rearranged (at order) day) p other j
     shown-there j k =
@@ -163,7 +163,7 @@ module _ {day : Day} {p rest : ℕ → ℕ} {t : Tables} (known : Known day p re
         (decisions-long (t .count) numbered ∙ sym (length-by false (at place) (t .count) (decisions (t .count) set))) (λ i k.
         let inside : i < t .count = omega (arith, decisions-long (t .count) numbered) in
         bits-at (t .count) numbered i inside
-        ∙ rw (by .bits i inside)
+        ∙ (rw (by .bits i inside))
         ∙ sym (at-by false (at place) (t .count) (decisions (t .count) set) i inside ∙ bits-at (t .count) set (at place i) (is .placeIn i inside))))
 
     module _ (rise : NumbersRise 0 (day .blocks))

@@ -4,17 +4,17 @@ ghost use mathlib.Core.Path.{_≡_};
 ghost use Rattle.places.specs.Steps.{stepsAt};
 ghost use Rattle.search.specs.Tables.{tablesOf};
 ghost use Rattle.passes.specs.Passes.{Given, FoundIn};
+use crate::in_order::find_in_order;
 use crate::limits::FIRST_LIMIT;
 use crate::limits::LAST_BEFORE_GUESS;
 use crate::numbers::find_by_number;
 use crate::numbers::pass;
-use crate::ordered::find_in_order;
 use guess::guess;
 use search::Best;
 
+mod in_order; // passes in another order
 mod limits; // the limits of the passes
 mod numbers; // a pass, and passes by number
-mod ordered; // passes in another order
 
 // What the passes in another order give: the set that no other ties with, or no set, which has the limit 0; and the limit of the last of these passes.
 pub struct Ordered {

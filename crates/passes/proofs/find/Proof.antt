@@ -1,73 +1,62 @@
--- `search::find` meets its contract: a pass that finds a set has found the published one, and the last pass finds. Assumes nothing.
-use Prim.Native.Nat.{ℕ, _-_, _*_, _^_, _≤_, _<_}
-use lib.ListN.{getD}
-use native.Mathlib.Omega.{arith}
-use Rattle.places.specs.Layout.{lastLimit}
-use Rattle.guess.specs.Guess.{mostGuess}
-use Rattle.search.proofs.PassLaws.{root-fits, pass-is, pass-found}
 use borrow.Author.Needs.{needs}
-use Rattle.search.proofs.find.Statement.{statement}
-use Rattle.search.proofs.find.Tie as tie
+use Rattle.passes.proofs.find.Statement.{statement}
+use Rattle.passes.proofs.find.Tie as tie
+use Rattle.passes.proofs.find.Reads as reads
+use Rattle.passes.proofs.find.Lts as lts
+use Rattle.guess.proofs.guess.Reads as guess-reads
+use Rattle.passes.proofs.in_order.find_in_order.Reads as find-in-order-reads
+use Rattle.passes.proofs.numbers.find_by_number.Reads as find-by-number-reads
+use Rattle.passes.proofs.numbers.pass.Reads as pass-reads
 
 abbrev Inv-loop : tie.InvT-loop
-Inv-loop low gap hours blocks sides prices quantities ends count day root limit₀ guessed₀ limit guessed = (1 ≤ limit) × (limit ≤ (2 * lastLimit)) × (guessed ≤ mostGuess)
+Inv-loop unit-prices gap hours blocks sides prices quantities ends count limit₀ limit = ?
 
 abbrev μ-loop : tie.MeasureT-loop
-μ-loop low gap hours blocks sides prices quantities ends count day root limit₀ guessed₀ limit guessed = (2 * lastLimit) - limit
+μ-loop unit-prices gap hours blocks sides prices quantities ends count limit₀ limit = ?
 
--- the start behind the loop
-abbrev start : tie.At-loop Inv-loop μ-loop → tie.Start Inv-loop μ-loop
-start c = c .before .before .before .before .before .before .before .before .before
-
--- the elements of the blocks' list and of the gaps are numbers of 32 bits
-blocks-fit : (c : tie.At-loop Inv-loop μ-loop) (i : ℕ) → getD (start c .args .blocks .now) i 0 < 2 ^ 32
-blocks-fit c i = omega (arith, c .before .before .before .before .before .shared-slice-known4 .given i)
-
-gaps-fit : (c : tie.At-loop Inv-loop μ-loop) (i : ℕ) → getD (start c .args .gap .now) i 0 < 2 ^ 32
-gaps-fit c i = omega (arith, c .before .before .before .before .before .before .before .shared-slice-known2 .given i)
-
+-- src/lib.rt:42:5
 loop-holds : tie.Need-loop-holds Inv-loop μ-loop
-loop-holds c = (omega arith, omega arith, omega arith)
+loop-holds c = ?
 
-explore-requires : tie.Need-explore-requires Inv-loop μ-loop
-explore-requires c κs =
-    let p = start (c .before) .pre in
-    (p .0, p .1, p .2, p .3, omega arith, root-fits _, omega arith)
+-- src/lib.rt:43:13
+pass-requires : tie.Need-pass-requires Inv-loop μ-loop
+pass-requires c κs = search needs
 
+-- src/lib.rt:57:13
 returns : tie.Need-returns Inv-loop μ-loop
-returns c =
-    let found = c .before .before in
-    let l = found .before .before in
-    λ day p rest same known turning.
-    pass-is (start l .pre .0 .few) (blocks-fit l) (gaps-fit l) known turning same (found .explore .ensures) (c .if1 .taken)
+returns c = ?
 
-guess-after-requires : tie.Need-guess-after-requires Inv-loop μ-loop
-guess-after-requires c κs =
-    let l = c .before .before .before .before in
-    (start l .pre .0, start l .pre .1, l .loop .inv .2)
+-- src/lib.rt:59:17
+mul-limit : tie.Need-mul-limit Inv-loop μ-loop
+mul-limit c = search needs
 
-limit-after-requires : tie.Need-limit-after-requires Inv-loop μ-loop
-limit-after-requires c κs =
-    let l = c .before .before .before .before .before in
-    (l .loop .inv .0, c .before .before .before .before .loop-test .taken, c .guess-after .ensures)
-
+-- src/lib.rt:42:5
 loop-less : tie.Need-loop-less Inv-loop μ-loop
-loop-less c = omega (arith, c .limit-after .ensures)
+loop-less c = search needs
 
+-- src/lib.rt:42:5
 loop-again : tie.Need-loop-again Inv-loop μ-loop
-loop-again c = (omega (arith, c .limit-after .ensures), c .limit-after .ensures .1, c .before .guess-after .ensures)
+loop-again c = ?
 
-explore-requires-2 : tie.Need-explore-requires-2 Inv-loop μ-loop
-explore-requires-2 c κs =
-    let p = start (c .before) .pre in
-    (p .0, p .1, p .2, p .3, omega arith, root-fits _, omega arith)
+-- src/lib.rt:61:9
+guess-requires : tie.Need-guess-requires Inv-loop μ-loop
+guess-requires c κs = search needs
 
+-- src/lib.rt:62:9
+find-in-order-requires : tie.Need-find-in-order-requires Inv-loop μ-loop
+find-in-order-requires c κs = search needs
+
+-- src/lib.rt:76:9
 returns-2 : tie.Need-returns-2 Inv-loop μ-loop
-returns-2 c =
-    let l = c .before .before in
-    λ day p rest same known turning.
-    pass-is (start l .pre .0 .few) (blocks-fit l) (gaps-fit l) known turning same (c .explore2 .ensures)
-    (pass-found (start l .pre .0 .few) (blocks-fit l) (gaps-fit l) known turning same (c .explore2 .ensures) (c .before .loop-test .left))
+returns-2 c = ?
+
+-- src/lib.rt:78:5
+find-by-number-requires : tie.Need-find-by-number-requires Inv-loop μ-loop
+find-by-number-requires c κs = search needs
+
+-- src/lib.rt:26:1
+returns-3 : tie.Need-returns-3 Inv-loop μ-loop
+returns-3 c = ?
 
 pub find-spec : {M : Type 1} → statement M
 find-spec =
@@ -76,11 +65,13 @@ find-spec =
     Inv-loop
     μ-loop
     loop-holds
-    explore-requires
+    pass-requires
     returns
-    guess-after-requires
-    limit-after-requires
+    mul-limit
     loop-less
     loop-again
-    explore-requires-2
-    returns-2)
+    guess-requires
+    find-in-order-requires
+    returns-2
+    find-by-number-requires
+    returns-3)

@@ -1,6 +1,6 @@
 -- `passes::numbers::pass` meets its contract: all blocks are explored from the root. Assumes nothing.
 use native.Mathlib.Omega.{arith}
-use Rattle.passes.proofs.PassLaws.{root-fits}
+use Rattle.passes.proofs.PassLaws.{root-fits, pass-from}
 use borrow.Author.Needs.{needs}
 use Rattle.passes.proofs.numbers.pass.Statement.{statement}
 use Rattle.passes.proofs.numbers.pass.Tie as tie
@@ -9,10 +9,12 @@ start-at-requires : tie.Need-start-at-requires
 start-at-requires c κs = search needs
 
 explore-requires : tie.Need-explore-requires
-explore-requires c κs = ?
+explore-requires c κs =
+    let p = c .before .before .before .before .before .before .before .before .before .pre in
+    (p .0 .0, p .0 .1, p .0 .2, p .0 .3, omega arith, root-fits _, p .1)
 
 returns : tie.Need-returns
-returns c = rw (← (c .before .start-at .ensures)) (c .explore .ensures)
+returns c = pass-from (c .before .start-at .ensures) (c .explore .ensures)
 
 pub pass-spec : {M : Type 1} → statement M
 pass-spec = tie.close (tie.spec start-at-requires explore-requires returns)
