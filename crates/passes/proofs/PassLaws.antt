@@ -1,7 +1,7 @@
 -- A pass over all blocks: one by number that finds a set has found the published one, and one with a large limit finds; one that looks for ties and finds a
 -- set, but no tie, has found a set that no other ties with. Assumes nothing.
 use Prim.Native.Nat.{ℕ, zero, suc, _+_, _-_, _*_, _/_, _^_, _≤_, _<_}
-use mathlib.Core.Path.{_≡_, refl, sym, subst, _∙_}
+use mathlib.Core.Path.{_≡_, refl, sym, ap, _∙_}
 use mathlib.Core.List.{List, []}
 use mathlib.Core.Bool.{false}
 use native.Mathlib.Omega.{arith}
@@ -51,6 +51,10 @@ root-branch day p = record {
 pub pass-from : {t : Tables} {steps : ℕ → List Step} {margin limit : ℕ} {start r : Best} → start ≡ startAt limit →
     ExploredFrom t steps (t .count) 0 margin root start r → Passed t steps margin limit r
 pass-from e explored = rw e at explored
+
+-- where no set is found, its limit of 0 says so
+pub none-found : {r : Best} {A : Type 0} → r ≡ startAt 0 → 0 < r .limit → A
+none-found e some = absurd (omega (arith, ap (λ (b : Best). b .limit) e))
 
 -- and none is out
 none-out : (k : ℕ) → isOut 0 k ≡ false

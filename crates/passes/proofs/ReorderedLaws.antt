@@ -41,13 +41,14 @@ use Rattle.rules.proofs.RearrangedLaws.{
   parent-within,
   parents-within,
 }
-use Rattle.places.specs.Blocks.{parentAt}
+use Rattle.places.specs.Blocks.{BlocksSized, parentAt}
 use Rattle.order.specs.Order.{placedName, IsOrderOf, Reordered, ByNumber}
 use Rattle.search.specs.Tables.{Tables}
-use Rattle.search.specs.Meaning.{AnHour, Shown, Known, Turning, DayOf, StepsAre, lastReached}
+use Rattle.search.specs.Meaning.{Sized, AnHour, Shown, Known, Turning, DayOf, StepsAre, lastReached}
 use Rattle.search.proofs.DecisionLaws.{decisions-long}
 use Rattle.search.specs.declared.Day as code-day
 use Rattle.search.specs.declared.Best.{Best}
+use Rattle.passes.specs.Passes.{FoundIn, AloneIn}
 
 -- the tables with other columns of the blocks
 abbrev pub withColumns : List ℕ → Tables → Tables
@@ -184,3 +185,28 @@ module _ {day : Day} {p rest : ℕ → ℕ} {t : Tables} (known : Known day p re
         pricesAre = λ h c. of .pricesAre h c ∙ rw there-again at (prices-rearranged (at order) (at place) day order-of (outcome day) h);
         tradedAre = λ h c. of .tradedAre h c ∙ rw there-again at (traded-rearranged (at order) (at place) day order-of (outcome day) h);
       }
+
+-- WHAT THE PASSES over the columns in an order have settled, by number
+module _ {t : Tables} {other : List ℕ} where
+  -- their tables are of the same sizes
+  pub sized-there : Sized t → BlocksSized other → Sized (withColumns other t)
+  sized-there sized blocks = record {
+    priceRows = sized .priceRows;
+    gapRows = sized .gapRows;
+    firstHours = sized .firstHours;
+    lastHours = sized .lastHours;
+    lastInPrices = sized .lastInPrices;
+    lastInGaps = sized .lastInGaps;
+    pricesFit = sized .pricesFit;
+    blocksFit = blocks;
+    changeFew = sized .changeFew;
+    few = sized .few;
+  }
+
+  -- the set that no other ties with there is the published one
+  pub settled-back : {steps : ℕ → List Step} {order place : List ℕ} (best : Best) {numbered : ℕ} → IsOrderOf (t .blocks) (t .count) order place →
+      Reordered (t .count) order place (t .blocks) other → ByNumber (t .count) place (best .set) numbered → AloneIn (withColumns other t) steps best →
+      FoundIn t steps record { limit = best .limit; set = numbered; day = best .day }
+  settled-back {order = order} best is columns by alone day p rest same known turning rise =
+      let a = alone (rearranged (at order) day) p rest same (known-there known is columns) record { falls = turning .falls; rises = turning .rises } in
+      (published-back known is by rise (a .0), by .fits, day-back known is by rise (a .0) (a .2))

@@ -1,62 +1,70 @@
+-- `passes::find` meets its contract: a pass by number that finds a set has found the published one; so have the passes in another order where no other set
+-- ties with it, and else the passes by number that go on. Assumes nothing.
+use Prim.Native.Nat.{_-_, _*_, _≤_}
+use native.Mathlib.Omega.{arith}
+use Rattle.places.specs.Layout.{lastLimit}
+use Rattle.passes.specs.Passes.{LimitHeld}
+use Rattle.passes.proofs.PassLaws.{pass-is}
 use borrow.Author.Needs.{needs}
 use Rattle.passes.proofs.find.Statement.{statement}
 use Rattle.passes.proofs.find.Tie as tie
-use Rattle.passes.proofs.find.Reads as reads
-use Rattle.passes.proofs.find.Lts as lts
-use Rattle.guess.proofs.guess.Reads as guess-reads
-use Rattle.passes.proofs.in_order.find_in_order.Reads as find-in-order-reads
-use Rattle.passes.proofs.numbers.find_by_number.Reads as find-by-number-reads
-use Rattle.passes.proofs.numbers.pass.Reads as pass-reads
 
 abbrev Inv-loop : tie.InvT-loop
-Inv-loop unit-prices gap hours blocks sides prices quantities ends count limit₀ limit = ?
+Inv-loop low gap hours blocks sides prices quantities ends count limit₀ limit = LimitHeld limit
 
 abbrev μ-loop : tie.MeasureT-loop
-μ-loop unit-prices gap hours blocks sides prices quantities ends count limit₀ limit = ?
+μ-loop low gap hours blocks sides prices quantities ends count limit₀ limit = 2 * lastLimit - limit
 
--- src/lib.rt:42:5
+-- the start behind the loop
+abbrev start : tie.At-loop Inv-loop μ-loop → tie.Start Inv-loop μ-loop
+start c = c .before .before .before .before .before .before .before .before .before
+
 loop-holds : tie.Need-loop-holds Inv-loop μ-loop
-loop-holds c = ?
+loop-holds c = (omega arith, omega arith)
 
--- src/lib.rt:43:13
 pass-requires : tie.Need-pass-requires Inv-loop μ-loop
-pass-requires c κs = search needs
+pass-requires c κs = (start (c .before) .pre, omega arith)
 
--- src/lib.rt:57:13
 returns : tie.Need-returns Inv-loop μ-loop
-returns c = ?
+returns c = λ day p rest same known turning rise. pass-is known rise turning same (c .before .before .pass .ensures) (c .if1 .taken)
 
--- src/lib.rt:59:17
 mul-limit : tie.Need-mul-limit Inv-loop μ-loop
 mul-limit c = search needs
 
--- src/lib.rt:42:5
 loop-less : tie.Need-loop-less Inv-loop μ-loop
-loop-less c = search needs
+loop-less c = let l = c .before .before .before .before in omega (arith, l .loop .inv, c .before .before .before .loop-test .taken)
 
--- src/lib.rt:42:5
 loop-again : tie.Need-loop-again Inv-loop μ-loop
-loop-again c = ?
+loop-again c = let l = c .before .before .before .before in (omega (arith, l .loop .inv), omega (arith, c .before .before .before .loop-test .taken))
 
--- src/lib.rt:61:9
 guess-requires : tie.Need-guess-requires Inv-loop μ-loop
-guess-requires c κs = search needs
+guess-requires c κs =
+    let p = start (c .before) .pre in
+    record {
+      priceRows = p .0 .priceRows;
+      gapRows = p .0 .gapRows;
+      pricesFit = p .0 .pricesFit;
+      hoursSize = p .1;
+      lastInPrices = p .0 .lastInPrices;
+      lastInGaps = p .0 .lastInGaps;
+      changeFew = p .0 .changeFew;
+      blocksFit = p .0 .blocksFit;
+      few = p .0 .few;
+    }
 
--- src/lib.rt:62:9
 find-in-order-requires : tie.Need-find-in-order-requires Inv-loop μ-loop
-find-in-order-requires c κs = search needs
+find-in-order-requires c κs = (start (c .before .before) .pre, c .guess .ensures)
 
--- src/lib.rt:76:9
 returns-2 : tie.Need-returns-2 Inv-loop μ-loop
-returns-2 c = ?
+returns-2 c = c .before .before .before .find-in-order .ensures .0 (c .if2 .taken)
 
--- src/lib.rt:78:5
 find-by-number-requires : tie.Need-find-by-number-requires Inv-loop μ-loop
-find-by-number-requires c κs = search needs
+find-by-number-requires c κs =
+    let o = c .before .before .before in
+    (start (o .before .before .before) .pre, o .before .guess .ensures, o .find-in-order .ensures .1)
 
--- src/lib.rt:26:1
 returns-3 : tie.Need-returns-3 Inv-loop μ-loop
-returns-3 c = ?
+returns-3 c = c .find-by-number .ensures
 
 pub find-spec : {M : Type 1} → statement M
 find-spec =

@@ -1,53 +1,53 @@
+-- `passes::in_order::settle` meets its contract: a pass that finds a set and no tie has found one that no other ties with. Assumes nothing.
+use Prim.Native.Nat.{_-_, _*_}
+use native.Mathlib.Omega.{arith}
+use Rattle.places.specs.Layout.{lastLimit}
+use Rattle.passes.specs.Passes.{LimitHeld}
+use Rattle.passes.proofs.PassLaws.{pass-alone, none-found}
 use borrow.Author.Needs.{needs}
 use Rattle.passes.proofs.in_order.settle.Statement.{statement}
 use Rattle.passes.proofs.in_order.settle.Tie as tie
-use Rattle.passes.proofs.in_order.settle.Reads as reads
-use Rattle.passes.proofs.in_order.settle.Lts as lts
-use Rattle.passes.proofs.limits.limit_after.Reads as limit-after-reads
-use Rattle.passes.proofs.numbers.pass.Reads as pass-reads
-use Rattle.passes.proofs.numbers.start_at.Reads as start-at-reads
 
 abbrev Inv-loop : tie.InvT-loop
-Inv-loop unit-prices gap hours blocks sides prices quantities ends count guessed limit₀ limit = ?
+Inv-loop low gap hours blocks sides prices quantities ends count guessed limit₀ limit = LimitHeld limit
 
 abbrev μ-loop : tie.MeasureT-loop
-μ-loop unit-prices gap hours blocks sides prices quantities ends count guessed limit₀ limit = ?
+μ-loop low gap hours blocks sides prices quantities ends count guessed limit₀ limit = 2 * lastLimit - limit
 
--- src/in_order.rt:42:9
+-- the start behind the loop
+abbrev start : tie.At-loop Inv-loop μ-loop → tie.Start Inv-loop μ-loop
+start c = c .before .before .before .before .before .before .before .before .before .before
+
 limit-after-requires : tie.Need-limit-after-requires Inv-loop μ-loop
 limit-after-requires c κs = search needs
 
--- src/in_order.rt:43:5
 loop-holds : tie.Need-loop-holds Inv-loop μ-loop
-loop-holds c = ?
+loop-holds c = (omega (arith, c .limit-after .ensures), c .limit-after .ensures .1)
 
--- src/in_order.rt:44:13
 pass-requires : tie.Need-pass-requires Inv-loop μ-loop
-pass-requires c κs = search needs
+pass-requires c κs = (start (c .before) .pre .0, omega arith)
 
--- src/in_order.rt:58:13
 returns : tie.Need-returns Inv-loop μ-loop
-returns c = ?
+returns c =
+    let passed = c .before .before in
+    (λ some day p rest same known turning. pass-alone known turning same (passed .pass .ensures) (c .if1 .taken) some, passed .before .before .loop .inv)
 
--- src/in_order.rt:63:9
 limit-after-requires-2 : tie.Need-limit-after-requires-2 Inv-loop μ-loop
-limit-after-requires-2 c κs = search needs
+limit-after-requires-2 c κs =
+    let l = c .before .before .before .before in
+    (l .loop .inv .0, c .before .before .before .loop-test .taken, start l .pre .1, omega arith)
 
--- src/in_order.rt:43:5
 loop-less : tie.Need-loop-less Inv-loop μ-loop
-loop-less c = search needs
+loop-less c = omega (arith, c .limit-after2 .ensures)
 
--- src/in_order.rt:43:5
 loop-again : tie.Need-loop-again Inv-loop μ-loop
-loop-again c = ?
+loop-again c = (omega (arith, c .limit-after2 .ensures), c .limit-after2 .ensures .1)
 
--- src/in_order.rt:65:9
 start-at-requires : tie.Need-start-at-requires Inv-loop μ-loop
 start-at-requires c κs = search needs
 
--- src/in_order.rt:25:1
 returns-2 : tie.Need-returns-2 Inv-loop μ-loop
-returns-2 c = ?
+returns-2 c = (none-found (c .start-at .ensures), c .before .before .loop .inv)
 
 pub settle-spec : {M : Type 1} → statement M
 settle-spec =
