@@ -1,6 +1,6 @@
 -- THE COLUMNS IN AN ORDER: the six that are copied, number after number; the parents and twins, place after place; the rows, number after number; and that
 -- all together they are the blocks in that order. Assumes nothing.
-use Prim.Native.Nat.{ℕ, zero, suc, _+_, _-_, _*_, _/_, _%_, _≤_, _<_}
+use Prim.Native.Nat.{ℕ, _+_, _-_, _*_, _/_, _%_, _^_, _≤_, _<_}
 use mathlib.Core.Path.{_≡_, refl, sym, ap, _∙_}
 use mathlib.Core.List.{List}
 use native.Mathlib.Omega.{arith}
@@ -11,10 +11,10 @@ use lib.ListN.{length, getD, set, replicate, length-set}
 use lib.Seq.{getD-set-same, getD-set-other}
 use Rattle.book.specs.Bounds.{mostBlocks}
 use Rattle.orders.proofs.ColumnLaws.{zeros}
-use Rattle.places.specs.Layout.{hourPlaces, mostAdded, sideColumn, hoursColumn, quantityColumn, limitColumn, againstColumn, gainColumn, parentColumn, aheadColumn, behindColumn, rowsColumn, blockListSize}
+use Rattle.places.specs.Layout.{hourPlaces, mostAdded, parentColumn, aheadColumn, behindColumn, rowsColumn, blockListSize}
 use Rattle.places.specs.Blocks.{parentAt, aheadAt, behindAt, rowQuantity, BlocksSized}
 use Rattle.places.proofs.NumberLaws.{below-next}
-use Rattle.order.specs.Order.{EachBelow, placedName, IsOrderOf, Reordered}
+use Rattle.order.specs.Order.{Words, placedName, IsOrderOf, Reordered}
 use Rattle.order.specs.Written.{earlierName, columnNumber, ColumnsIn, LinksIn, RowsIn}
 use Rattle.order.proofs.NameLaws.{earlier-le, earlier-is}
 
@@ -24,19 +24,30 @@ module _ (count : ℕ) (order blocks : List ℕ) where
     pub inside : k ≤ parentColumn
     pub size : length r ≡ blockListSize
     pub done : (i : ℕ) → i < k → i % mostBlocks < count → getD r i 0 ≡ columnNumber order blocks i
+    pub empty : (i : ℕ) → i < k → count ≤ i % mostBlocks → getD r i 0 ≡ 0
     pub none : (i : ℕ) → k ≤ i → getD r i 0 ≡ 0
 
   pub columns-start : ColumnsTo 0 (replicate blockListSize 0)
-  columns-start = record { inside = omega arith; size = refl; done = λ i a. absurd (omega arith); none = λ i a. zeros blockListSize i }
+  columns-start = record {
+    inside = omega arith;
+    size = refl;
+    done = λ i a. absurd (omega arith);
+    empty = λ i a. absurd (omega arith);
+    none = λ i a. zeros blockListSize i;
+  }
 
   -- one of a place that is taken is copied
-  pub columns-next : (k : ℕ) (r : List ℕ) → ColumnsTo k r → k < parentColumn → ColumnsTo (k + 1) (set r k (columnNumber order blocks k))
-  columns-next k r c below = record {
+  pub columns-next : (k : ℕ) (r : List ℕ) → ColumnsTo k r → k < parentColumn → k % mostBlocks < count →
+      ColumnsTo (k + 1) (set r k (columnNumber order blocks k))
+  columns-next k r c below taken = record {
     inside = omega arith;
     size = rw length-set (c .size);
     done = λ i a. below-next (λ i. i % mostBlocks < count → getD (set r k (columnNumber order blocks k)) i 0 ≡ columnNumber order blocks i) k i
         (λ b t. getD-set-other r k i (columnNumber order blocks k) 0 (λ e. omega arith) ∙ c .done i b t)
         (λ t. getD-set-same r k (columnNumber order blocks k) 0 (omega (arith, c .size))) (rw add-one at a);
+    empty = λ i a. below-next (λ i. count ≤ i % mostBlocks → getD (set r k (columnNumber order blocks k)) i 0 ≡ 0) k i
+        (λ b t. getD-set-other r k i (columnNumber order blocks k) 0 (λ e. omega arith) ∙ c .empty i b t)
+        (λ t. absurd (omega arith)) (rw add-one at a);
     none = λ i a. getD-set-other r k i (columnNumber order blocks k) 0 (λ e. omega arith) ∙ c .none i (omega arith);
   }
 
@@ -47,11 +58,18 @@ module _ (count : ℕ) (order blocks : List ℕ) where
     size = c .size;
     done = λ i a. below-next (λ i. i % mostBlocks < count → getD r i 0 ≡ columnNumber order blocks i) k i
         (λ b t. c .done i b t) (λ t. absurd (omega arith)) (rw add-one at a);
+    empty = λ i a. below-next (λ i. count ≤ i % mostBlocks → getD r i 0 ≡ 0) k i
+        (λ b t. c .empty i b t) (λ t. c .none k (omega arith)) (rw add-one at a);
     none = λ i a. c .none i (omega arith);
   }
 
   pub columns-all : (k : ℕ) (r : List ℕ) → ColumnsTo k r → parentColumn ≤ k → ColumnsIn count order blocks r
-  columns-all k r c all = record { size = c .size; columns = λ i a t. c .done i (omega arith) t; none = λ i a. c .none i (omega (arith, c .inside)) }
+  columns-all k r c all = record {
+    size = c .size;
+    columns = λ i a t. c .done i (omega arith) t;
+    empty = λ i a t. c .empty i (omega arith) t;
+    none = λ i a. c .none i (omega (arith, c .inside));
+  }
 
 -- THE PARENTS AND TWINS, place after place
 module _ (count : ℕ) (order place blocks before : List ℕ) where
@@ -214,12 +232,12 @@ module _ (blocks : List ℕ) (count : ℕ) (order place columns linked r : List 
     | yes out ↦ let none = rows .rest (rowsColumn + hourPlaces * i + (h - 1)) (omega arith) ∙ links .rows (rowsColumn + hourPlaces * i + (h - 1)) (omega arith)
         ∙ copied .none (rowsColumn + hourPlaces * i + (h - 1)) (omega arith) in omega (arith, none)
     | no more ↦
-      let less : hourPlaces * i + (h - 1) < hourPlaces * count = lt-of-not-le more in
-      let j = (hourPlaces * i + (h - 1)) / hourPlaces in
-      let g = (hourPlaces * i + (h - 1)) % hourPlaces + 1 in
-      let same : rowsColumn + hourPlaces * j + (g - 1) ≡ rowsColumn + hourPlaces * i + (h - 1) = omega arith in
-      let is = rows .rowIs j g (omega arith) (omega arith) (omega arith) in
-      omega (arith, ap (λ k. getD r k 0) same, is, sized .rowsFit (getD order j 0) g)
+        let less : hourPlaces * i + (h - 1) < hourPlaces * count = lt-of-not-le more in
+        let j = (hourPlaces * i + (h - 1)) / hourPlaces in
+        let g = (hourPlaces * i + (h - 1)) % hourPlaces + 1 in
+        let same : rowsColumn + hourPlaces * j + (g - 1) ≡ rowsColumn + hourPlaces * i + (h - 1) = omega arith in
+        let is = rows .rowIs j g (omega arith) (omega arith) (omega arith) in
+        omega (arith, ap (λ k. getD r k 0) same, is, sized .rowsFit (getD order j 0) g)
   ]
 
   -- its parent stands before it, or it has none
@@ -234,14 +252,57 @@ module _ (blocks : List ℕ) (count : ℕ) (order place columns linked r : List 
   twins-fit i k = elim (decLe count i) [
     | yes out ↦ (omega (arith, ahead-is i k, links .none i out k .1), omega (arith, behind-is i k, links .none i out k .2))
     | no more ↦
-      let less : i < count = lt-of-not-le more in (
-        omega (arith, ahead-is i k, links .aheadIs i less, earlier-le place count i (aheadAt blocks (getD order i 0))),
-        omega (arith, behind-is i k, links .behindIs i less, earlier-le place count i (behindAt blocks (getD order i 0))),
-      )
+        let less : i < count = lt-of-not-le more in (
+          omega (arith, ahead-is i k, links .aheadIs i less, earlier-le place count i (aheadAt blocks (getD order i 0))),
+          omega (arith, behind-is i k, links .behindIs i less, earlier-le place count i (behindAt blocks (getD order i 0))),
+        )
   ]
 
   pub reordered-sized : BlocksSized r
   reordered-sized = record { columns = rows .size; rowsFit = row-fits; parentsFit = parent-fits; twinsFit = twins-fit }
+
+  -- its numbers have 32 bits, as those of the blocks have: those of the six columns
+  six-fit : Words blocks → (k : ℕ) → k < parentColumn → getD r k 0 < 2 ^ 32
+  six-fit words k below = elim (decLe count (k % mostBlocks)) [
+    | yes out ↦ omega (arith, rows .same k (omega arith), links .columns k below, copied .empty k below out)
+    | no more ↦
+        let taken : k % mostBlocks < count = lt-of-not-le more in
+        let at = k - k % mostBlocks + getD order (k % mostBlocks) 0 in
+        omega (arith, rows .same k (omega arith), links .columns k below, copied .columns k below taken, words at)
+  ]
+
+  -- of the parents and twins
+  links-fit : (k : ℕ) → parentColumn ≤ k → k < rowsColumn → getD r k 0 < 2 ^ 32
+  links-fit k from to = elim (decLe aheadColumn k) [
+    | yes twins ↦ elim (decLe behindColumn k) [
+      | yes after ↦
+          let at : behindColumn + (k - behindColumn) ≡ k = omega arith in
+          omega (arith, ap (λ n. getD r n 0) at, twins-fit (k - behindColumn) (omega arith) .1)
+      | no more ↦
+          let below : k < behindColumn = lt-of-not-le more in
+          let at : aheadColumn + (k - aheadColumn) ≡ k = omega arith in
+          omega (arith, ap (λ n. getD r n 0) at, twins-fit (k - aheadColumn) (omega arith) .0)
+    ]
+    | no more ↦
+        let below : k < aheadColumn = lt-of-not-le more in
+        let at : parentColumn + (k - parentColumn) ≡ k = omega arith in
+        omega (arith, ap (λ n. getD r n 0) at, parent-fits (k - parentColumn) (omega arith))
+  ]
+
+  -- and of the rows
+  rows-fit : (k : ℕ) → rowsColumn ≤ k → getD r k 0 < 2 ^ 32
+  rows-fit k from =
+      let at : rowsColumn + hourPlaces * 0 + ((k - rowsColumn + 1) - 1) ≡ k = omega arith in
+      omega (arith, ap (λ n. getD r n 0) at, row-fits 0 (k - rowsColumn + 1))
+
+  pub reordered-words : Words blocks → Words r
+  reordered-words words k = elim (decLe parentColumn k) [
+    | yes from ↦ elim (decLe rowsColumn k) [
+      | yes in-rows ↦ rows-fit k in-rows
+      | no more ↦ links-fit k from (lt-of-not-le more)
+    ]
+    | no more ↦ six-fit words k (lt-of-not-le more)
+  ]
 
   pub reordered-is : Reordered count order place blocks r
   reordered-is = record {

@@ -1,7 +1,7 @@
 -- BLOCKS NAMED BY THEIR PLACES: what a name comes to, and a twin's where it stands before a place. Assumes nothing.
 use Prim.Native.Nat.{ℕ, zero, suc, _-_, _≤_, _<_}
 use mathlib.Core.Bool.{true, false, _&&_}
-use mathlib.Core.Path.{_≡_, refl, sym, ap, _∙_}
+use mathlib.Core.Path.{_≡_, refl, ap}
 use mathlib.Core.List.{List}
 use native.Mathlib.Omega.{arith}
 use lib.Dec.{leb}
@@ -35,7 +35,8 @@ earlier-behind place count j name behind =
     by-test (λ t. 0 ≡ when (t && leb (placedName place name) j) (placedName place name)) (leb name count) (λ _. rw behind) (λ _. refl)
 
 -- one that stands before the place keeps its name
-pub earlier-kept : (place : List ℕ) (count j name : ℕ) → name ≤ count → leb (placedName place name) j ≡ true → placedName place name ≡ earlierName place count j name
+pub earlier-kept : (place : List ℕ) (count j name : ℕ) → name ≤ count → leb (placedName place name) j ≡ true →
+    placedName place name ≡ earlierName place count j name
 unfolding earlierName
 earlier-kept place count j name few before = rw (le-leb name count few, before)
 
@@ -47,7 +48,8 @@ earlier-le place count j name =
     (λ e. leb-true (placedName place name) j (both (leb name count) (leb (placedName place name) j) e .1)) (λ _. omega arith)
 
 -- and in an order the block at that place is the one that was named
-pub earlier-is : {blocks : List ℕ} {count : ℕ} {order place : List ℕ} → IsOrderOf blocks count order place → (j name a : ℕ) → earlierName place count j name ≡ suc a →
+pub earlier-is : {blocks : List ℕ} {count : ℕ} {order place : List ℕ} → IsOrderOf blocks count order place → (j name a : ℕ) →
+    earlierName place count j name ≡ suc a →
     (a < j) × (name ≡ suc (getD order a 0))
 unfolding earlierName
 earlier-is {blocks} {count} {order} {place} of j name a =

@@ -49,7 +49,7 @@ module _ (blocks : List ℕ) (count : ℕ) (order place : List ℕ) where
         lt-ltb (getD place j 0) count (s .placeIn),
         eq-eqb (getD place (getD order j 0) 0) j (s .there),
         eq-eqb (getD order (getD place j 0) 0) j (s .back),
-        le-leb (placedName place (parentAt blocks (getD order j 0))) j (s .parentBefore)
+        le-leb (placedName place (parentAt blocks (getD order j 0))) j (s .parentBefore),
       )
 
   -- where a number is not below count, the tests fail; else they are those that lead back
@@ -61,7 +61,8 @@ module _ (blocks : List ℕ) (count : ℕ) (order place : List ℕ) where
   unfolding standsAt
   place-out j less more = rw (lt-ltb (getD order j 0) count less, le-ltb (getD place j 0) count more)
 
-  pub both-in : (j : ℕ) (before : Bool) → getD order j 0 < count → getD place j 0 < count → before ≡ leb (placedName place (parentAt blocks (getD order j 0))) j →
+  pub both-in : (j : ℕ) (before : Bool) → getD order j 0 < count → getD place j 0 < count →
+      before ≡ leb (placedName place (parentAt blocks (getD order j 0))) j →
       ((eqb (getD place (getD order j 0) 0) j && eqb (getD order (getD place j 0) 0) j) && before) ≡ standsAt blocks count order place j
   unfolding standsAt
   both-in j before a b e = rw (lt-ltb (getD order j 0) count a, lt-ltb (getD place j 0) count b, e)

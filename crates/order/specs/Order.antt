@@ -13,6 +13,10 @@ use Rattle.places.specs.Blocks.{sideAt, hoursAt, quantityAt, limitAt, againstAt
 abbrev pub EachBelow : (n bound : ℕ) (l : List ℕ) → Type 0
 EachBelow n bound l = (i : ℕ) → i < n → getD l i 0 < bound
 
+-- Every number of a list is one of 32 bits.
+abbrev pub Words : List ℕ → Type 0
+Words l = (i : ℕ) → getD l i 0 < 2 ^ 32
+
 -- A block's name, its number and 1 or 0 for none, as a name by its place: its place and 1, or 0.
 unfoldable pub placedName : (place : List ℕ) (name : ℕ) → ℕ
 placedName place name = cond (eqb name 0) 0 (suc (getD place (name - 1) 0))

@@ -34,10 +34,11 @@ earlierName place count j name = when (leb name count && leb (placedName place n
 abbrev pub columnNumber : (order blocks : List ℕ) (k : ℕ) → ℕ
 columnNumber order blocks k = getD blocks (k - k % mostBlocks + getD order (k % mostBlocks) 0) 0
 
--- The six columns of the first count places, and nothing behind them yet.
+-- The six columns of the first count places, and nothing else yet.
 pub record ColumnsIn (count : ℕ) (order blocks r : List ℕ) : Type 0 where
   pub size : length r ≡ blockListSize
   pub columns : (k : ℕ) → k < parentColumn → k % mostBlocks < count → getD r k 0 ≡ columnNumber order blocks k
+  pub empty : (k : ℕ) → k < parentColumn → count ≤ k % mostBlocks → getD r k 0 ≡ 0
   pub none : (k : ℕ) → parentColumn ≤ k → getD r k 0 ≡ 0
 
 -- The parents and twins of the first count places stand, by their places, and no others; all else is as it was.

@@ -1,9 +1,8 @@
 // The columns and rows of the blocks in an order.
-ghost use mathlib.Core.Path.{_≡_};
 ghost use Prim.Native.Nat.{_≤_};
 ghost use Rattle.book.specs.Bounds.{mostBlocks};
 ghost use Rattle.places.specs.Blocks.{BlocksSized};
-ghost use Rattle.order.specs.Order.{EachBelow, IsOrderOf, Reordered};
+ghost use Rattle.order.specs.Order.{EachBelow, Words, IsOrderOf, Reordered};
 ghost use Rattle.order.specs.Written.{ColumnsIn, LinksIn, RowsIn};
 use crate::names::earlier_name;
 use crate::names::placed_name;
@@ -86,7 +85,7 @@ pub fn reordered(
     count: usize,
 ) -> [u32; BLOCK_LIST]
     requires { ⌜ BlocksSized (now blocks) × (count ≤ mostBlocks) × IsOrderOf (now blocks) count order place ⌝ }
-    ensures { λ r. ⌜ BlocksSized r × Reordered count order place (now (blocks .entry)) r ⌝ }
+    ensures { λ r. ⌜ BlocksSized r × Reordered count order place (now (blocks .entry)) r × Words r ⌝ }
 {
     let columns = columns_in(blocks, order, count);
     let linked = with_links(columns, blocks, order, place, count);

@@ -58,7 +58,7 @@ loop-again c =
     let turn = c .before in
     let loop = turn .before in
     ⊎-elim
-    (λ w. rw (w .2) (columns-next _ _ _ _ _ (loop .loop .inv) (turn .loop-test .taken)))
+    (λ w. rw (w .2) (columns-next _ _ _ _ _ (loop .loop .inv) (turn .loop-test .taken) (w .0 .taken)))
     (λ w. rw (w .1) (columns-skip _ _ _ _ _ (loop .loop .inv) (turn .loop-test .taken) (w .0 .left)))
     (c .if1 .came)
 

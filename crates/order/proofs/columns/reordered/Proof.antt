@@ -1,6 +1,6 @@
 -- `order::columns::reordered` meets its contract. Assumes nothing.
 use native.Mathlib.Omega.{arith}
-use Rattle.order.proofs.ColumnLaws.{reordered-sized, reordered-is}
+use Rattle.order.proofs.ColumnLaws.{reordered-sized, reordered-is, reordered-words}
 use borrow.Author.Needs.{needs}
 use Rattle.order.proofs.columns.reordered.Statement.{statement}
 use Rattle.order.proofs.columns.reordered.Tie as tie
@@ -22,10 +22,14 @@ returns : tie.Need-returns
 returns c =
     let links = c .before in
     let columns = links .before in
-    let pre = columns .before .before .pre in
-    (
-      reordered-sized _ _ _ _ _ _ _ (pre .0) (pre .1) (pre .2) (columns .columns-in .ensures) (links .with-links .ensures) (c .with-rows .ensures),
-      reordered-is _ _ _ _ _ _ _ (pre .0) (pre .1) (pre .2) (columns .columns-in .ensures) (links .with-links .ensures) (c .with-rows .ensures),
+    let known = columns .before in
+    let pre = known .before .pre in
+    let copied = columns .columns-in .ensures in
+    let linked = links .with-links .ensures in
+    let rows = c .with-rows .ensures in (
+      reordered-sized _ _ _ _ _ _ _ (pre .0) (pre .1) (pre .2) copied linked rows,
+      reordered-is _ _ _ _ _ _ _ (pre .0) (pre .1) (pre .2) copied linked rows,
+      reordered-words _ _ _ _ _ _ _ (pre .0) (pre .1) (pre .2) copied linked rows (λ k. omega (arith, known .shared-slice-known .given k)),
     )
 
 pub reordered-spec : {M : Type 1} → statement M

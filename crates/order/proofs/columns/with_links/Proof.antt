@@ -1,5 +1,5 @@
 -- `order::columns::with_links` meets its contract: the parents and twins at the places before j stand. Assumes nothing.
-use Prim.Native.Nat.{ℕ, _-_, _≤_, _<_}
+use Prim.Native.Nat.{ℕ, _-_, _<_}
 use native.Mathlib.Omega.{arith}
 use lib.ListN.{getD}
 use Rattle.book.specs.Bounds.{mostBlocks}
@@ -45,9 +45,10 @@ shared-slice-read-placed-name c = omega (arith, block-fits (c .before))
 placed-name-requires : tie.Need-placed-name-requires Inv-loop μ-loop
 placed-name-requires c κs =
     let turn = c .before in
-    let start = turn .before .before .before in
-    (omega (arith, start .pre .0 .parentsFit (block-at turn) (block-fits turn), block-fits turn),
-      omega (arith, start .pre .2 .parentsBefore (turn .before .loop .j) (turn .loop-test .taken), start .pre .1, turn .loop-test .taken))
+    let start = turn .before .before .before in (
+      omega (arith, start .pre .0 .parentsFit (block-at turn) (block-fits turn), block-fits turn),
+      omega (arith, start .pre .2 .parentsBefore (turn .before .loop .j) (turn .loop-test .taken), start .pre .1, turn .loop-test .taken),
+    )
 
 add-r : tie.Need-add-r Inv-loop μ-loop
 add-r c = search needs

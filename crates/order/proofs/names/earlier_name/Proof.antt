@@ -22,13 +22,14 @@ placed-name-requires : tie.Need-placed-name-requires
 placed-name-requires c κs =
     let start = c .before .before .before in
     let before : placedName (start .args .place) (start .args .name) ≤ start .args .j =
-        leb-true _ _ (sym (c .before .stands-before .ensures) ∙ not-false _ (c .if2 .left)) in
+    leb-true _ _ (sym (c .before .stands-before .ensures) ∙ not-false _ (c .if2 .left)) in
     (start .pre .0, omega (arith, start .pre .1))
 
 returns-3 : tie.Need-returns-3
 returns-3 c =
     let test = c .before in
-    c .placed-name .ensures ∙ earlier-kept _ _ _ _ (test .before .before .if1 .left) (sym (test .before .stands-before .ensures) ∙ not-false _ (test .if2 .left))
+    let few = test .before .before .if1 .left in
+    c .placed-name .ensures ∙ earlier-kept _ _ _ _ few (sym (test .before .stands-before .ensures) ∙ not-false _ (test .if2 .left))
 
 pub earlier-name-spec : {M : Type 1} → statement M
 earlier-name-spec =

@@ -1,5 +1,4 @@
 -- `order::names::stands_before` meets its contract. Assumes nothing.
-use Prim.Native.Nat.{_<_}
 use native.Mathlib.Omega.{arith}
 use Rattle.order.proofs.NameLaws.{name-none, name-some}
 use borrow.Author.Needs.{needs}

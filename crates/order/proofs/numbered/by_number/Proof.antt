@@ -2,7 +2,6 @@
 use Prim.Native.Nat.{_-_, _≤_}
 use mathlib.Core.Path.{_≡_}
 use native.Mathlib.Omega.{arith}
-use lib.ListN.{getD}
 use Rattle.order.proofs.NumberLaws.{numberedFrom, none-numbered, numbered-next, numbered-room, numbered-all}
 use borrow.Author.Needs.{needs}
 use Rattle.order.proofs.numbered.by_number.Statement.{statement}
