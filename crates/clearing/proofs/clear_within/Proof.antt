@@ -6,6 +6,7 @@ use lib.ListN.{length, getD}
 use Rattle.records.specs.Records.{edition, dayHours}
 use Rattle.book.proofs.Accepted.{day-hours}
 use Rattle.orders.proofs.HourLaws.{ends-fit}
+use Rattle.orders.proofs.LinkLaws.{links-stand}
 use Rattle.places.specs.Layout.{hourListSize}
 use Rattle.places.specs.Steps.{StepsSized}
 use Rattle.setup.specs.Setup.{ParentsOf}
@@ -134,7 +135,7 @@ publish-requires c κs =
     let h = s .pre .0 in
     let ready = m .prepare .ensures .1 _ _ (h .accepted) (edition-is m) (day-is m) (h .stepsAre) (h .blocksAre) (parents-are m) in
     let steps = columns-steps _ _ _ _ _ _ (h .stepsAre) (h .accepted) in
-    let is = best .find .ensures _ (ready .p) (ready .rest) steps (ready .known) (ready .turning) in
+    let is = best .find .ensures _ (ready .p) (ready .rest) steps (ready .known) (ready .turning) (links-stand _ (h .accepted) .numbers) in
     let e = m .before .before .before .before .before .before .before .before .before .before .before .record-count .ensures in
     publishable _ (h .accepted) _ _ _ _ _ _ (h .blocksAre) (is .2) (day-is m) e (omega (arith, h .buffer, e)) (omega (arith, ends-in s, size-records s)) (steps-in s)
 
@@ -154,7 +155,7 @@ returns c =
     let h = start m .pre .0 in
     let ready = m .prepare .ensures .1 _ _ (h .accepted) (edition-is m) (day-is m) (h .stepsAre) (h .blocksAre) (parents-are m) in
     let steps = columns-steps _ _ _ _ _ _ (h .stepsAre) (h .accepted) in
-    let is = best .find .ensures _ (ready .p) (ready .rest) steps (ready .known) (ready .turning) in
+    let is = best .find .ensures _ (ready .p) (ready .rest) steps (ready .known) (ready .turning) (links-stand _ (h .accepted) .numbers) in
     let e = m .before .before .before .before .before .before .before .before .before .before .before .record-count .ensures in
     c .before .before .publish .ensures _ (h .accepted) (day-is m) (h .stepsAre) (h .blocksAre) (is .0) (is .2) e
 
