@@ -6,7 +6,7 @@ mod large_stack;
 use auction_listing::books::{
     count, day_edges, edge_books, edition_edges, link_edges, linked_day, linked_days,
     reader_book_of, reader_book_on, shared_book_on, shift_edges, shifted_book_on, shifted_days,
-    small_book_of, small_book_on, step_limit_edges, worked_days, Dice, Shape, DAYS,
+    small_book_of, small_book_on, step_limit_edges, tied_book_on, worked_days, Dice, Shape, DAYS,
     DAYS_AND_EDITIONS, FAMILIES,
 };
 use auction_listing::paper::{self, result_length_for, Published};
@@ -163,6 +163,20 @@ fn the_twins_share_as_the_listing() {
             let (day, edition) = DAYS_AND_EDITIONS[seed as usize % DAYS_AND_EDITIONS.len()];
             let book = shared_book_on(day, edition, seed);
             let name = format!("shared_book_on({day}, {edition}, {seed})");
+            compare(&name, &book, result_length_for(&book), &mut space);
+        }
+    });
+}
+
+/// Books in which many sets are as good as each other.
+#[test]
+fn the_twins_settle_ties_as_the_listing() {
+    with_stack(|| {
+        let mut space = Workspace::deciding(DECIDING);
+        for seed in 0..count("BOOKS", 3_000) {
+            let (day, edition) = DAYS_AND_EDITIONS[seed as usize % DAYS_AND_EDITIONS.len()];
+            let book = tied_book_on(day, edition, seed);
+            let name = format!("tied_book_on({day}, {edition}, {seed})");
             compare(&name, &book, result_length_for(&book), &mut space);
         }
     });
