@@ -13,7 +13,7 @@ ghost use Rattle.pricing.specs.Answers.{answerFor, NetOf, hasHour, hourA
 use crate::blocks::trades_of;
 use crate::hour::answer_of;
 use book::Reading;
-use book::hours::is_counted;
+use fields::hours::is_counted;
 use book::read;
 use orders::blocks_of;
 use orders::layout::BLOCK_PLACES;
