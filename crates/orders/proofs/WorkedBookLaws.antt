@@ -10,7 +10,8 @@ use Rattle.rules.specs.Orders.{limits}
 use Rattle.records.specs.Records.{stepAt, blockAt, linkAt, linkRest, recordAt, hoursSet}
 use Rattle.chains.specs.Chains.{chainFrom, chains, isOn, stepOrder, blockOrder, linkOrder, links}
 use Rattle.fields.specs.Ranges.{stepFits, blockFits, stepInRange, blockInRange, recordInRange, outOfRange, linkInRange}
-use Rattle.chains.specs.Causes.{misplaced, broken, brokenOn, brokenChain, wrongFieldOn, wrongField, stray, strayRecord, ownedBy, wrongHours, uncounted, uncountedOn, isNumber, hasBlock, misnamed, wrongLink, isFor, stepsFor, moreStepsIn, moreSteps}
+use Rattle.chains.specs.Causes.{misplaced, broken, brokenOn, brokenChain, wrongFieldOn, wrongField, stray, strayRecord, ownedBy}
+use Rattle.chains.specs.Causes.{wrongHours, uncounted, uncountedOn, isNumber, hasBlock, misnamed, wrongLink, isFor, stepsFor, moreStepsIn, moreSteps}
 use Rattle.book.specs.Refusals.{wrongSize, linksTooEarly, wrongHead, tooManyOf, tooManyBlocks, tooManySteps, firstCause, ownCauses, refusal}
 use Rattle.fields.specs.Hours.{countedHours}
 use Rattle.rules.specs.Day.{weight, isCounted, sumTo, daySum}
