@@ -1,4 +1,4 @@
-// Written by `twin_source` from crates/book/src/links.rt.
+// Written by `twin_source` from crates/chains/src/links.rt.
 // Cause 10 (document 02, P6): a link that names a block not in the book, or whose parent's number is not below its child's. Assumes nothing.
 use crate::twin::by_value::records::Link;
 use crate::twin::by_value::records::first_block;

@@ -1,23 +1,19 @@
-// Written by `twin_source` from crates/book/src/ranges.rt.
-// The ranges of a record's fields (document 01, "The book in bytes"): cause 4 at one record, and the limits of an edition; cause 9 at one record
-// (document 02). Assumes nothing.
-use crate::twin::by_value::book::bounds::FEWEST_HOURS;
-use crate::twin::by_value::book::bounds::FIRST_BLOCK_QUANTITY;
-use crate::twin::by_value::book::bounds::FIRST_BLOCKS_OF_PORTFOLIO;
-use crate::twin::by_value::book::bounds::FIRST_EDITION;
-use crate::twin::by_value::book::bounds::LAST_PORTFOLIO;
-use crate::twin::by_value::book::bounds::MAX_PRICE;
-use crate::twin::by_value::book::bounds::MOST_STEP_QUANTITY;
-use crate::twin::by_value::book::bounds::NOTICE_BLOCK_QUANTITY;
-use crate::twin::by_value::book::bounds::NOTICE_BLOCKS_OF_PORTFOLIO;
-use crate::twin::by_value::book::hours::counted_hours;
-use crate::twin::by_value::book::hours::is_counted;
+// Written by `twin_source` from crates/fields/src/ranges.rt.
+// The ranges of a record's fields (document 01, "The book in bytes"): cause 4 at one record, and the limits of an edition. Assumes nothing.
+use crate::twin::by_value::fields::bounds::FEWEST_HOURS;
+use crate::twin::by_value::fields::bounds::FIRST_BLOCK_QUANTITY;
+use crate::twin::by_value::fields::bounds::FIRST_BLOCKS_OF_PORTFOLIO;
+use crate::twin::by_value::fields::bounds::FIRST_EDITION;
+use crate::twin::by_value::fields::bounds::LAST_PORTFOLIO;
+use crate::twin::by_value::fields::bounds::MAX_PRICE;
+use crate::twin::by_value::fields::bounds::MOST_STEP_QUANTITY;
+use crate::twin::by_value::fields::bounds::NOTICE_BLOCK_QUANTITY;
+use crate::twin::by_value::fields::bounds::NOTICE_BLOCKS_OF_PORTFOLIO;
 use crate::twin::by_value::records::Block;
 use crate::twin::by_value::records::LAST_HOUR;
 use crate::twin::by_value::records::LAST_SIDE;
 use crate::twin::by_value::records::Record;
 use crate::twin::by_value::records::Step;
-use crate::twin::by_value::records::day_hours;
 use crate::twin::by_value::records::edition_of;
 use crate::twin::by_value::records::has_link_rest;
 use crate::twin::by_value::records::hour_byte;
@@ -98,17 +94,5 @@ pub fn is_out_of_range(book: &[u8], i: u16) -> bool
         Record::Block(block) => !is_block_in_range(book, i, block),
         Record::Link(_) => !is_link_in_range(book, i),
         Record::Other => false,
-    }
-}
-
-// Whether record i is a step for an hour that does not count, or a block with fewer than two counted hours.
-pub fn is_uncounted(book: &[u8], i: u16) -> bool
-{
-    let day = day_hours(book);
-    let found = record_at(book, i);
-    match found {
-        Record::Step(step) => !is_counted(day, step.hour as u32),
-        Record::Block(block) => counted_hours(day, block.hours) < FEWEST_HOURS,
-        Record::Link(_) | Record::Other => false,
     }
 }

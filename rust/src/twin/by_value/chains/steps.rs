@@ -1,8 +1,8 @@
-// Written by `twin_source` from crates/book/src/steps.rt.
+// Written by `twin_source` from crates/chains/src/steps.rt.
 // Cause 11 (document 02, P8): more than 256 steps of a portfolio in one hour. Assumes nothing.
-use crate::twin::by_value::book::bounds::HOUR_NUMBERS;
-use crate::twin::by_value::book::bounds::MOST_STEPS_IN_HOUR;
-use crate::twin::by_value::book::bounds::PORTFOLIO_NUMBERS;
+use crate::twin::by_value::chains::bounds::HOUR_NUMBERS;
+use crate::twin::by_value::chains::bounds::MOST_STEPS_IN_HOUR;
+use crate::twin::by_value::chains::bounds::PORTFOLIO_NUMBERS;
 use crate::twin::by_value::records::first_step;
 use crate::twin::by_value::records::hour_byte;
 use crate::twin::by_value::records::next_of;

@@ -1,11 +1,10 @@
-// Written by `twin_source` from crates/book/src/chains.rt.
+// Written by `twin_source` from crates/chains/src/walks.rt.
 // The chains (document 01, "The book in bytes"): what belongs on each, and the walks along one, from its first record to the zero that ends it, for at
-// most R records. Assumes nothing.
-use crate::twin::by_value::book::Chain;
-use crate::twin::by_value::book::Surveyed;
-use crate::twin::by_value::book::bounds::PORTFOLIO_NUMBERS;
-use crate::twin::by_value::book::ranges::is_out_of_range;
-use crate::twin::by_value::book::ranges::is_uncounted;
+// most R records: causes 3 and 4, and the records of each portfolio, for 6. Assumes nothing.
+use crate::twin::by_value::chains::Chain;
+use crate::twin::by_value::chains::Surveyed;
+use crate::twin::by_value::chains::bounds::PORTFOLIO_NUMBERS;
+use crate::twin::by_value::fields::is_out_of_range;
 use crate::twin::by_value::records::BLOCK_KIND;
 use crate::twin::by_value::records::LINK_KIND;
 use crate::twin::by_value::records::STEP_KIND;
@@ -19,7 +18,7 @@ use crate::twin::by_value::records::portfolio_of;
 use crate::twin::by_value::records::record_count;
 
 // The index of a chain's first record.
-fn first_on(book: &[u8], chain: Chain) -> u16
+pub fn first_on(book: &[u8], chain: Chain) -> u16
 {
     match chain {
         Chain::Steps => first_step(book),
@@ -85,24 +84,6 @@ pub fn survey_of(book: &[u8], chain: Chain) -> Surveyed
         outside,
         length,
     }
-}
-
-// Cause 9 along a chain, whatever its day.
-pub fn is_uncounted_on(book: &[u8], chain: Chain) -> bool
-{
-    let mut left = record_count(book);
-    let mut i = first_on(book, chain);
-    while 0 < left {
-        if i == 0 {
-            return false;
-        }
-        if is_uncounted(book, i) {
-            return true;
-        }
-        i = next_of(book, i);
-        left -= 1;
-    }
-    false
 }
 
 // How many records of a chain each portfolio has.
