@@ -29,10 +29,10 @@ use Rattle.rules.proofs.Tests.{by-test}
 use Rattle.rules.proofs.HourSums.{daySum-le}
 use Rattle.rules.proofs.CashLaws.{over-same, over-append}
 use Rattle.records.specs.Records.{dayHours, sideByte, stepAt, blockAt, portfolio, firstStep}
-use Rattle.book.specs.Bounds.{portfolioNumbers}
-use Rattle.book.specs.Chains.{chain, stepOrder, blockOrder}
+use Rattle.chains.specs.Bounds.{portfolioNumbers}
+use Rattle.chains.specs.Chains.{chain, stepOrder, blockOrder}
 use Rattle.book.specs.Refusals.{Accepted}
-use Rattle.book.proofs.Members.{Each, each-map, each-place}
+use Rattle.chains.proofs.Members.{Each, each-map, each-place}
 use Rattle.book.proofs.Accepted.{StepRecord, BlockRecord, step-records, block-records}
 use Rattle.orders.specs.Bridge.{stepFrom, orderFrom, blockOn, ordersOf, dayFrom}
 use Rattle.orders.specs.Columns.{blockRecords, blockSideAt, BlockColumns}

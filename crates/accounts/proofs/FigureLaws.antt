@@ -17,7 +17,7 @@ use Rattle.rules.proofs.HourSums.{daySum-same, daySum-le, daySum-times, daySum-
 use Rattle.rules.proofs.BoundsLaws.{product-le}
 use Rattle.rules.proofs.FamilyBounds.{count-few}
 use Rattle.records.specs.Records.{dayHours, hourByte, holdsHour}
-use Rattle.book.specs.Hours.{countedHours}
+use Rattle.fields.specs.Hours.{countedHours}
 use Rattle.orders.specs.Columns.{blockHoursAt}
 use Rattle.places.specs.Layout.{mostCounted, mostLimit}
 use Rattle.places.specs.Hours.{sumOfHours, timesIn, countedColumn, ofHour}

@@ -14,7 +14,7 @@ use Rattle.rules.proofs.Tests.{by-test}
 use Rattle.accounts.specs.Layout.{placeIn, columnCount}
 use Rattle.accounts.specs.Accounts.{among}
 use Rattle.accounts.specs.Postings.{shareOf, Posted, figure, account, OrdersPosted}
-use Rattle.book.specs.Bounds.{portfolioNumbers}
+use Rattle.chains.specs.Bounds.{portfolioNumbers}
 
 -- AN ACCOUNT'S ORDERS
 among-none : (q : ℕ) (f : Executed → ℕ) → overExecuted f (among q []) ≡ 0

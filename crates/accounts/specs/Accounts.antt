@@ -8,8 +8,8 @@ use lib.Dec.{eqb}
 use lib.ListN.{length, getD}
 use Rattle.rules.specs.Cash.{Executed, Cash, cashOf, ownedBy}
 use Rattle.records.specs.Records.{dayHours, sideByte, hourByte, portfolio, holdsHour}
-use Rattle.book.specs.Bounds.{portfolioNumbers}
-use Rattle.book.specs.Chains.{stepOrder}
+use Rattle.chains.specs.Bounds.{portfolioNumbers}
+use Rattle.chains.specs.Chains.{stepOrder}
 use Rattle.orders.specs.Columns.{blockRecords, blockSideAt, blockHoursAt, sideFor}
 use Rattle.result.specs.Result.{priceIn, rowIn}
 use Rattle.accounts.specs.Layout.{boughtColumn, soldColumn, paidColumn, receivedColumn, ordersColumn, placeIn, accountPlaces}

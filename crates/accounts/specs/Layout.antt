@@ -1,6 +1,6 @@
 -- WHERE THE ACCOUNTS HAVE WHAT, as in src/layout.rt: five columns in one list, each with a place for every portfolio. Definitions only. Assumes nothing.
 use Prim.Native.Nat.{ℕ, _+_, _*_}
-use Rattle.book.specs.Bounds.{portfolioNumbers}
+use Rattle.chains.specs.Bounds.{portfolioNumbers}
 
 -- The columns: quantity bought and sold, cash paid and received, and how many orders there are.
 abbrev pub boughtColumn : ℕ

@@ -11,7 +11,7 @@ use Rattle.rules.specs.Day.{changeHour, weight}
 use Rattle.rules.specs.Cash.{Executed, tradedBy, cashBy, overExecuted}
 use Rattle.records.specs.Layout.{lastHour}
 use Rattle.records.specs.Records.{dayHours, hourByte, portfolio}
-use Rattle.book.specs.Bounds.{portfolioNumbers}
+use Rattle.chains.specs.Bounds.{portfolioNumbers}
 use Rattle.places.specs.Hours.{DayPrices}
 use Rattle.gains.specs.Gains.{countedPricesIn}
 use Rattle.accounts.specs.Layout.{boughtColumn, soldColumn, paidColumn, receivedColumn, columnCount, totalsPlace, placeIn, accountPlaces}

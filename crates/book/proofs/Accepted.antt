@@ -10,32 +10,32 @@ use lib.Dec.{eqb, leb, ltb}
 use lib.ListN.{length}
 use Rattle.records.specs.Bytes.{nonzero}
 use Rattle.records.specs.Layout.{recordSize, headRestOffset, headRestSize, stepKind, blockKind, linkKind, lastSide, lastHour}
-use Rattle.book.specs.Bounds.{firstStepLimitEdition, hourNumbers, mostStepsInHour}
-use Rattle.book.specs.Bounds.{mostRecords, firstEdition, lastEdition, lastPortfolio, portfolioNumbers, mostStepQuantity, fewestHours, mostBlocks}
-use Rattle.book.specs.Tests.{within, someBelow, countIn, member}
+use Rattle.chains.specs.Bounds.{hourNumbers, mostStepsInHour, portfolioNumbers}
+use Rattle.book.specs.Bounds.{firstStepLimitEdition, mostRecords, firstEdition, lastEdition, mostBlocks}
+use Rattle.fields.specs.Bounds.{lastPortfolio, mostStepQuantity, fewestHours}
+use Rattle.fields.specs.Tests.{within, someBelow, countIn, member}
 use Rattle.rules.specs.Orders.{maxPrice, Limits, limits}
 use Rattle.rules.specs.Day.{springHours, autumnHours, isCounted}
 use Rattle.rules.proofs.HourSums.{all-counted}
 use Rattle.records.specs.Records.{recordCount, dayHours, edition, kind, sideByte, hourByte}
 use Rattle.records.specs.Records.{stepAt, blockAt, linkAt, linkRest, recordAt, hoursSet}
-use Rattle.book.specs.Chains.{chainFrom, firstOn, kindOn, chainOf, isOn, countOn, stepOrder, blockOrder, linkOrder, steps, blocks, links}
-use Rattle.book.specs.Refusals.{wrongSize, linksTooEarly, wrongHead, brokenChain, wrongFieldOn, wrongField, stray, strayRecord}
-use Rattle.book.specs.Refusals.{ownedBy, tooManyOf, tooManyBlocks}
-use Rattle.book.specs.Refusals.{uncounted, uncountedOn, wrongHours, hasBlock, misnamed, wrongLink, firstCause, ownCauses, refusal, Accepted}
-use Rattle.book.specs.Refusals.{stepsFor, tooManySteps}
-use Rattle.book.specs.Refusals.{stepFits, blockFits, stepInRange, blockInRange, linkInRange, recordInRange, outOfRange}
+use Rattle.chains.specs.Chains.{chainFrom, firstOn, kindOn, chainOf, isOn, countOn, stepOrder, blockOrder, linkOrder, steps, blocks, links}
+use Rattle.chains.specs.Causes.{brokenChain, wrongFieldOn, wrongField, stray, strayRecord, ownedBy}
+use Rattle.book.specs.Refusals.{wrongSize, linksTooEarly, wrongHead, tooManyOf, tooManyBlocks, firstCause, ownCauses, refusal, Accepted, tooManySteps}
+use Rattle.chains.specs.Causes.{uncounted, uncountedOn, wrongHours, hasBlock, misnamed, wrongLink, stepsFor}
+use Rattle.fields.specs.Ranges.{stepFits, blockFits, stepInRange, blockInRange, linkInRange, recordInRange, outOfRange}
 use Rattle.records.specs.declared.Step.{Step}
 use Rattle.records.specs.declared.Block.{Block}
 use Rattle.records.specs.declared.Link.{Link}
 use Rattle.records.specs.declared.Record.the-variants as record-of
-use Rattle.book.specs.declared.Chain.{Chain}
-use Rattle.book.specs.declared.Chain.the-variants as chain-of
-use Rattle.book.proofs.Laws.{or-left, or-right, and-left, and-right}
-use Rattle.book.proofs.Members.{Each, each-map, each-both, each-member, each-image, none-in, none-below, Distinct}
-use Rattle.book.proofs.Distinct.{Placed, placed, Rising, rising, distinct, apart, chain-positive, chain-short, chain-whole}
-use Rattle.book.proofs.Distinct.{on-some, on-none, unbroken, chains-fit, stray-short}
+use Rattle.chains.specs.declared.Chain.{Chain}
+use Rattle.chains.specs.declared.Chain.the-variants as chain-of
+use Rattle.chains.proofs.Laws.{or-left, or-right, and-left, and-right}
+use Rattle.chains.proofs.Members.{Each, each-map, each-both, each-member, each-image, none-in, none-below, Distinct}
+use Rattle.chains.proofs.Distinct.{Placed, placed, Rising, rising, distinct, apart, chain-positive, chain-short, chain-whole}
+use Rattle.chains.proofs.Distinct.{on-some, on-none, unbroken, chains-fit, stray-short}
 use Rattle.book.proofs.Refused.{bounds, count-bounds}
-use Rattle.book.proofs.StepCounts.{within-limit}
+use Rattle.book.proofs.StepLimits.{within-limit}
 
 -- A cause passed over does not hold
 passed : (holds : Bool) (n after : ℕ) → cond holds (suc n) after ≡ 0 → (holds ≡ false) × (after ≡ 0)

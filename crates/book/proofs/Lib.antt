@@ -1,11 +1,5 @@
 -- The laws that the functions' proofs and the layers above cite; each function's own proof stands in its folder.
-pub mod Laws
-pub mod HourLaws
-pub mod Members
-pub mod StepCounts
-pub mod Distinct
-pub mod Surveys
 pub mod Refused
+pub mod StepLimits
 pub mod Accepted
 pub mod RecordSums
-pub mod Cases

@@ -13,10 +13,10 @@ use Rattle.rules.specs.Hour.{when}
 use Rattle.rules.specs.Day.{sumTo}
 use Rattle.rules.proofs.Tests.{clash}
 use Rattle.rules.proofs.HourSums.{sumTo-in, sumTo-same, sumTo-add, sumTo-zero, sumTo-once}
-use Rattle.book.specs.Tests.{someIn, member}
-use Rattle.book.specs.Chains.{stepOrder, blockOrder, linkOrder}
+use Rattle.fields.specs.Tests.{someIn, member}
+use Rattle.chains.specs.Chains.{stepOrder, blockOrder, linkOrder}
 use Rattle.book.specs.Refusals.{Accepted}
-use Rattle.book.proofs.Members.{Each, each-map, Distinct}
+use Rattle.chains.proofs.Members.{Each, each-map, Distinct}
 use Rattle.book.proofs.Accepted.{steps-distinct, blocks-distinct, links-distinct, one-chain, link-only}
 use Rattle.book.proofs.Accepted.{StepRecord, BlockRecord, LinkRecord, step-records, block-records, link-records}
 

@@ -8,20 +8,22 @@ use native.Mathlib.Omega.{arith}
 use borrow.Author.Tests.{eq-eqb, ne-eqb, eqb-true, eqb-false, leb-true, not-false}
 use lib.Dec.{eqb, leb, ltb}
 use lib.ListN.{length}
-use Rattle.book.specs.Tests.{within, someBelow}
+use Rattle.fields.specs.Tests.{within, someBelow}
 use Rattle.records.specs.Layout.{recordSize}
 use Rattle.records.specs.Records.{recordCount}
-use Rattle.book.specs.Bounds.{mostRecords, portfolioNumbers, mostBlocks}
-use Rattle.book.specs.Chains.{countOn, stepOrder, blockOrder}
-use Rattle.book.specs.Refusals.{wrongSize, wrongHead, brokenOn, brokenChain, wrongFieldOn, wrongField, strayRecord, tooManyOf, tooManyBlocks}
-use Rattle.book.specs.Refusals.{wrongHours, wrongLink, tooManySteps, firstCause, ownCauses, refusal}
-use Rattle.book.specs.Passes.{surveyed, nextFound}
+use Rattle.chains.specs.Bounds.{portfolioNumbers}
+use Rattle.book.specs.Bounds.{mostRecords, mostBlocks}
+use Rattle.chains.specs.Chains.{countOn, stepOrder, blockOrder}
+use Rattle.chains.specs.Causes.{brokenOn, brokenChain, wrongFieldOn, wrongField, strayRecord, wrongHours, wrongLink}
+use Rattle.book.specs.Refusals.{wrongSize, wrongHead, tooManyOf, tooManyBlocks, tooManySteps, firstCause, ownCauses, refusal}
+use Rattle.chains.specs.Passes.{surveyed}
+use Rattle.book.specs.Passes.{nextFound}
 use Rattle.book.specs.Answers.{reading, numberOf}
-use Rattle.book.specs.declared.Chain.the-variants as chain-of
-use Rattle.book.specs.declared.Surveyed.{Surveyed}
+use Rattle.chains.specs.declared.Chain.the-variants as chain-of
+use Rattle.chains.specs.declared.Surveyed.{Surveyed}
 use Rattle.book.specs.declared.Reading.the-variants as reading-of
-use Rattle.book.proofs.Laws.{or-right, and-left, and-right}
-use Rattle.book.proofs.Distinct.{on-some, stray-short}
+use Rattle.chains.proofs.Laws.{or-right, and-left, and-right}
+use Rattle.chains.proofs.Distinct.{on-some, stray-short}
 
 -- A number within its bounds
 pub bounds : (low x high : ℕ) → within low x high ≡ true → (low ≤ x) × (x ≤ high)

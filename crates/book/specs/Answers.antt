@@ -4,7 +4,7 @@ use mathlib.Core.List.{List}
 use mathlib.Core.Bool.{cond}
 use lib.Dec.{eqb}
 use lib.ListN.{length}
-use Rattle.book.specs.Chains.{stepOrder, blockOrder}
+use Rattle.chains.specs.Chains.{stepOrder, blockOrder}
 use Rattle.book.specs.Refusals.{refusal}
 use Rattle.book.specs.declared.Reading.{Reading}
 use Rattle.book.specs.declared.Reading.the-variants.{Accepted, Refused}

@@ -1,8 +1,5 @@
 -- What a reader of this crate must believe, beside document 01: definitions alone. The laws about them stand in proofs/.
 pub mod Bounds
-pub mod Hours
-pub mod Tests
-pub mod Chains
 pub mod Refusals
 pub mod Answers
 pub mod Passes

@@ -4,30 +4,32 @@ ghost use mathlib.Core.Path.{_≡_};
 ghost use mathlib.Core.Bool.{false};
 ghost use Prim.Native.Nat.{_+_};
 ghost use lib.Dec.{ltb};
-ghost use Rattle.book.specs.Bounds.{portfolioNumbers};
-ghost use Rattle.book.specs.Tests.{someBelow};
-ghost use Rattle.book.specs.Chains.{countOn};
-ghost use Rattle.book.specs.Refusals.{wrongSize, linksTooEarly, wrongHead, tooManyOf, wrongHours, wrongLink, tooManySteps, refusal};
-ghost use Rattle.book.specs.Passes.{surveyed, nextFound};
-ghost use Rattle.book.specs.declared.Chain.the-variants.{Steps, Blocks, Links};
-use crate::Chain;
-use crate::Surveyed;
+ghost use Rattle.fields.specs.Tests.{someBelow};
+ghost use Rattle.chains.specs.Bounds.{portfolioNumbers};
+ghost use Rattle.chains.specs.Chains.{countOn};
+ghost use Rattle.chains.specs.Causes.{wrongLink};
+ghost use Rattle.chains.specs.Passes.{surveyed};
+ghost use Rattle.chains.specs.declared.Chain.the-variants.{Steps, Blocks, Links};
+ghost use Rattle.book.specs.Refusals.{wrongSize, linksTooEarly, wrongHead, tooManyOf, tooManySteps, refusal};
+ghost use Rattle.book.specs.Passes.{nextFound};
 use crate::bounds::AUTUMN_HOURS;
-use crate::bounds::FIRST_EDITION;
 use crate::bounds::FIRST_LINK_EDITION;
 use crate::bounds::FIRST_STEP_LIMIT_EDITION;
 use crate::bounds::LAST_EDITION;
 use crate::bounds::MOST_BLOCKS;
 use crate::bounds::MOST_RECORDS;
-use crate::bounds::MOST_STEPS_IN_HOUR;
-use crate::bounds::PORTFOLIO_NUMBERS;
-use crate::bounds::SPRING_HOURS;
-use crate::chains::counts_by_portfolio;
-use crate::chains::is_uncounted_on;
-use crate::links::has_wrong_link;
-use crate::ranges::is_within;
-use crate::ranges::most_blocks_of_portfolio;
-use crate::steps::has_more_steps;
+use chains::Chain;
+use chains::MOST_STEPS_IN_HOUR;
+use chains::PORTFOLIO_NUMBERS;
+use chains::Surveyed;
+use chains::counts_by_portfolio;
+use chains::has_more_steps;
+use chains::has_wrong_hours;
+use chains::has_wrong_link;
+use fields::FIRST_EDITION;
+use fields::SPRING_HOURS;
+use fields::is_within;
+use fields::most_blocks_of_portfolio;
 use records::HEAD_REST_OFFSET;
 use records::HEAD_REST_SIZE;
 use records::RECORD_SIZE;
@@ -94,18 +96,6 @@ fn has_crowded_portfolio(book: &[u8]) -> bool
         }
     }
     false
-}
-
-// 9: on a 23-hour day a step for hour 3, or a block with fewer than two counted hours.
-fn has_wrong_hours(book: &[u8]) -> bool
-    ensures { λ r. ⌜ r ≡ wrongHours (now (book .entry)) ⌝ }
-{
-    if day_hours(book) != SPRING_HOURS {
-        return false;
-    }
-    is_uncounted_on(book, Chain::Steps)
-        | is_uncounted_on(book, Chain::Blocks)
-        | is_uncounted_on(book, Chain::Links)
 }
 
 // 10, looked for only where no other cause holds: there are then at most 32 blocks.

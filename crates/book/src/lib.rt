@@ -2,33 +2,14 @@
 // Every public call takes any bytes, ends, and has no `requires`; its result is what a definition of `specs/` gives. Assumes nothing.
 ghost use mathlib.Core.Path.{_≡_};
 ghost use Rattle.book.specs.Answers.{reading};
-use crate::chains::survey_of;
+use chains::Chain;
+use chains::survey_of;
 
-mod bounds; // how large a book and its fields may be
+mod bounds; // how large a book may be
 mod causes; // the causes 1 to 6 and 9 to 11, and the first of them that holds
-mod chains; // records that hang together by `next`
-pub mod hours; // which hours count on their day, and how often
-mod links; // cause 10, along the links
-mod ranges; // the ranges of a record's fields
-mod steps; // cause 11, along the steps
 
-pub use bounds::MAX_PRICE;
 pub use bounds::MOST_BLOCKS;
 pub use bounds::MOST_RECORDS;
-
-// The chains of a book. One more chain is one more case here, in specs/Chains.antt and in src/chains.rt.
-pub enum Chain {
-    Steps,
-    Blocks,
-    Links,
-}
-
-// What one walk along a chain finds out: causes 3 and 4 on it, and how many records it has.
-pub struct Surveyed {
-    pub broken: bool,
-    pub outside: bool,
-    pub length: u16,
-}
 
 // The answer of `read`: accepted, with how many steps and blocks are on their chains, or refused with the papers' number.
 pub enum Reading {

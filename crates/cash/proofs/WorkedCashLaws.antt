@@ -8,7 +8,7 @@ use Rattle.rules.specs.WorkedCash.{line, numbers, cashCases}
 use Rattle.rules.proofs.CashCases.{cash-sheets-hold}
 use Rattle.records.specs.Bytes.{u16At, u24At, u32At}
 use Rattle.records.specs.Records.{stepAt, blockAt}
-use Rattle.book.specs.Chains.{chainFrom, stepOrder, blockOrder, linkOrder}
+use Rattle.chains.specs.Chains.{chainFrom, stepOrder, blockOrder, linkOrder}
 use Rattle.book.specs.Refusals.{refusal}
 use Rattle.orders.specs.Bridge.{stepFrom, orderFrom, blockFrom, ordersOf}
 use Rattle.orders.specs.WorkedBooks.{chained, bookWith}

@@ -5,7 +5,7 @@ use mathlib.Core.List.{List, [], _++_}
 use lib.Dec.{eqb}
 use lib.ListN.{getD}
 use Rattle.rules.specs.Cash.{Cash}
-use Rattle.book.specs.Bounds.{lastPortfolio}
+use Rattle.fields.specs.Bounds.{lastPortfolio}
 use Rattle.text.specs.Text.{text}
 use Rattle.accounts.specs.Layout.{boughtColumn, soldColumn, paidColumn, receivedColumn, ordersColumn, totalsPlace, placeIn}
 use Rattle.cash.specs.CashSheet.{cashFields, cashLine}

@@ -1,7 +1,7 @@
 // The lines of a cash sheet, out of the accounts.
 ghost use mathlib.Core.Path.{_≡_};
 ghost use lib.ListN.{length};
-ghost use Rattle.book.specs.Bounds.{lastPortfolio};
+ghost use Rattle.fields.specs.Bounds.{lastPortfolio};
 ghost use Rattle.accounts.specs.Layout.{accountPlaces};
 ghost use Rattle.text.specs.Text.{HasRoom, Put};
 ghost use Rattle.cash.specs.CashSheet.{cashFields};

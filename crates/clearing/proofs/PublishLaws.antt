@@ -9,7 +9,7 @@ use lib.Dec.{eqb}
 use lib.ListN.{length, take, getD}
 use lib.Seq.{ext-getD, take-all, getD-take, length-take-le}
 use Rattle.records.specs.Records.{recordCount, dayHours, blockAt}
-use Rattle.book.specs.Chains.{blockOrder}
+use Rattle.chains.specs.Chains.{blockOrder}
 use Rattle.book.specs.Refusals.{Accepted}
 use Rattle.rules.specs.Orders.{Step, Order, Block, stepsOf, canonical}
 use Rattle.rules.specs.Day.{dayOf, keep, changeHour, weight, isCounted, taken, decisions, overBlocks, sells, buys, stepsIn, sumTo, daySum, setPrices, traded, executed, welfare, dayValue, dayCost}

@@ -10,7 +10,7 @@ use lib.ListN.{length, drop, getD, drop-of-length-le}
 use lib.Seq.{drop-cons}
 use borrow.Author.Tests.{eq-eqb, ne-eqb}
 use Rattle.records.specs.Records.{number, portfolio}
-use Rattle.book.specs.Hours.{countedHours}
+use Rattle.fields.specs.Hours.{countedHours}
 use Rattle.roots.proofs.SizeLaws.{limit-fits}
 use Rattle.rules.specs.Orders.{Side, buy, sell, Block, maxPrice}
 use Rattle.rules.specs.Hour.{bySide, when}

@@ -9,7 +9,7 @@ use lib.Seq.{getD-take}
 use borrow.Author.Tests.{eq-eqb, ne-eqb}
 use Rattle.records.specs.Bytes.{byteAt, u16At}
 use Rattle.records.specs.Records.{number, blockAt}
-use Rattle.book.specs.Chains.{blockOrder}
+use Rattle.chains.specs.Chains.{blockOrder}
 use Rattle.book.specs.Refusals.{refusal, Accepted}
 use Rattle.book.proofs.Accepted.{accepted, accepted-zero}
 use Rattle.rules.specs.Orders.{buy, Block}

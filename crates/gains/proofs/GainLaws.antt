@@ -21,10 +21,10 @@ use Rattle.rules.proofs.CurveLaws.{when-le}
 use Rattle.rules.proofs.BoundsLaws.{weight-small, product-le, price-small}
 use Rattle.rules.proofs.FamilyBounds.{count-few}
 use Rattle.records.specs.Records.{dayHours, holdsHour, blockAt}
-use Rattle.book.specs.Chains.{blockOrder}
+use Rattle.chains.specs.Chains.{blockOrder}
 use Rattle.book.specs.Refusals.{Accepted}
-use Rattle.book.specs.Hours.{countedHours}
-use Rattle.book.proofs.Members.{each-place}
+use Rattle.fields.specs.Hours.{countedHours}
+use Rattle.chains.proofs.Members.{each-place}
 use Rattle.book.proofs.Accepted.{BlockRecord, block-records}
 use Rattle.orders.specs.Bridge.{blockOn, dayFrom}
 use Rattle.orders.specs.Columns.{blockRecords, blockSideAt, blockHoursAt, blockPriceAt, blockQuantityAt, blockOf, padded, BlockColumns}

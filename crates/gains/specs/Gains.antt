@@ -8,7 +8,7 @@ use Rattle.rules.specs.Outcome.{forHours}
 use Rattle.rules.specs.Families.{distance}
 use Rattle.records.specs.Layout.{lastHour}
 use Rattle.records.specs.Records.{dayHours}
-use Rattle.book.specs.Hours.{countedHours}
+use Rattle.fields.specs.Hours.{countedHours}
 use Rattle.book.specs.Refusals.{Accepted}
 use Rattle.orders.specs.Layout.{blockPlaces}
 use Rattle.orders.specs.Columns.{blockRecords, blockHoursAt, blockPriceAt, padded}

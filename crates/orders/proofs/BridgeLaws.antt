@@ -9,12 +9,12 @@ use Rattle.rules.specs.Orders.{mostBlockQuantity}
 use Rattle.rules.proofs.BoundsLaws.{limits-small}
 use native.Mathlib.Nat.{le-trans}
 use Rattle.records.specs.Records.{dayHours, edition, number, portfolio, sideByte, stepAt, blockAt}
-use Rattle.book.specs.Hours.{countedHours}
-use Rattle.book.specs.Chains.{stepOrder, blockOrder}
+use Rattle.fields.specs.Hours.{countedHours}
+use Rattle.chains.specs.Chains.{stepOrder, blockOrder}
 use Rattle.book.specs.Refusals.{Accepted}
-use Rattle.book.proofs.Members.{Each, each-map, each-image}
+use Rattle.chains.proofs.Members.{Each, each-map, each-image}
 use Rattle.book.proofs.Accepted.{StepRecord, BlockRecord, step-records, block-records, step-hours-counted, day-hours}
-use Rattle.book.proofs.HourLaws.{running-holds}
+use Rattle.fields.proofs.HourLaws.{running-holds}
 use Rattle.rules.specs.Orders.{Step, Block, stepsOf, canonical}
 use Rattle.rules.specs.Day.{autumnHours, isCounted, eachOnDay, dayOf}
 use Rattle.rules.specs.Day as day

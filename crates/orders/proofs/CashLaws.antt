@@ -6,9 +6,9 @@ use mathlib.Core.Path.{_≡_}
 use mathlib.Core.List.{List, [], _∷_, map}
 use native.Mathlib.Omega.{arith}
 use lib.ListN.{length, length-map, length-append}
-use Rattle.book.specs.Chains.{stepOrder, blockOrder}
+use Rattle.chains.specs.Chains.{stepOrder, blockOrder}
 use Rattle.book.specs.Refusals.{Accepted}
-use Rattle.book.proofs.Members.{Each}
+use Rattle.chains.proofs.Members.{Each}
 use Rattle.book.proofs.Accepted.{StepRecord, BlockRecord, step-records, block-records, record-count, lengths}
 use Rattle.rules.specs.Orders.{Order, Block, canonical}
 use Rattle.rules.specs.Day.{dayOf}

@@ -9,9 +9,9 @@ use borrow.Author.Tests.{ne-eqb}
 use lib.ListN.{length, take, getD, length-map}
 use lib.Seq.{slice, take-take, drop-at}
 use Rattle.records.specs.Records.{hourByte, sideByte, sideOf, stepAt}
-use Rattle.book.specs.Chains.{stepOrder}
+use Rattle.chains.specs.Chains.{stepOrder}
 use Rattle.book.specs.Refusals.{Accepted}
-use Rattle.book.proofs.Members.{Each}
+use Rattle.chains.proofs.Members.{Each}
 use Rattle.book.proofs.Accepted.{StepRecord, step-records}
 use Rattle.rules.specs.Orders.{Step, stepsOf, canonical}
 use Rattle.rules.specs.Day.{dayOf, keep, stepsIn}

@@ -11,12 +11,13 @@ use lib.Dec.{eqb}
 use lib.ListN.{length, take, drop, getD, replicate, length-map, drop-of-length-le}
 use lib.Seq.{drop-cons}
 use Rattle.records.specs.Records.{firstBlock, firstLink, number, blockAt, linkAt}
-use Rattle.book.specs.Tests.{someIn}
-use Rattle.book.specs.Chains.{chain, blockOrder, linkOrder, links}
-use Rattle.book.specs.Refusals.{isNumber, hasBlock, Accepted}
-use Rattle.book.proofs.Laws.{chain-end}
-use Rattle.book.proofs.Members.{Each}
-use Rattle.book.proofs.Distinct.{Rising}
+use Rattle.fields.specs.Tests.{someIn}
+use Rattle.chains.specs.Chains.{chain, blockOrder, linkOrder, links}
+use Rattle.chains.specs.Causes.{isNumber, hasBlock}
+use Rattle.book.specs.Refusals.{Accepted}
+use Rattle.chains.proofs.Laws.{chain-end}
+use Rattle.chains.proofs.Members.{Each}
+use Rattle.chains.proofs.Distinct.{Rising}
 use Rattle.book.proofs.Accepted.{blocks-rising, links-rising, LinkNames, links-named}
 use Rattle.rules.specs.Orders.{Link, canonical}
 use Rattle.rules.specs.Day.{isAmong}

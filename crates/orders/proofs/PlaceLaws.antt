@@ -7,11 +7,11 @@ use lib.ListN.{length, take, getD}
 use lib.Seq.{getD-take}
 use native.Mathlib.Nat.{le-trans}
 use Rattle.records.specs.Records.{dayHours, edition, sideByte, stepAt, blockAt}
-use Rattle.book.specs.Hours.{runningHours}
+use Rattle.fields.specs.Hours.{runningHours}
 use Rattle.rules.specs.Orders.{mostBlockQuantity}
 use Rattle.rules.proofs.BoundsLaws.{limits-small}
 use Rattle.book.specs.Refusals.{Accepted}
-use Rattle.book.proofs.Members.{each-place}
+use Rattle.chains.proofs.Members.{each-place}
 use Rattle.book.proofs.Accepted.{StepRecord, BlockRecord}
 use Rattle.orders.specs.Columns.{blockRecords, byHour, stepSideAt, stepPriceAt, stepQuantityAt, blockSideAt, blockHoursAt, blockPriceAt, blockQuantityAt}
 use Rattle.orders.specs.Columns.{StepColumns, BlockColumns}

@@ -5,49 +5,15 @@ use mathlib.Core.Path.{_≡_, refl, ap, _∙_}
 use mathlib.Core.List.{List, [], _∷_}
 use lib.ListN.{replicate}
 use Rattle.records.specs.Bytes.{u16At, u24At, u32At, nonzero}
-use Rattle.book.specs.Tests.{within, someBelow, someIn, countIn}
+use Rattle.fields.specs.Tests.{within, someBelow, someIn, countIn}
 use Rattle.rules.specs.Orders.{limits}
 use Rattle.records.specs.Records.{stepAt, blockAt, linkAt, linkRest, recordAt, hoursSet}
-use Rattle.book.specs.Chains.{chainFrom, chains, isOn, stepOrder, blockOrder, linkOrder, links}
-use Rattle.book.specs.Refusals.{
-  wrongSize,
-  linksTooEarly,
-  wrongHead,
-  misplaced,
-  broken,
-  brokenOn,
-  brokenChain,
-  stepFits,
-  blockFits,
-  stepInRange,
-  blockInRange,
-  recordInRange,
-  outOfRange,
-  wrongFieldOn,
-  wrongField,
-  stray,
-  strayRecord,
-  ownedBy,
-  tooManyOf,
-  tooManyBlocks,
-  wrongHours,
-  uncounted,
-  uncountedOn,
-  linkInRange,
-  isNumber,
-  hasBlock,
-  misnamed,
-  wrongLink,
-  isFor,
-  stepsFor,
-  moreStepsIn,
-  moreSteps,
-  tooManySteps,
-  firstCause,
-  ownCauses,
-  refusal,
-}
-use Rattle.book.specs.Hours.{countedHours}
+use Rattle.chains.specs.Chains.{chainFrom, chains, isOn, stepOrder, blockOrder, linkOrder, links}
+use Rattle.fields.specs.Ranges.{stepFits, blockFits, stepInRange, blockInRange, recordInRange, outOfRange, linkInRange}
+use Rattle.chains.specs.Causes.{misplaced, broken, brokenOn, brokenChain, wrongFieldOn, wrongField, stray, strayRecord, ownedBy}
+use Rattle.chains.specs.Causes.{wrongHours, uncounted, uncountedOn, isNumber, hasBlock, misnamed, wrongLink, isFor, stepsFor, moreStepsIn, moreSteps}
+use Rattle.book.specs.Refusals.{wrongSize, linksTooEarly, wrongHead, tooManyOf, tooManyBlocks, tooManySteps, firstCause, ownCauses, refusal}
+use Rattle.fields.specs.Hours.{countedHours}
 use Rattle.rules.specs.Day.{weight, isCounted, sumTo, daySum}
 use Rattle.rules.specs.Outcome.{published}
 use Rattle.rules.specs.WorkedDays.{WorkedDay, workedDays, changeDays, linkedDays, shiftedDays, Hold}

@@ -3,7 +3,7 @@
 use Prim.Native.Nat.{ℕ}
 use mathlib.Core.List.{List, map}
 use Rattle.records.specs.Records.{edition, dayHours, stepAt, blockAt, linkAt, holdsHour}
-use Rattle.book.specs.Chains.{stepOrder, blockOrder, linkOrder}
+use Rattle.chains.specs.Chains.{stepOrder, blockOrder, linkOrder}
 use Rattle.records.specs.declared.Side as read
 use Rattle.records.specs.declared.Side.the-variants as read-side
 use Rattle.rules.specs.Orders.{Side, buy, sell, Step, Order, Block, Link, Orders}

@@ -2,7 +2,7 @@
 ghost use mathlib.Core.Path.{_≡_};
 ghost use Prim.Native.Nat.{_≤_};
 ghost use lib.ListN.{length};
-ghost use Rattle.book.specs.Chains.{linkOrder};
+ghost use Rattle.chains.specs.Chains.{linkOrder};
 ghost use Rattle.orders.specs.Layout.{blockPlaces};
 ghost use Rattle.orders.specs.Columns.{parentAmong, placeAmong, parentPlaceAt, parentColumn};
 use crate::follow;

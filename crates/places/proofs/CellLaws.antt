@@ -15,7 +15,7 @@ use Rattle.rules.specs.Hour.{middle}
 use Rattle.rules.specs.Day.{sumTo}
 use Rattle.rules.specs.Shift.{lastShift, shifted}
 use Rattle.rules.proofs.Tests.{clash}
-use Rattle.book.proofs.Laws.{or-left, or-right}
+use Rattle.chains.proofs.Laws.{or-left, or-right}
 use Rattle.places.specs.Layout.{hourPlaces, lastPlace, mostGaps}
 use Rattle.places.specs.Hours.{Small, rowWidth, lastIn, HasRows, cell, ofHour, PlacesClear, GapsOf, endAbove, PricesOf, nearest, leastGap}
 use Rattle.orders.proofs.ColumnLaws.{zeros}

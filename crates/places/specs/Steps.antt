@@ -8,7 +8,7 @@ use Rattle.orders.specs.Columns.{stepsFrom}
 use Rattle.rules.specs.Orders.{Step, maxPrice}
 use Rattle.rules.specs.Hour.{buysFrom, sellsTo}
 use Rattle.rules.specs.Day.{traded}
-use Rattle.book.specs.Bounds.{mostStepQuantity}
+use Rattle.fields.specs.Bounds.{mostStepQuantity}
 use Rattle.orders.specs.Layout.{stepPlaces}
 use Rattle.places.specs.Layout.{hourPlaces}
 use Rattle.places.specs.Hours.{FirstSmall, ofHour}

@@ -10,8 +10,8 @@ use lib.Dec.{eqb, leb}
 use lib.ListN.{length, take, drop, getD, length-drop}
 use lib.Seq.{slice, length-take-le, getD-take}
 use borrow.Author.Tests.{eq-eqb, ne-eqb, lt-leb, not-false}
-use Rattle.book.specs.Tests.{within}
-use Rattle.book.specs.Chains.{blockOrder}
+use Rattle.fields.specs.Tests.{within}
+use Rattle.chains.specs.Chains.{blockOrder}
 use Rattle.book.specs.Refusals.{Accepted, refusal, firstCause, ownCauses}
 use Rattle.book.proofs.Accepted.{accepted-zero}
 use Rattle.book.proofs.Refused.{bounds, refusal-then}
@@ -19,7 +19,7 @@ use Rattle.rules.specs.Orders.{Block, mostBlockQuantity}
 use Rattle.orders.specs.Layout.{blockPlaces}
 use Rattle.rules.specs.Hour.{Pricing, cleared, doesNotClear, pricing}
 use Rattle.records.specs.Records.{dayHours}
-use Rattle.book.proofs.Laws.{or-left, and-left}
+use Rattle.chains.proofs.Laws.{or-left, and-left}
 use Rattle.rules.specs.Day.{isCounted, stepsIn, taken, decisions, overBlocks, sells, buys}
 use Rattle.rules.specs.Contender.{PricesInRange}
 use Rattle.rules.proofs.Tests.{by-le, by-eq}

@@ -4,7 +4,7 @@ use mathlib.Core.Path.{_≡_}
 use mathlib.Core.List.{List}
 use lib.ListN.{length}
 use borrow.Author.Tests.{lt-leb}
-use Rattle.book.specs.Chains.{blockOrder}
+use Rattle.chains.specs.Chains.{blockOrder}
 use Rattle.rules.specs.Day.{stepsIn, overBlocks, sells, buys}
 use Rattle.rules.proofs.PricingLaws.{pricing-net}
 use Rattle.orders.specs.Bridge.{dayFrom}

@@ -8,8 +8,8 @@ use lib.Dec.{eqb, leb}
 use lib.ListN.{length}
 use Rattle.records.specs.Layout.{lastHour}
 use Rattle.records.specs.Records.{dayHours}
-use Rattle.book.specs.Tests.{within}
-use Rattle.book.specs.Chains.{blockOrder}
+use Rattle.fields.specs.Tests.{within}
+use Rattle.chains.specs.Chains.{blockOrder}
 use Rattle.book.specs.Refusals.{ownCauses, firstCause}
 use Rattle.rules.specs.Hour.{Pricing, cleared, doesNotClear, pricing}
 use Rattle.rules.specs.Orders.{Block}

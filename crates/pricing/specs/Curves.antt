@@ -3,7 +3,7 @@ use Prim.Native.Nat.{ℕ, _+_, _*_, _^_, _≤_, _<_, min}
 use mathlib.Core.List.{List, [], _∷_}
 use mathlib.Core.Path.{_≡_}
 use lib.ListN.{length, getD}
-use Rattle.book.specs.Bounds.{mostStepQuantity}
+use Rattle.fields.specs.Bounds.{mostStepQuantity}
 use Rattle.orders.specs.Layout.{stepPlaces, blockPlaces}
 use Rattle.orders.specs.Columns.{stepsFrom, blockOf}
 use Rattle.rules.specs.Orders.{Block, maxPrice, mostBlockQuantity}

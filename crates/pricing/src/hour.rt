@@ -9,7 +9,7 @@ ghost use Rattle.pricing.specs.Curves.{Columns, TotalsOf, TotalsAt, hour
 ghost use Rattle.pricing.specs.Answers.{AnswerOf};
 use crate::BIAS;
 use crate::HourAnswer;
-use book::MAX_PRICE;
+use fields::MAX_PRICE;
 
 // What steps buy strictly above one price, and sell at or below another, or the same.
 pub struct Totals {

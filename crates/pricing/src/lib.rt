@@ -13,8 +13,8 @@ ghost use Rattle.pricing.specs.Answers.{answerFor, NetOf, hasHour, hourA
 use crate::blocks::trades_of;
 use crate::hour::answer_of;
 use book::Reading;
-use book::hours::is_counted;
 use book::read;
+use fields::hours::is_counted;
 use orders::blocks_of;
 use orders::layout::BLOCK_PLACES;
 use orders::steps_of;

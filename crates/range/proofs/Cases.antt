@@ -7,7 +7,7 @@ use mathlib.Core.Bool.{true, false, not, _||_}
 use lib.Dec.{eqb, ltb}
 use lib.ListN.{replicate, length-replicate}
 use Rattle.records.specs.Bytes.{u32At}
-use Rattle.book.specs.Tests.{within, someBelow}
+use Rattle.fields.specs.Tests.{within, someBelow}
 use Rattle.rules.specs.Hour.{answeredPrice}
 use Rattle.rules.specs.Uncertain.{hourAt, stepsAt, middlePrice, overQuantities, leastPrice, greatestPrice}
 use Rattle.rules.proofs.CertifiedHours.{tested-is, computed}

@@ -19,9 +19,9 @@ use Rattle.rules.proofs.Tests.{by-test}
 use Rattle.rules.proofs.PricingLaws.{pricing-net}
 use Rattle.rules.proofs.UncertainLaws.{prices-in-range, least-price, greatest-price, least-price-corner, greatest-price-corner}
 use Rattle.records.specs.Layout.{lastSide}
-use Rattle.book.specs.Tests.{within, someBelow}
-use Rattle.book.proofs.Laws.{and-left, and-right, or-left, or-right}
-use Rattle.book.proofs.Members.{Each, each-append, none-below}
+use Rattle.fields.specs.Tests.{within, someBelow}
+use Rattle.chains.proofs.Laws.{and-left, and-right, or-left, or-right}
+use Rattle.chains.proofs.Members.{Each, each-append, none-below}
 use Rattle.book.proofs.Refused.{bounds}
 use Rattle.orders.specs.Columns.{sideFor, stepsFrom}
 use Rattle.pricing.specs.Curves.{bias, hourWith, Columns}

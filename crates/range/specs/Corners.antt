@@ -5,7 +5,7 @@ use mathlib.Core.Bool.{Bool, cond}
 use mathlib.Core.Path.{_≡_}
 use lib.Dec.{eqb}
 use lib.ListN.{length, take}
-use Rattle.book.specs.Tests.{someBelow}
+use Rattle.fields.specs.Tests.{someBelow}
 use Rattle.orders.specs.Columns.{sideFor, stepsFrom}
 use Rattle.rules.specs.Hour.{bySide, pricing, answeredPrice}
 use Rattle.rules.specs.Contender.{PricesInRange}

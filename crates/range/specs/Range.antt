@@ -6,7 +6,7 @@ use lib.Dec.{eqb, leb, ltb}
 use lib.ListN.{length}
 use Rattle.records.specs.Bytes.{u32At}
 use Rattle.records.specs.Layout.{lastSide}
-use Rattle.book.specs.Tests.{within, someBelow}
+use Rattle.fields.specs.Tests.{within, someBelow}
 use Rattle.orders.specs.Columns.{sideFor}
 use Rattle.rules.specs.Orders.{maxPrice}
 use Rattle.rules.specs.Uncertain.{UncertainStep, leastPrice, greatestPrice}

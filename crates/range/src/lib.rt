@@ -13,7 +13,7 @@ use crate::layout::MOST_ENTRIES;
 use crate::layout::MOST_FIGURE;
 use crate::layout::PRICE_OFFSET;
 use crate::layout::SIDE_OFFSET;
-use book::MAX_PRICE;
+use fields::MAX_PRICE;
 use pricing::BIAS;
 use pricing::HourAnswer;
 use pricing::hour::answer_of;

@@ -6,7 +6,7 @@ use mathlib.Core.Path.{_≡_, refl, ap₂}
 use mathlib.Core.List.{List, [], _∷_, _++_, map}
 use native.Mathlib.Omega.{arith}
 use Rattle.records.specs.Records.{recordCount, dayHours}
-use Rattle.book.specs.Chains.{stepOrder, blockOrder, linkOrder}
+use Rattle.chains.specs.Chains.{stepOrder, blockOrder, linkOrder}
 use Rattle.book.specs.Refusals.{Accepted}
 use Rattle.book.proofs.RecordSums.{sumOver, sum-by-kind}
 use Rattle.rules.specs.Orders.{canonical}

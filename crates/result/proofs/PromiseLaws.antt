@@ -10,11 +10,11 @@ use lib.ListN.{length, getD, length-append, length-map, List·getD-append}
 use lib.Seq.{getD-at}
 use borrow.Author.Tests.{eq-eqb, ne-eqb, eqb-true}
 use Rattle.records.specs.Bytes.{u32At}
-use Rattle.book.specs.Tests.{someIn, member}
+use Rattle.fields.specs.Tests.{someIn, member}
 use Rattle.records.specs.Records.{recordCount, dayHours, blockAt}
-use Rattle.book.specs.Chains.{stepOrder, blockOrder, linkOrder}
+use Rattle.chains.specs.Chains.{stepOrder, blockOrder, linkOrder}
 use Rattle.book.specs.Refusals.{firstCause, refusal, Accepted}
-use Rattle.book.proofs.Members.{Each, each-member, Distinct}
+use Rattle.chains.proofs.Members.{Each, each-member, Distinct}
 use Rattle.book.proofs.Refused.{refusal-then}
 use Rattle.book.proofs.Accepted.{accepted-zero, StepRecord, BlockRecord, LinkRecord, step-records, block-records, link-records}
 use Rattle.book.proofs.Accepted.{steps-distinct, blocks-distinct, one-chain, link-only, record-count}

@@ -8,12 +8,12 @@ use native.Mathlib.Omega.{arith}
 use lib.Dec.{eqb}
 use lib.ListN.{length, drop, getD, length-append, length-map}
 use borrow.Author.Tests.{eq-eqb, ne-eqb, eqb-true, eqb-false, lt-leb}
-use Rattle.book.specs.Tests.{within, someIn, member}
+use Rattle.fields.specs.Tests.{within, someIn, member}
 use Rattle.records.specs.Records.{edition, hourByte, stepAt, blockAt}
-use Rattle.book.specs.Chains.{stepOrder, blockOrder}
+use Rattle.chains.specs.Chains.{stepOrder, blockOrder}
 use Rattle.book.specs.Refusals.{Accepted}
-use Rattle.book.proofs.Laws.{or-left, or-right}
-use Rattle.book.proofs.Members.{Each, each-member}
+use Rattle.chains.proofs.Laws.{or-left, or-right}
+use Rattle.chains.proofs.Members.{Each, each-member}
 use Rattle.book.proofs.Accepted.{StepRecord, BlockRecord, block-records}
 use Rattle.rules.specs.Orders.{Step, Block, executedOf}
 use Rattle.rules.specs.Hour.{when}

@@ -5,7 +5,7 @@ use mathlib.Core.List.{List, [], _∷_}
 use native.Mathlib.Omega.{arith}
 use lib.ListN.{length-map}
 use Rattle.book.specs.Refusals.{Accepted}
-use Rattle.book.proofs.Members.{Each}
+use Rattle.chains.proofs.Members.{Each}
 use Rattle.book.proofs.Accepted.{steps-few, blocks-few}
 use Rattle.rules.specs.Orders.{Step, Block}
 use Rattle.rules.specs.OutcomeRules.{EachBlock}

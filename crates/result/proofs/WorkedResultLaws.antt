@@ -7,7 +7,7 @@ use mathlib.Core.Path.{_≡_, refl, sym, _∙_}
 use mathlib.Core.List.{[], _∷_}
 use Rattle.records.specs.Bytes.{u16At, u24At, u32At}
 use Rattle.records.specs.Records.{stepAt, blockAt}
-use Rattle.book.specs.Chains.{chainFrom, stepOrder, blockOrder}
+use Rattle.chains.specs.Chains.{chainFrom, stepOrder, blockOrder}
 use Rattle.book.proofs.Accepted.{accepted}
 use Rattle.rules.specs.Orders.{canonical, stepsOf}
 use Rattle.rules.specs.Execution.{bought, sold}

@@ -6,7 +6,7 @@ use mathlib.Core.Path.{_≡_}
 use lib.Dec.{eqb}
 use lib.ListN.{length}
 use Rattle.records.specs.Records.{recordCount, blockAt}
-use Rattle.book.specs.Chains.{blockOrder}
+use Rattle.chains.specs.Chains.{blockOrder}
 use Rattle.book.specs.Refusals.{ownCauses, firstCause}
 use Rattle.rules.specs.Contender.{BeatsAll}
 use Rattle.rules.specs.OutcomeRules.{OutcomeRules}

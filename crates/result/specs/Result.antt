@@ -5,7 +5,7 @@ use mathlib.Core.List.{List, [], _∷_, _++_, map}
 use lib.Dec.{eqb}
 use Rattle.records.specs.Bytes.{u32At}
 use Rattle.records.specs.Records.{recordCount, blockAt}
-use Rattle.book.specs.Chains.{stepOrder, blockOrder}
+use Rattle.chains.specs.Chains.{stepOrder, blockOrder}
 use Rattle.result.specs.Layout.{welfareSize, half, hourRowSize, tradedOffset, recordRowSize, recordRowsOffset}
 use Rattle.rules.specs.Outcome.{published}
 use Rattle.orders.specs.Bridge.{ordersOf}

@@ -9,7 +9,7 @@ use native.Mathlib.Nat.{lt-of-not-le, mul-le-mul}
 use lib.ListN.{length, getD, set}
 use lib.Seq.{getD-set-same, getD-set-other}
 use Rattle.records.specs.Records.{holdsHour}
-use Rattle.book.specs.Hours.{countedHours}
+use Rattle.fields.specs.Hours.{countedHours}
 use Rattle.rules.specs.Orders.{Side, buy, sell, maxPrice}
 use Rattle.rules.specs.Hour.{bySide, when}
 use Rattle.rules.specs.Day.{autumnHours, hourCount}

@@ -4,7 +4,7 @@ ghost use Prim.Native.Nat.{_≤_};
 ghost use Rattle.rules.specs.Orders.{maxPrice};
 ghost use Rattle.book.specs.Bounds.{mostBlocks};
 ghost use Rattle.places.specs.Hours.{Small, FirstSmall, HasRows, lastIn};
-use book::MAX_PRICE;
+use fields::MAX_PRICE;
 use places::cells::highs_at;
 use places::cells::lows_at;
 use places::layout::HOURS;

@@ -12,7 +12,7 @@ use lib.Seq.{getD-set-same, getD-set-other}
 use Rattle.book.specs.Bounds.{mostBlocks}
 use Rattle.places.specs.Layout.{againstColumn, parentColumn, hourPlaces, gainColumn, sideColumn, hoursColumn, limitColumn, mostQuantity, quantityColumn}
 use Rattle.records.specs.Records.{holdsHour}
-use Rattle.book.specs.Hours.{countedHours}
+use Rattle.fields.specs.Hours.{countedHours}
 use Rattle.orders.specs.Columns.{sideFor}
 use Rattle.rules.specs.Orders.{Side, buy, sell}
 use Rattle.rules.specs.Hour.{bySide, when}

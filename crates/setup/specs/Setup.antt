@@ -6,7 +6,7 @@ use mathlib.Core.Bool.{Bool, true, false, cond}
 use lib.Dec.{leb}
 use lib.ListN.{length, take, drop, getD, set}
 use Rattle.records.specs.Records.{edition, dayHours, holdsHour}
-use Rattle.book.specs.Hours.{countedHours}
+use Rattle.fields.specs.Hours.{countedHours}
 use Rattle.book.specs.Refusals.{Accepted}
 use Rattle.orders.specs.Bridge.{dayFrom}
 use Rattle.orders.specs.Columns.{StepColumns, BlockColumns, sideFor}

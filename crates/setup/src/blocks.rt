@@ -7,7 +7,7 @@ ghost use Rattle.places.specs.Layout.{mostQuantity, mostLimit};
 ghost use Rattle.places.specs.Hours.{Small, FirstSmall, DayPrices};
 ghost use Rattle.places.specs.Blocks.{quantityAt};
 ghost use Rattle.setup.specs.Setup.{BlocksHeld, TradedBy, written, Written, Widened, ParentsWritten, RowsEmpty, RowsWritten};
-use book::hours::counted_hours;
+use fields::hours::counted_hours;
 use places::added::moved;
 use places::layout::AGAINST;
 use places::layout::BLOCK_LIST;

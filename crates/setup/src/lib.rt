@@ -19,7 +19,7 @@ use crate::rows::fill_ranges;
 use crate::rows::fill_tables;
 use crate::rows::joined;
 use crate::twins::with_twins;
-use book::hours::change_weight;
+use fields::hours::change_weight;
 use orders::Blocks;
 use places::cells::counted_prices;
 use places::layout::BLOCK_LIST;

@@ -9,7 +9,7 @@ use lib.Seq.{length-take-le, take-at}
 use borrow.Author.Tests.{eq-eqb, ne-eqb}
 use Rattle.records.specs.Bytes.{byteAt, u16At}
 use Rattle.records.specs.Records.{recordCount, number, blockAt}
-use Rattle.book.specs.Chains.{blockOrder}
+use Rattle.chains.specs.Chains.{blockOrder}
 use Rattle.book.specs.Refusals.{refusal, Accepted}
 use Rattle.book.proofs.Accepted.{accepted, accepted-zero, record-count}
 use Rattle.rules.specs.Day.{isCounted, setPrices, traded}

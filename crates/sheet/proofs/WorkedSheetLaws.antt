@@ -3,7 +3,7 @@ use mathlib.Core.Path.{_≡_, refl}
 use borrow.Author.Tests.{eq-eqb}
 use Rattle.records.specs.Bytes.{u16At, u24At}
 use Rattle.records.specs.Records.{blockAt}
-use Rattle.book.specs.Chains.{chainFrom, blockOrder}
+use Rattle.chains.specs.Chains.{chainFrom, blockOrder}
 use Rattle.book.specs.Refusals.{refusal}
 use Rattle.rules.specs.Orders.{canonical}
 use Rattle.rules.specs.Day.{dayOf, eachOnDay}

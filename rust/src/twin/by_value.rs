@@ -6,7 +6,13 @@
 pub mod book;
 #[allow(clippy::all, unused)]
 #[rustfmt::skip]
+pub mod chains;
+#[allow(clippy::all, unused)]
+#[rustfmt::skip]
 pub mod clearing;
+#[allow(clippy::all, unused)]
+#[rustfmt::skip]
+pub mod fields;
 #[allow(clippy::all, unused)]
 #[rustfmt::skip]
 pub mod guess;

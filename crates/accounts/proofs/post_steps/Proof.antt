@@ -4,9 +4,9 @@ use mathlib.Core.Path.{ap}
 use mathlib.Core.List.{map}
 use native.Mathlib.Omega.{arith}
 use Rattle.records.specs.Records.{dayHours}
-use Rattle.book.specs.Chains.{chain, chainFrom, stepOrder}
-use Rattle.book.proofs.Laws.{chain-none, chain-end, chain-more}
-use Rattle.book.proofs.Members.{Each}
+use Rattle.chains.specs.Chains.{chain, chainFrom, stepOrder}
+use Rattle.chains.proofs.Laws.{chain-none, chain-end, chain-more}
+use Rattle.chains.proofs.Members.{Each}
 use Rattle.book.proofs.Accepted.{record-count}
 use Rattle.result.specs.Result.{priceIn}
 use Rattle.accounts.specs.Accounts.{stepIn}

@@ -1,6 +1,6 @@
 -- `pricing::has_hour` meets its contract: the code is the definition. Assumes nothing.
 use borrow.Author.Needs.{needs}
-use Rattle.book.specs.Tests.{within}
+use Rattle.fields.specs.Tests.{within}
 use Rattle.pricing.specs.Answers.{hasHour}
 use Rattle.pricing.proofs.has_hour.Statement.{statement}
 use Rattle.pricing.proofs.has_hour.Tie as tie

@@ -2,7 +2,7 @@
 use Prim.Native.Nat.{_-_, _≤_, _<_}
 use mathlib.Core.Path.{_≡_, refl, ap, _∙_}
 use native.Mathlib.Omega.{arith}
-use Rattle.book.specs.Tests.{someBelow}
+use Rattle.fields.specs.Tests.{someBelow}
 use Rattle.range.specs.Range.{entryFits, outOfRange, below}
 use Rattle.range.specs.Corners.{sideNumber, leastQuantity, greatestQuantity}
 use Rattle.range.proofs.RangeLaws.{Filled, filled-next, tested-next}

@@ -14,7 +14,7 @@ use Rattle.roots.proofs.limits_of.Statement.{statement}
 use Rattle.roots.proofs.limits_of.Tie as tie
 use Rattle.roots.proofs.limits_of.Reads as reads
 use Rattle.roots.proofs.limits_of.Lts as lts
-use Rattle.book.proofs.hours.counted_hours.Reads as counted-hours-reads
+use Rattle.fields.proofs.hours.counted_hours.Reads as counted-hours-reads
 
 abbrev Inv-loop : tie.InvT-loop
 Inv-loop day count hours prices limits₀ i₀ limits i = (length limits ≡ mostBlocks) × Small mostLimit limits

@@ -13,7 +13,7 @@ use Rattle.roots.proofs.root_prices.Statement.{statement}
 use Rattle.roots.proofs.root_prices.Tie as tie
 use Rattle.roots.proofs.root_prices.Reads as reads
 use Rattle.roots.proofs.root_prices.Lts as lts
-use Rattle.book.proofs.hours.change_weight.Reads as change-weight-reads
+use Rattle.fields.proofs.hours.change_weight.Reads as change-weight-reads
 use Rattle.places.proofs.cells.prices_at.Reads as prices-at-reads
 use Rattle.roots.proofs.limits_of.Reads as limits-of-reads
 use Rattle.roots.proofs.losses.gains_at.Reads as gains-at-reads

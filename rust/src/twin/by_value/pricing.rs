@@ -3,8 +3,8 @@
 use crate::twin::by_value::pricing::blocks::trades_of;
 use crate::twin::by_value::pricing::hour::answer_of;
 use crate::twin::by_value::book::Reading;
-use crate::twin::by_value::book::hours::is_counted;
 use crate::twin::by_value::book::read;
+use crate::twin::by_value::fields::hours::is_counted;
 use crate::twin::by_value::orders::blocks_of;
 use crate::twin::by_value::orders::layout::BLOCK_PLACES;
 use crate::twin::by_value::orders::steps_of;

@@ -10,7 +10,7 @@ use crate::twin::by_value::setup::rows::fill_ranges;
 use crate::twin::by_value::setup::rows::fill_tables;
 use crate::twin::by_value::setup::rows::joined;
 use crate::twin::by_value::setup::twins::with_twins;
-use crate::twin::by_value::book::hours::change_weight;
+use crate::twin::by_value::fields::hours::change_weight;
 use crate::twin::by_value::orders::Blocks;
 use crate::twin::by_value::places::cells::counted_prices;
 use crate::twin::by_value::places::layout::BLOCK_LIST;

@@ -5,7 +5,8 @@ use mathlib.Core.Bool.{and-false}
 use native.Mathlib.Omega.{arith}
 use borrow.Author.Tests.{le-leb}
 use Rattle.book.specs.Refusals.{tooManySteps}
-use Rattle.book.proofs.StepCounts.{no-limit-before, few-steps}
+use Rattle.chains.proofs.StepCounts.{few-steps}
+use Rattle.book.proofs.StepLimits.{no-limit-before}
 use borrow.Author.Needs.{needs}
 use Rattle.book.proofs.causes.finds_too_many_steps.Statement.{statement}
 use Rattle.book.proofs.causes.finds_too_many_steps.Tie as tie

@@ -3,10 +3,10 @@
 use Prim.Native.Nat.{_-_, _≤_}
 use mathlib.Core.Path.{_≡_, refl}
 use borrow.Author.Tests.{lt-ltb, le-ltb}
-use Rattle.book.specs.Bounds.{portfolioNumbers}
-use Rattle.book.specs.Tests.{someBelow}
+use Rattle.chains.specs.Bounds.{portfolioNumbers}
+use Rattle.fields.specs.Tests.{someBelow}
 use Rattle.book.specs.Refusals.{tooManyOf}
-use Rattle.book.proofs.Laws.{some-none, some-more}
+use Rattle.chains.proofs.Laws.{some-none, some-more}
 use borrow.Author.Needs.{needs}
 use Rattle.book.proofs.causes.has_crowded_portfolio.Statement.{statement}
 use Rattle.book.proofs.causes.has_crowded_portfolio.Tie as tie

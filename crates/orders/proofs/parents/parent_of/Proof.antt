@@ -1,8 +1,8 @@
 -- `orders::parents::parent_of` meets its contract: the link is on the chain where it is on the rest that is left to follow. Assumes nothing.
 use mathlib.Core.Path.{_≡_, sym, _∙_}
 use borrow.Author.Tests.{eq-eqb, ne-eqb}
-use Rattle.book.specs.Chains.{chain, chainFrom, linkOrder}
-use Rattle.book.proofs.Laws.{chain-none, chain-end, chain-more}
+use Rattle.chains.specs.Chains.{chain, chainFrom, linkOrder}
+use Rattle.chains.proofs.Laws.{chain-none, chain-end, chain-more}
 use Rattle.orders.specs.Columns.{parentAmong}
 use borrow.Author.Needs.{needs}
 use Rattle.orders.proofs.parents.parent_of.Statement.{statement}

@@ -1,6 +1,6 @@
 -- `range::Entry::fits` meets its contract: the code is the definition. Assumes nothing.
 use mathlib.Core.Path.{refl}
-use Rattle.book.specs.Tests.{within}
+use Rattle.fields.specs.Tests.{within}
 use Rattle.range.specs.Range.{entryFits}
 use Rattle.range.proofs.Entry.fits.Statement.{statement}
 use Rattle.range.proofs.Entry.fits.Tie as tie

@@ -1,24 +1,24 @@
 // Written by `twin_source` from crates/book/src/causes.rt.
 // The causes for which a book by itself is refused, 1 to 6 (document 01, "Refused books and calls"), 9 to 11 (document 02), and the first
 // of them that holds. Assumes nothing.
-use crate::twin::by_value::book::Chain;
-use crate::twin::by_value::book::Surveyed;
 use crate::twin::by_value::book::bounds::AUTUMN_HOURS;
-use crate::twin::by_value::book::bounds::FIRST_EDITION;
 use crate::twin::by_value::book::bounds::FIRST_LINK_EDITION;
 use crate::twin::by_value::book::bounds::FIRST_STEP_LIMIT_EDITION;
 use crate::twin::by_value::book::bounds::LAST_EDITION;
 use crate::twin::by_value::book::bounds::MOST_BLOCKS;
 use crate::twin::by_value::book::bounds::MOST_RECORDS;
-use crate::twin::by_value::book::bounds::MOST_STEPS_IN_HOUR;
-use crate::twin::by_value::book::bounds::PORTFOLIO_NUMBERS;
-use crate::twin::by_value::book::bounds::SPRING_HOURS;
-use crate::twin::by_value::book::chains::counts_by_portfolio;
-use crate::twin::by_value::book::chains::is_uncounted_on;
-use crate::twin::by_value::book::links::has_wrong_link;
-use crate::twin::by_value::book::ranges::is_within;
-use crate::twin::by_value::book::ranges::most_blocks_of_portfolio;
-use crate::twin::by_value::book::steps::has_more_steps;
+use crate::twin::by_value::chains::Chain;
+use crate::twin::by_value::chains::MOST_STEPS_IN_HOUR;
+use crate::twin::by_value::chains::PORTFOLIO_NUMBERS;
+use crate::twin::by_value::chains::Surveyed;
+use crate::twin::by_value::chains::counts_by_portfolio;
+use crate::twin::by_value::chains::has_more_steps;
+use crate::twin::by_value::chains::has_wrong_hours;
+use crate::twin::by_value::chains::has_wrong_link;
+use crate::twin::by_value::fields::FIRST_EDITION;
+use crate::twin::by_value::fields::SPRING_HOURS;
+use crate::twin::by_value::fields::is_within;
+use crate::twin::by_value::fields::most_blocks_of_portfolio;
 use crate::twin::by_value::records::HEAD_REST_OFFSET;
 use crate::twin::by_value::records::HEAD_REST_SIZE;
 use crate::twin::by_value::records::RECORD_SIZE;
@@ -80,17 +80,6 @@ fn has_crowded_portfolio(book: &[u8]) -> bool
         }
     }
     false
-}
-
-// 9: on a 23-hour day a step for hour 3, or a block with fewer than two counted hours.
-fn has_wrong_hours(book: &[u8]) -> bool
-{
-    if day_hours(book) != SPRING_HOURS {
-        return false;
-    }
-    is_uncounted_on(book, Chain::Steps)
-        | is_uncounted_on(book, Chain::Blocks)
-        | is_uncounted_on(book, Chain::Links)
 }
 
 // 10, looked for only where no other cause holds: there are then at most 32 blocks.

@@ -1,8 +1,8 @@
 // Written by `twin_source` from crates/clearing/src/publish.rt.
 // The publication: what the orders of each hour get at its price, the welfare, and with them and the day the result's
 // bytes. Assumes nothing.
-use crate::twin::by_value::book::hours::change_weight;
-use crate::twin::by_value::book::hours::counted_hours;
+use crate::twin::by_value::fields::hours::change_weight;
+use crate::twin::by_value::fields::hours::counted_hours;
 use crate::twin::by_value::orders::Blocks;
 use crate::twin::by_value::orders::Steps;
 use crate::twin::by_value::orders::layout::HOURS;

@@ -1,7 +1,7 @@
 // Written by `twin_source` from crates/roots/src/held.rt.
 // The prices of hours without steps: where prices can give way they are kept between the least and the greatest price of the blocks, since what such an hour
 // pays by itself, 1, 150000 or 300000, lies far from all of them. Any prices are right.
-use crate::twin::by_value::book::MAX_PRICE;
+use crate::twin::by_value::fields::MAX_PRICE;
 use crate::twin::by_value::places::cells::highs_at;
 use crate::twin::by_value::places::cells::lows_at;
 use crate::twin::by_value::places::layout::HOURS;

@@ -1,6 +1,6 @@
 // Written by `twin_source` from crates/setup/src/blocks.rt.
 // The blocks for the search: what they trade in each hour, their six columns at the root prices, their parents, and a row of hours for each.
-use crate::twin::by_value::book::hours::counted_hours;
+use crate::twin::by_value::fields::hours::counted_hours;
 use crate::twin::by_value::places::added::moved;
 use crate::twin::by_value::places::layout::AGAINST;
 use crate::twin::by_value::places::layout::BLOCK_LIST;

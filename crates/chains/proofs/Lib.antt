@@ -1,0 +1,6 @@
+-- The laws that the functions' proofs and the layers above cite; each function's own proof stands in its folder.
+pub mod Laws
+pub mod Members
+pub mod StepCounts
+pub mod Distinct
+pub mod Surveys

@@ -1,0 +1,2 @@
+-- Small books, computed.
+pub mod Cases
