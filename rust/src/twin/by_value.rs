@@ -18,7 +18,13 @@ pub mod fields;
 pub mod guess;
 #[allow(clippy::all, unused)]
 #[rustfmt::skip]
+pub mod order;
+#[allow(clippy::all, unused)]
+#[rustfmt::skip]
 pub mod orders;
+#[allow(clippy::all, unused)]
+#[rustfmt::skip]
+pub mod passes;
 #[allow(clippy::all, unused)]
 #[rustfmt::skip]
 pub mod places;

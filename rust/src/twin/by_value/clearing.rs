@@ -15,7 +15,7 @@ use crate::twin::by_value::records::record_count;
 use crate::twin::by_value::result::Clearing;
 use crate::twin::by_value::result::RECORD_ROW;
 use crate::twin::by_value::result::RECORD_ROWS;
-use crate::twin::by_value::search::find;
+use crate::twin::by_value::passes::find;
 use crate::twin::by_value::setup::prepare;
 use crate::twin::by_value::setup::row_needed;
 

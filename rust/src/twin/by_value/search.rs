@@ -1,13 +1,10 @@
 // Written by `twin_source` from crates/search/src/lib.rt.
 // The search over the blocks: each first taken and then left out, by loss at fixed hourly prices. Its tables hold, for each hour, the hour's unit prices and
 // gaps at each place; a place is what the taken blocks sell and the left-out blocks would buy in the hour. Assumes nothing.
-use crate::twin::by_value::search::explore::explore;
-use crate::twin::by_value::guess::NO_GUESS;
-use crate::twin::by_value::guess::guess;
 use crate::twin::by_value::places::layout::HOURS;
 
 mod decide; // all blocks are decided
-mod explore; // every way to decide the blocks that are left
+pub mod explore; // every way to decide the blocks that are left
 mod judge; // whether a branch is dropped
 
 // The price and the traded quantity of each hour.
@@ -31,116 +28,4 @@ pub struct Node {
     pub set: u32,
     pub loss: u64,
     pub places: [u32; HOURS],
-}
-
-// The threshold of the first pass: the published set seldom loses as much.
-const FIRST_LIMIT: u64 = 1024;
-
-// The threshold after which the published set's loss is guessed: ordinary days are found below it, and pay nothing for the guess.
-const LAST_BEFORE_GUESS: u64 = 8192;
-
-// The threshold of the last pass, 2 to the power of 39: more than 32 blocks and 24 hours can lose, each of them less than 2 to the power of 32.
-const LAST_LIMIT: u64 = 549755813888;
-
-// A guess of what the published set loses, made once, after the pass of one threshold; before it there is none.
-fn guess_after(
-    unit_prices: &[u32],
-    gap: &[u32],
-    hours: &[u32],
-    blocks: &[u32],
-    count: u32,
-    limit: u64,
-    guessed: u64,
-) -> u64
-{
-    if limit == LAST_BEFORE_GUESS {
-        return guess(unit_prices, gap, hours, blocks, count as usize);
-    }
-    guessed
-}
-
-// The threshold of the pass after one that found nothing: twice as much; or just above the guess, where that is no more than about three times as much.
-// A guess that is further off is often too high by far.
-fn limit_after(limit: u64, guessed: u64) -> u64
-{
-    if guessed < limit {
-        return limit * 2;
-    }
-    if limit * 3 + limit / 8 < guessed {
-        return limit * 2;
-    }
-    guessed + 1
-}
-
-// The published set: a pass with a small threshold first, then with larger ones until a pass finds a set. A pass that finds one has found the published one.
-pub fn find(
-    unit_prices: &[u32],
-    gap: &[u32],
-    hours: &[u32],
-    blocks: &[u32],
-    sides: &[u8],
-    prices: &[u32],
-    quantities: &[u32],
-    ends: &[u16],
-    count: u32,
-) -> Best
-{
-    let day = Day {
-        prices: [0; HOURS],
-        quantities: [0; HOURS],
-    };
-    let root = Node {
-        set: 0,
-        loss: 0,
-        places: [0; HOURS],
-    };
-    let mut limit = FIRST_LIMIT;
-    let mut guessed = NO_GUESS;
-    while limit < LAST_LIMIT {
-        let start = Best {
-            limit: limit,
-            set: 0,
-            day: day,
-        };
-        let found = explore(
-            unit_prices,
-            gap,
-            hours,
-            blocks,
-            sides,
-            prices,
-            quantities,
-            ends,
-            count,
-            count,
-            0,
-            root,
-            start,
-        );
-        if found.limit < limit {
-            return found;
-        }
-        guessed = guess_after(unit_prices, gap, hours, blocks, count, limit, guessed);
-        limit = limit_after(limit, guessed);
-    }
-    let start = Best {
-        limit: limit,
-        set: 0,
-        day: day,
-    };
-    explore(
-        unit_prices,
-        gap,
-        hours,
-        blocks,
-        sides,
-        prices,
-        quantities,
-        ends,
-        count,
-        count,
-        0,
-        root,
-        start,
-    )
 }

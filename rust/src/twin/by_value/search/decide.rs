@@ -19,7 +19,18 @@ use crate::twin::by_value::places::trades::hours_traded;
 use crate::twin::by_value::places::trades::set_trades;
 use crate::twin::by_value::shift::shift_of;
 
-// The set as the best, with what it loses and its day at these prices.
+// The limit that a set which loses so much leaves: what it loses, and where ties are looked for one more, so that sets that lose the same are still met; 0
+// where one is met.
+fn limit_left(total: u64, margin: u64, limit: u64) -> u64
+{
+    let left = total + margin;
+    if left < limit {
+        return left;
+    }
+    0
+}
+
+// The set as the best, with the limit that it leaves and its day at these prices.
 fn found_at(
     blocks: &[u32],
     sides: &[u8],
@@ -28,7 +39,7 @@ fn found_at(
     ends: &[u16],
     count: u32,
     set: u32,
-    total: u64,
+    limit: u64,
     set_prices: [u32; HOURS],
 ) -> Best
 {
@@ -39,7 +50,7 @@ fn found_at(
         quantities: traded,
     };
     Best {
-        limit: total,
+        limit: limit,
         set: set,
         day: day,
     }
@@ -56,7 +67,7 @@ fn decide_at_shift(
     ends: &[u16],
     count: u32,
     node: Node,
-    total: u64,
+    limit: u64,
     best: Best,
 ) -> Best
 {
@@ -81,7 +92,7 @@ fn decide_at_shift(
         ends,
         count,
         node.set,
-        total,
+        limit,
         shifted,
     )
 }
@@ -98,6 +109,7 @@ pub fn decide(
     quantities: &[u32],
     ends: &[u16],
     count: u32,
+    margin: u64,
     node: Node,
     best: Best,
 ) -> Best
@@ -112,6 +124,7 @@ pub fn decide(
     if best.limit <= total {
         return best;
     }
+    let left = limit_left(total, margin, best.limit);
     let middles = prices_at(unit_prices, places);
     let counted = counted_prices(middles, often);
     if keeps_limits(blocks, count as usize, node.set, &counted, &counted) {
@@ -123,7 +136,7 @@ pub fn decide(
             ends,
             count,
             node.set,
-            total,
+            left,
             middles,
         );
     }
@@ -140,7 +153,7 @@ pub fn decide(
         ends,
         count,
         node,
-        total,
+        left,
         best,
     )
 }

@@ -79,6 +79,7 @@ pub fn explore(
     count: u32,
     left: u32,
     out: u32,
+    margin: u64,
     node: Node,
     best: Best,
 ) -> Best
@@ -111,6 +112,7 @@ pub fn explore(
             quantities,
             ends,
             count,
+            margin,
             node,
             best,
         );
@@ -132,6 +134,7 @@ pub fn explore(
             count,
             after,
             still,
+            margin,
             without,
             best,
         );
@@ -149,6 +152,7 @@ pub fn explore(
         count,
         after,
         still,
+        margin,
         with,
         best,
     );
@@ -167,6 +171,7 @@ pub fn explore(
         count,
         after,
         still,
+        margin,
         without,
         taken,
     )
