@@ -19,13 +19,13 @@ use orders::blocks_of;
 use orders::layout::HOURS;
 use orders::parents_of;
 use orders::steps_of;
+use passes::find;
 use records::day_hours;
 use records::edition_of;
 use records::record_count;
 use result::Clearing;
 use result::RECORD_ROW;
 use result::RECORD_ROWS;
-use passes::find;
 use setup::prepare;
 use setup::row_needed;
 

@@ -26,14 +26,14 @@ use Rattle.book.specs.Bounds.{mostBlocks}
 use Rattle.places.specs.Layout.{hourPlaces, lastLimit, gainColumn}
 use Rattle.places.specs.Hours.{cell, rowWidth}
 use Rattle.places.specs.Reach.{isOut}
-use Rattle.search.specs.Meaning.{Fits, Known, Turning, Branch, lossAbove, bestAs, DayOf, Outcome, StepsAre, ExploredFrom}
+use Rattle.search.specs.Meaning.{Fits, Known, Turning, Branch, lossAbove, DayOf, Outcome, StepsAre, ExploredFrom}
 use Rattle.search.specs.Tables.{Tables}
 use Rattle.orders.proofs.ColumnLaws.{zeros}
 use Rattle.places.proofs.CountedLaws.{change-apart, day-sum}
 use Rattle.search.proofs.ClosedLaws.{none-closed}
 use Rattle.search.proofs.DecidedLaws.{an-hour, gap-of-lawful, rest-below}
 use Rattle.search.specs.declared.Best.{Best}
-use Rattle.passes.specs.Passes.{root, startAt, Passed, FoundIn, AloneIn}
+use Rattle.passes.specs.Passes.{root, startAt, Passed}
 
 -- THE ROOT
 pub root-fits : (n : ℕ) → Fits n root

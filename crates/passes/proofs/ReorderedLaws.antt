@@ -1,15 +1,15 @@
 -- THE COLUMNS IN ANOTHER ORDER are those of the day with its blocks in that order, whose tables are the same; and a set that no other ties with there is,
 -- put back by number, the published one of the day itself, with the same prices and traded quantities. Assumes nothing.
-use Prim.Native.Nat.{ℕ, zero, suc, _+_, _-_, _/_, _%_, _^_, _≤_, _<_}
-use mathlib.Core.Bool.{Bool, true, false, cond}
+use Prim.Native.Nat.{ℕ, zero, suc, _-_, _<_}
+use mathlib.Core.Bool.{false}
 use mathlib.Core.List.{List}
-use mathlib.Core.Path.{_≡_, refl, sym, ap, _∙_}
+use mathlib.Core.Path.{_≡_, refl, sym, _∙_}
 use native.Mathlib.Omega.{arith}
 use borrow.Author.Tests.{ne-eqb}
 use lib.ListN.{length, getD}
 use lib.Seq.{ext-getD}
-use Rattle.rules.specs.Orders.{Step, Block}
-use Rattle.rules.specs.Day.{Day, decisions, overBlocks, sells, buys}
+use Rattle.rules.specs.Orders.{Step}
+use Rattle.rules.specs.Day.{Day, decisions, sells, buys}
 use Rattle.rules.specs.Outcome.{outcome}
 use Rattle.rules.specs.Contender.{NumbersRise}
 use Rattle.rules.proofs.AloneLaws.{OnlyBest}
@@ -44,7 +44,7 @@ use Rattle.rules.proofs.RearrangedLaws.{
 use Rattle.places.specs.Blocks.{BlocksSized, parentAt}
 use Rattle.order.specs.Order.{placedName, IsOrderOf, Reordered, ByNumber}
 use Rattle.search.specs.Tables.{Tables}
-use Rattle.search.specs.Meaning.{Sized, AnHour, Shown, Known, Turning, DayOf, StepsAre, lastReached}
+use Rattle.search.specs.Meaning.{Sized, Shown, Known, DayOf, lastReached}
 use Rattle.search.proofs.DecisionLaws.{decisions-long}
 use Rattle.search.specs.declared.Day as code-day
 use Rattle.search.specs.declared.Best.{Best}
@@ -171,13 +171,16 @@ module _ {day : Day} {p rest : ℕ → ℕ} {t : Tables} (known : Known day p re
         (alone : OnlyBest (rearranged (at order) day) (InTurn (rearranged (at order) day) p) (decisions (t .count) set)) where
       -- it is the published one
       pub published-back : decisions (t .count) numbered ≡ outcome day
-      published-back = decided-back ∙ sym (alone-is-outcome (at order) (at place) day order-of p (known .prices) (known .hours) rise (decisions (t .count) set) alone)
+      published-back =
+          decided-back
+          ∙ sym (alone-is-outcome (at order) (at place) day order-of p (known .prices) (known .hours) rise (decisions (t .count) set) alone)
 
       -- put in the order again, it is the set that was found
       there-again : byOrder (at order) (length (day .blocks)) (outcome day) ≡ decisions (t .count) set
       there-again =
           rw (← published-back, decided-back)
-          (by-place-back (length (day .blocks)) (at order) (at place) order-of (decisions (t .count) set) (decisions-long (t .count) set ∙ sym (known .counted)))
+          (by-place-back (length (day .blocks)) (at order) (at place) order-of (decisions (t .count) set)
+          (decisions-long (t .count) set ∙ sym (known .counted)))
 
       -- and its day is the published one's
       pub day-back : {found : code-day.Day} → DayOf (rearranged (at order) day) (decisions (t .count) set) found → DayOf day (outcome day) found

@@ -1,5 +1,4 @@
 // Passes over the blocks in another order, which look for ties: a set that no other ties with is the published one, whatever the order.
-ghost use mathlib.Core.Path.{_≡_};
 ghost use Prim.Native.Nat.{_≤_};
 ghost use Rattle.places.specs.Steps.{stepsAt};
 ghost use Rattle.guess.specs.Guess.{mostGuess};

@@ -1,6 +1,5 @@
 // The passes of the search over all blocks, until one has found the published set: by the blocks' numbers with small limits, where ordinary days are found;
 // then in another order of the blocks, which settles a set that no other ties with; by the blocks' numbers again where there may be a tie. Assumes nothing.
-ghost use mathlib.Core.Path.{_≡_};
 ghost use Rattle.places.specs.Steps.{stepsAt};
 ghost use Rattle.search.specs.Tables.{tablesOf};
 ghost use Rattle.passes.specs.Passes.{Given, FoundIn};
@@ -34,7 +33,8 @@ pub fn find(
     ends: &[u16],
     count: u32,
 ) -> Best
-    requires { ⌜ Given (tablesOf (now «unit_prices») (now gap) (now hours) (now blocks) count) (now hours) (now sides) (now prices) (now quantities) (now ends) ⌝ }
+    requires { ⌜ Given (tablesOf (now «unit_prices») (now gap) (now hours) (now blocks) count) (now hours) (now sides) (now prices) (now quantities)
+        (now ends) ⌝ }
     ensures { λ r. ⌜ FoundIn (tablesOf (now («unit_prices» .entry)) (now (gap .entry)) (now (hours .entry)) (now (blocks .entry)) count)
         (stepsAt (now (ends .entry)) (now (sides .entry)) (now (prices .entry)) (now (quantities .entry))) r ⌝ }
 {

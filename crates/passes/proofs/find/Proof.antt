@@ -1,6 +1,6 @@
 -- `passes::find` meets its contract: a pass by number that finds a set has found the published one; so have the passes in another order where no other set
 -- ties with it, and else the passes by number that go on. Assumes nothing.
-use Prim.Native.Nat.{_-_, _*_, _≤_}
+use Prim.Native.Nat.{_-_, _*_}
 use native.Mathlib.Omega.{arith}
 use Rattle.places.specs.Layout.{lastLimit}
 use Rattle.passes.specs.Passes.{LimitHeld}

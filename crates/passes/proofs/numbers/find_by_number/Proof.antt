@@ -5,7 +5,6 @@ use native.Mathlib.Omega.{arith}
 use Rattle.places.specs.Layout.{lastLimit}
 use Rattle.passes.specs.Passes.{LimitHeld}
 use Rattle.passes.proofs.PassLaws.{pass-is, pass-found}
-use borrow.Author.Needs.{needs}
 use Rattle.passes.proofs.numbers.find_by_number.Statement.{statement}
 use Rattle.passes.proofs.numbers.find_by_number.Tie as tie
 
