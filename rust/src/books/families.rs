@@ -307,13 +307,13 @@ fn deep_steps(dice: &mut Dice, count: usize) -> Orders {
     orders
 }
 
-fn push_step(orders: &mut Orders, side: Side, hour: u32, price: u32, quantity: u32) {
+pub(super) fn push_step(orders: &mut Orders, side: Side, hour: u32, price: u32, quantity: u32) {
     let number = orders.steps.len() as u32 + 1;
     let portfolio = 1 + number % 60;
     orders.steps.push(StepOrder { number, side, hour, price, quantity, portfolio });
 }
 
-fn push_block(orders: &mut Orders, side: Side, hours: u32, price: u32, quantity: u32) {
+pub(super) fn push_block(orders: &mut Orders, side: Side, hours: u32, price: u32, quantity: u32) {
     let number = orders.blocks.len() as u32 + 1;
     let limits = paper::limits(orders.edition).expect("an edition");
     let portfolio = 100 + (number - 1) / limits.blocks_of_a_portfolio as u32;
@@ -353,10 +353,10 @@ fn near_average(prices: &[(u32, u32)], hours: u32, thousandths: u32, dice: &mut 
     (sum / of_hours.count() as u32 * moved / 1000).clamp(1, 300_000)
 }
 
-const ALL_HOURS: u32 = (1 << 24) - 1;
+pub(super) const ALL_HOURS: u32 = (1 << 24) - 1;
 
 /// All day, by day, by night.
-fn standard_hours(dice: &mut Dice) -> u32 {
+pub(super) fn standard_hours(dice: &mut Dice) -> u32 {
     let day = 0x000f_ff00;
     dice.pick(&[ALL_HOURS, day, ALL_HOURS & !day])
 }
@@ -376,7 +376,7 @@ fn run_of_hours(dice: &mut Dice, least: u32, most: u32) -> u32 {
 }
 
 /// Two hours or more, each as likely as not.
-fn odd_hours(dice: &mut Dice) -> u32 {
+pub(super) fn odd_hours(dice: &mut Dice) -> u32 {
     loop {
         let hours = dice.bits() as u32 & ALL_HOURS;
         if hours.count_ones() >= 2 {
