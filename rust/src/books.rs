@@ -11,6 +11,7 @@
 //! - `lists`: lists of steps whose quantities are uncertain, right and wrong;
 //! - `shares`: books with large groups of steps at one price;
 //! - `shifts`: books in which prices give way;
+//! - `ties`: books in which many sets are as good as each other;
 //! - `step_limit`: books with as many steps of a portfolio in an hour as there may be;
 //! - `families`: large books for the benchmark;
 //! - `expected`: what is expected of the books in `bench-books`;
@@ -31,6 +32,7 @@ mod random;
 mod shares;
 mod shifts;
 mod step_limit;
+mod ties;
 mod worked;
 
 pub use builder::{hour_bits, hours_in, BlockOrder, LinkOrder, Orders, StepOrder};
@@ -59,6 +61,7 @@ pub use random::{
 pub use shares::{shared_book_on, shared_orders_on};
 pub use shifts::{shift_edges, shifted_book_on, shifted_orders_on, tiny_shifted_book_on};
 pub use step_limit::{step_limit_book, step_limit_edges, MOST_STEPS};
+pub use ties::{tied_book_on, tied_orders_on};
 pub use worked::{
     block_beside_the_day, cash_days, day_of_23_hours, day_of_25_hours, edition_2_day, fair_shares,
     head_alone, link_upwards, link_without_parent, linked_days, opposite_blocks, shifted_days,

@@ -12,7 +12,7 @@ use auction_listing::books::{
 use auction_listing::paper::{self, result_length_for, Published};
 use auction_listing::twin::by_value::{clearing, result::Clearing};
 use auction_listing::twin::count::{taken, Nodes};
-use auction_listing::twin::in_place::{self, Workspace};
+use auction_listing::twin::in_place::{self, Deciding, Workspace};
 use auction_listing::twin::source::differences;
 use std::path::Path;
 use std::sync::Mutex;
@@ -25,6 +25,9 @@ fn with_stack(compare: fn()) {
     large_stack::with_stack(compare);
     drop(alone);
 }
+
+/// How the proved source decides the blocks, so that the nodes are the same.
+const DECIDING: Deciding = Deciding::ByNumber;
 
 /// The answer, the result's bytes and the nodes.
 type Run = (u32, Vec<u8>, Nodes);
@@ -74,7 +77,7 @@ fn compare(name: &str, book: &[u8], size: usize, space: &mut Workspace) {
 #[test]
 fn the_twins_clear_small_books_as_the_listing() {
     with_stack(|| {
-        let mut space = Workspace::default();
+        let mut space = Workspace::deciding(DECIDING);
         let linked = linked_days().into_iter().filter(|(name, _)| *name != "linked-chain");
         for (name, orders) in worked_days().into_iter().chain(linked).chain(shifted_days()) {
             let book = orders.book();
@@ -92,7 +95,7 @@ fn the_twins_clear_small_books_as_the_listing() {
 #[test]
 fn the_twins_refuse_as_the_listing() {
     with_stack(|| {
-        let mut space = Workspace::default();
+        let mut space = Workspace::deciding(DECIDING);
         let damaged =
             (0..400).flat_map(|seed| [1, 2, 3, 4].map(|edition| reader_book_of(edition, seed)));
         let limits = edition_edges().into_iter().chain(link_edges()).chain(step_limit_edges());
@@ -117,7 +120,7 @@ fn compare_sizes(name: &str, book: &[u8], space: &mut Workspace) {
 #[test]
 fn the_twins_count_the_hours_as_the_listing() {
     with_stack(|| {
-        let mut space = Workspace::default();
+        let mut space = Workspace::deciding(DECIDING);
         for (i, book) in day_edges().iter().enumerate() {
             compare_sizes(&format!("edge {i} of the days"), book, &mut space);
         }
@@ -137,7 +140,7 @@ fn the_twins_count_the_hours_as_the_listing() {
 #[test]
 fn the_twins_shift_as_the_listing() {
     with_stack(|| {
-        let mut space = Workspace::default();
+        let mut space = Workspace::deciding(DECIDING);
         for (i, book) in shift_edges().iter().enumerate() {
             let name = format!("edge {i} of the shift");
             compare(&name, book, result_length_for(book), &mut space);
@@ -155,7 +158,7 @@ fn the_twins_shift_as_the_listing() {
 #[test]
 fn the_twins_share_as_the_listing() {
     with_stack(|| {
-        let mut space = Workspace::default();
+        let mut space = Workspace::deciding(DECIDING);
         for seed in 0..count("BOOKS", 3_000) {
             let (day, edition) = DAYS_AND_EDITIONS[seed as usize % DAYS_AND_EDITIONS.len()];
             let book = shared_book_on(day, edition, seed);
@@ -168,7 +171,7 @@ fn the_twins_share_as_the_listing() {
 #[test]
 fn the_twins_agree_on_large_books() {
     with_stack(|| {
-        let mut space = Workspace::default();
+        let mut space = Workspace::deciding(DECIDING);
         for family in FAMILIES {
             let (name, book) = (family.name, (family.book)(1, family.usual_blocks));
             agree_on_large(name, &book, &mut space);
@@ -190,7 +193,7 @@ fn agree_on_large(name: &str, book: &[u8], space: &mut Workspace) {
 #[test]
 fn the_twins_agree_on_large_linked_books() {
     with_stack(|| {
-        let mut space = Workspace::default();
+        let mut space = Workspace::deciding(DECIDING);
         let families = [2, 4, 8, 32].map(Shape::Families);
         let shapes = [Shape::Chain, Shape::Star, Shape::Tree, Shape::Any];
         // Two books of each seed and shape.

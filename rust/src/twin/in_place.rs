@@ -13,12 +13,16 @@
 //! - `root`: the prices that losses are counted at;
 //! - `guess`: a limit for one of its passes;
 //! - `shift`: where a set's prices stand between L and H;
-//! - `search`: the search;
+//! - `search`: a pass of the search;
+//! - `order`: another order in which it decides the blocks;
+//! - `passes`: passes with growing limits, by number and in another order;
 //! - `publish`: the result.
 
 mod guess;
 mod hours;
+mod order;
 mod orders;
+mod passes;
 mod publish;
 mod root;
 mod search;
@@ -26,6 +30,7 @@ mod shift;
 
 use hours::Hours;
 use orders::Orders;
+pub use passes::{Deciding, Settled};
 use publish::Leftovers;
 
 /// A list with a value for each of the 24 hours.
@@ -42,11 +47,25 @@ pub struct Workspace {
     small: Hours<{ SMALL + 2 }>,
     wide: Hours<{ WIDE + 2 }>,
     leftovers: Leftovers,
+    deciding: Deciding,
+    settled: Settled,
+}
+
+impl Workspace {
+    /// A workspace whose searches decide the blocks one way.
+    pub fn deciding(deciding: Deciding) -> Workspace {
+        Workspace { deciding, ..Workspace::default() }
+    }
+
+    /// Which passes have found the set of the last book that was cleared.
+    pub fn settled(&self) -> Settled {
+        self.settled
+    }
 }
 
 /// Clears a book: 0 when the outcome is written to the result, else the refusal.
 pub fn clear(book: &[u8], result: &mut [u8], space: &mut Workspace) -> u32 {
-    let Workspace { orders, small, wide, leftovers } = space;
+    let Workspace { orders, small, wide, leftovers, deciding, settled } = space;
     if let Err(refusal) = orders.read(book) {
         return refusal;
     }
@@ -55,30 +74,33 @@ pub fn clear(book: &[u8], result: &mut [u8], space: &mut Workspace) -> u32 {
     }
     // Rows close to each other are read faster, so that wide ones are kept for the days
     // that need them.
-    if orders.fit(SMALL as u32) {
-        clear_in(orders, small, leftovers, result);
+    *settled = if orders.fit(SMALL as u32) {
+        clear_in(orders, small, *deciding, leftovers, result)
     } else {
-        clear_in(orders, wide, leftovers, result);
-    }
+        clear_in(orders, wide, *deciding, leftovers, result)
+    };
     0
 }
 
 fn clear_in<const ROOM: usize>(
     orders: &Orders,
     hours: &mut Hours<ROOM>,
+    deciding: Deciding,
     leftovers: &mut Leftovers,
     result: &mut [u8],
-) {
+) -> Settled {
     hours.fill_prices(orders);
     let root = root::prices(orders, hours);
     hours.fill_gaps(&root);
     // Where there are no links, the search has no line for them, and where prices do not give
     // way none for their shift.
     let find = match (orders.links.is_empty(), orders.shifts) {
-        (true, false) => search::find::<ROOM, false, false>,
-        (false, false) => search::find::<ROOM, true, false>,
-        (true, true) => search::find::<ROOM, false, true>,
-        (false, true) => search::find::<ROOM, true, true>,
+        (true, false) => passes::find::<ROOM, false, false>,
+        (false, false) => passes::find::<ROOM, true, false>,
+        (true, true) => passes::find::<ROOM, false, true>,
+        (false, true) => passes::find::<ROOM, true, true>,
     };
-    publish::publish(orders, hours, &find(orders, hours, &root), leftovers, result);
+    let (best, settled) = find(orders, hours, &root, deciding);
+    publish::publish(orders, hours, &best, leftovers, result);
+    settled
 }

@@ -9,6 +9,7 @@ const LOOKS: u32 = 8;
 const MOVES: u32 = 7;
 
 /// The hours of a block as the day counts them.
+#[derive(Clone)]
 pub struct Mask {
     /// All ones at each hour.
     pub hours: ByHour<u32>,

@@ -1,4 +1,4 @@
-//! The search: the proved code's tree, with one state changed and changed back.
+//! A pass of the search: the proved code's tree, with one state changed and changed back.
 
 use super::guess::Guess;
 use super::hours::Hours;
@@ -16,7 +16,18 @@ pub struct Best {
     pub prices: ByHour<u32>,
 }
 
+/// What a pass finds.
+pub enum Pass {
+    Nothing,
+    /// The set that loses least; by numbers it is the published one.
+    Found(Best),
+    /// Two sets that lose the same, where the margin lets the second be met; or one that loses
+    /// one less than the limit.
+    Tied,
+}
+
 /// A block as the search needs it.
+#[derive(Clone)]
 pub struct Choice {
     pub sells: bool,
     limit: u32,
@@ -27,14 +38,14 @@ pub struct Choice {
     pub row: ByHour<u16>,
     mask: Mask,
     /// The blocks that have an hour in common with it, itself among them.
-    near: u32,
-    /// Its place in `Search::order`.
+    pub near: u32,
+    /// Its place in `Search::by_loss`.
     rank: usize,
     /// The bits of the blocks without which it is not taken: its parent, and the twin that
     /// is taken next before it, of those with lower numbers.
-    needs: u32,
+    pub needs: u32,
     /// The bit of the twin that is taken next after it, of those with lower numbers.
-    behind: u32,
+    pub behind: u32,
     /// The blocks that are not taken without it: its children, theirs and so on.
     pub below: u32,
 }
@@ -45,7 +56,7 @@ struct State {
     /// The places that can be reached.
     least: ByHour<u16>,
     most: ByHour<u16>,
-    /// How many blocks of `Search::order` are fixed by their losses or decided.
+    /// How many blocks of `Search::by_loss` are fixed by their losses or decided.
     fixed: usize,
     /// The undecided blocks that no completion takes, found by their limits and by those
     /// of the blocks above them.
@@ -62,78 +73,65 @@ struct State {
 
 /// The search of a day, `LINKED` or without links, with prices that give way, `SHIFTED`, or
 /// without.
-struct Search<'a, const ROOM: usize, const LINKED: bool, const SHIFTED: bool> {
-    hours: &'a Hours<ROOM>,
+pub struct Search<'a, const ROOM: usize, const LINKED: bool, const SHIFTED: bool> {
+    pub hours: &'a Hours<ROOM>,
     day: Day,
-    choices: Vec<Choice>,
-    /// The blocks in falling order of loss.
-    order: Vec<usize>,
+    /// The blocks in the order in which they are decided.
+    pub choices: Vec<Choice>,
+    /// Their places in falling order of loss.
+    by_loss: Vec<usize>,
     sells: u32,
     all: u32,
     limit: u64,
+    /// What is added to a set's loss to give the limit from there on: 0, or 1 for ties.
+    margin: u64,
     found: bool,
+    tied: bool,
     best: Best,
     state: State,
-}
-
-/// The limit after which the published set's loss is guessed.
-const LAST_BEFORE_GUESS: u64 = 8_192;
-
-/// Passes with a growing limit until one finds a set.
-pub fn find<const ROOM: usize, const LINKED: bool, const SHIFTED: bool>(
-    orders: &Orders,
-    hours: &Hours<ROOM>,
-    root: &ByHour<u32>,
-) -> Best {
-    let mut search = Search::<ROOM, LINKED, SHIFTED>::new(orders, hours, root);
-    let start = search.state;
-    let mut limit = 1024;
-    let mut guessed = None;
-    loop {
-        search.limit = limit;
-        search.state = start;
-        search.explore(0, 0, 0);
-        if search.found || limit >= 549_755_813_888 {
-            return search.best;
-        }
-        if limit == LAST_BEFORE_GUESS {
-            guessed = search.guess();
-        }
-        // A guess that is further off is often too high by far.
-        let near = limit..=3 * limit + limit / 8;
-        limit = guessed.filter(|loss| near.contains(loss)).map_or(2 * limit, |loss| loss + 1);
-    }
 }
 
 impl<'a, const ROOM: usize, const LINKED: bool, const SHIFTED: bool>
     Search<'a, ROOM, LINKED, SHIFTED>
 {
-    fn new(orders: &Orders, hours: &'a Hours<ROOM>, root: &ByHour<u32>) -> Self {
-        let mut choices = choices(orders, root);
-        let mut order: Vec<usize> = (0..choices.len()).collect();
-        order.sort_by_key(|&i| std::cmp::Reverse(choices[i].taken + choices[i].left));
-        for (rank, &i) in order.iter().enumerate() {
+    pub fn new(hours: &'a Hours<ROOM>, day: Day, choices: Vec<Choice>, margin: u64) -> Self {
+        let mut choices = choices;
+        let mut by_loss: Vec<usize> = (0..choices.len()).collect();
+        by_loss.sort_by_key(|&i| std::cmp::Reverse(choices[i].taken + choices[i].left));
+        for (rank, &i) in by_loss.iter().enumerate() {
             choices[i].rank = rank;
         }
-        let sells = bits_where(&orders.blocks, |block| block.sells);
-        let state = State {
-            least: [0; 24],
-            most: hours.most,
-            fixed: 0,
-            out: 0,
-            orphans: 0,
-            risk: u32::MAX,
-            changed: true,
-            gaps: 0,
-        };
-        let all = bits_where(&orders.blocks, |_| true);
-        let best = Best::default();
-        let day = orders.day;
-        Search { hours, day, choices, order, sells, all, limit: 0, found: false, best, state }
+        Search {
+            hours,
+            day,
+            sells: bits_where(&choices, |choice| choice.sells),
+            all: bits_where(&choices, |_| true),
+            choices,
+            by_loss,
+            limit: 0,
+            margin,
+            found: false,
+            tied: false,
+            best: Best::default(),
+            state: State::before(hours.most),
+        }
+    }
+
+    /// All sets that lose less than a limit, but for the branches that are dropped.
+    pub fn pass(&mut self, limit: u64) -> Pass {
+        self.limit = limit;
+        (self.found, self.tied) = (false, false);
+        self.state = State::before(self.hours.most);
+        self.explore(0, 0, 0);
+        match (self.tied, self.found) {
+            (true, _) => Pass::Tied,
+            (false, true) => Pass::Found(self.best),
+            (false, false) => Pass::Nothing,
+        }
     }
 
     /// A guess of what the published set loses.
-    fn guess(&self) -> Option<u64> {
+    pub fn guess(&self) -> Option<u64> {
         Guess { choices: &self.choices, hours: self.hours, day: &self.day }.least()
     }
 
@@ -226,7 +224,7 @@ impl<'a, const ROOM: usize, const LINKED: bool, const SHIFTED: bool>
 
     /// Decides the undecided blocks whose other decision would lose the limit.
     fn fix(&mut self, at: usize, loss: u64) {
-        while let Some(&i) = self.order.get(self.state.fixed) {
+        while let Some(&i) = self.by_loss.get(self.state.fixed) {
             let choice = &self.choices[i];
             if loss + choice.taken + choice.left < self.limit {
                 return;
@@ -307,14 +305,17 @@ impl<'a, const ROOM: usize, const LINKED: bool, const SHIFTED: bool>
         self.state.out |= missing;
     }
 
-    /// All blocks are decided: the set is the best so far where it passes as well.
+    /// All blocks are decided: the set is the best so far where it passes as well. One that
+    /// leaves the limit as it was ties, and ends the pass.
     fn decide(&mut self, set: u32, loss: u64) {
         if !self.passes(set, loss) {
             return;
         }
         let places = self.state.least;
         let Some(prices) = self.kept_prices(set, &places) else { return };
-        self.limit = loss + self.state.gaps;
+        let left = loss + self.state.gaps + self.margin;
+        self.tied = left == self.limit;
+        self.limit = if self.tied { 0 } else { left };
         self.found = true;
         self.best = Best { set, places, prices };
     }
@@ -366,6 +367,20 @@ pub fn bits_of(bits: u32) -> impl Iterator<Item = usize> {
 }
 
 impl State {
+    /// No block is decided, and the places reach up to the most of each hour.
+    fn before(most: ByHour<u16>) -> State {
+        State {
+            least: [0; 24],
+            most,
+            fixed: 0,
+            out: 0,
+            orphans: 0,
+            risk: u32::MAX,
+            changed: true,
+            gaps: 0,
+        }
+    }
+
     fn is_out(&self, i: usize) -> bool {
         (self.out >> i) & 1 == 1
     }
@@ -417,7 +432,8 @@ impl State {
     }
 }
 
-fn choices(orders: &Orders, root: &ByHour<u32>) -> Vec<Choice> {
+/// The blocks of a day by number, with what they lose at the root prices.
+pub fn choices_of(orders: &Orders, root: &ByHour<u32>) -> Vec<Choice> {
     let choice = |block: &Block| {
         let mask = Mask::of(block, &orders.day);
         let sum = mask.sum(root);
@@ -489,6 +505,6 @@ fn twins_of(blocks: &[Block], parents: u32, i: usize) -> (u32, u32) {
 }
 
 /// A bit for each block that is wanted.
-fn bits_where(blocks: &[Block], wanted: impl Fn(&Block) -> bool) -> u32 {
+fn bits_where<T>(blocks: &[T], wanted: impl Fn(&T) -> bool) -> u32 {
     (0..blocks.len()).filter(|&i| wanted(&blocks[i])).map(|i| 1 << i).sum()
 }
