@@ -24,7 +24,7 @@ pub struct Family {
 }
 
 impl Family {
-    const fn new(
+    pub(super) const fn new(
         name: &'static str,
         usual_blocks: usize,
         quick_blocks: usize,
@@ -93,7 +93,7 @@ fn identical_blocks(seed: u64, blocks: usize) -> Vec<u8> {
 }
 
 /// A full day of an edition; of a seed the same orders in each.
-fn full_day_of(edition: u32, seed: u64, blocks: usize) -> Vec<u8> {
+pub fn full_day_of(edition: u32, seed: u64, blocks: usize) -> Vec<u8> {
     let mut dice = Dice::new(seed);
     let mut orders = deep_steps(&mut dice, 2015).of_edition(edition);
     add_ordinary_blocks(&mut orders, &mut dice, blocks, usual_hours, 20);
@@ -356,7 +356,7 @@ fn near_average(prices: &[(u32, u32)], hours: u32, thousandths: u32, dice: &mut 
 pub(super) const ALL_HOURS: u32 = (1 << 24) - 1;
 
 /// All day, by day, by night.
-pub(super) fn standard_hours(dice: &mut Dice) -> u32 {
+fn standard_hours(dice: &mut Dice) -> u32 {
     let day = 0x000f_ff00;
     dice.pick(&[ALL_HOURS, day, ALL_HOURS & !day])
 }
@@ -376,7 +376,7 @@ fn run_of_hours(dice: &mut Dice, least: u32, most: u32) -> u32 {
 }
 
 /// Two hours or more, each as likely as not.
-pub(super) fn odd_hours(dice: &mut Dice) -> u32 {
+fn odd_hours(dice: &mut Dice) -> u32 {
     loop {
         let hours = dice.bits() as u32 & ALL_HOURS;
         if hours.count_ones() >= 2 {
