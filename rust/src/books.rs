@@ -14,6 +14,7 @@
 //! - `ties`: books in which many sets are as good as each other;
 //! - `step_limit`: books with as many steps of a portfolio in an hour as there may be;
 //! - `families`: large books for the benchmark;
+//! - `worst`: the worst families of large books that are known;
 //! - `expected`: what is expected of the books in `bench-books`;
 //! - `worked`: the days of documents 01 and 02 that are checked by hand;
 //! - `count`: how many books a test looks at, and what it meets among them.
@@ -34,6 +35,7 @@ mod shifts;
 mod step_limit;
 mod ties;
 mod worked;
+mod worst;
 
 pub use builder::{hour_bits, hours_in, BlockOrder, LinkOrder, Orders, StepOrder};
 pub use count::{count, raised, Met};
@@ -47,7 +49,7 @@ pub use days::{
 };
 pub use dice::Dice;
 pub use expected::Expected;
-pub use families::{full_day, linked_day, Family, FAMILIES};
+pub use families::{full_day, full_day_of, linked_day, Family, FAMILIES};
 pub use links::{link_edges, Shape};
 pub use lists::{
     damaged_list, list_edges, list_of, random_list, tiny_list, ListEdge, ListFamily, ListStep, BUY,
@@ -68,3 +70,4 @@ pub use worked::{
     step_beside_the_day, steps_256, thirty_two_blocks, worked_days, CHAIN_OF_32_TAKEN,
     EDITION_2_BLOCKS, FAIR_SHARES_ROWS, THIRTY_TWO_BLOCKS_TAKEN,
 };
+pub use worst::WORST_FAMILIES;

@@ -2,7 +2,7 @@
 //! seed, and the numbers of the benchmark are those of its books.
 
 use auction_listing::books::{
-    edge_books, pricing_case, small_book, small_book_on, tiny_book, DAYS, FAMILIES,
+    edge_books, pricing_case, small_book, small_book_on, tiny_book, DAYS, FAMILIES, WORST_FAMILIES,
 };
 use auction_listing::paper::{clear, result_length};
 
@@ -53,6 +53,14 @@ fn the_families_of_edition_1_are_those_of_before() {
         let books = (0..20).map(|seed| (family.book)(seed, family.usual_blocks));
         assert_eq!(Sum::of(books), sum, "{name}");
     }
+}
+
+#[test]
+fn the_worst_families_are_those_of_before() {
+    let of_all = |seed, blocks| WORST_FAMILIES.iter().map(move |it| (it.book)(seed, blocks));
+    let books = |blocks| (0..20).flat_map(move |seed| of_all(seed, blocks));
+    assert_eq!(Sum::of(books(24)), 0x9d32_7595_dfb8_db56);
+    assert_eq!(Sum::of(books(32)), 0xfe26_d811_4924_6963);
 }
 
 /// A book of edition 1, 2 or 3 with its result behind it.

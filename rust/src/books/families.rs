@@ -24,7 +24,7 @@ pub struct Family {
 }
 
 impl Family {
-    const fn new(
+    pub(super) const fn new(
         name: &'static str,
         usual_blocks: usize,
         quick_blocks: usize,
@@ -93,7 +93,7 @@ fn identical_blocks(seed: u64, blocks: usize) -> Vec<u8> {
 }
 
 /// A full day of an edition; of a seed the same orders in each.
-fn full_day_of(edition: u32, seed: u64, blocks: usize) -> Vec<u8> {
+pub fn full_day_of(edition: u32, seed: u64, blocks: usize) -> Vec<u8> {
     let mut dice = Dice::new(seed);
     let mut orders = deep_steps(&mut dice, 2015).of_edition(edition);
     add_ordinary_blocks(&mut orders, &mut dice, blocks, usual_hours, 20);
@@ -307,13 +307,13 @@ fn deep_steps(dice: &mut Dice, count: usize) -> Orders {
     orders
 }
 
-fn push_step(orders: &mut Orders, side: Side, hour: u32, price: u32, quantity: u32) {
+pub(super) fn push_step(orders: &mut Orders, side: Side, hour: u32, price: u32, quantity: u32) {
     let number = orders.steps.len() as u32 + 1;
     let portfolio = 1 + number % 60;
     orders.steps.push(StepOrder { number, side, hour, price, quantity, portfolio });
 }
 
-fn push_block(orders: &mut Orders, side: Side, hours: u32, price: u32, quantity: u32) {
+pub(super) fn push_block(orders: &mut Orders, side: Side, hours: u32, price: u32, quantity: u32) {
     let number = orders.blocks.len() as u32 + 1;
     let limits = paper::limits(orders.edition).expect("an edition");
     let portfolio = 100 + (number - 1) / limits.blocks_of_a_portfolio as u32;
@@ -353,7 +353,7 @@ fn near_average(prices: &[(u32, u32)], hours: u32, thousandths: u32, dice: &mut 
     (sum / of_hours.count() as u32 * moved / 1000).clamp(1, 300_000)
 }
 
-const ALL_HOURS: u32 = (1 << 24) - 1;
+pub(super) const ALL_HOURS: u32 = (1 << 24) - 1;
 
 /// All day, by day, by night.
 fn standard_hours(dice: &mut Dice) -> u32 {

@@ -7,6 +7,7 @@
 //! - `measure`: times and nodes on one book;
 //! - `report`: the tables;
 //! - `growth`: generated books: families, and by number of blocks and steps;
+//! - `worst`: the worst families that are known;
 //! - `texts`: the calls that write a text, beside the clearing;
 //! - `ranges`: price ranges of full lists, beside prices.
 
@@ -18,6 +19,7 @@ mod ranges;
 mod report;
 mod subject;
 mod texts;
+mod worst;
 
 use auction_listing::twin::source;
 use clearers::{Clearer, Kind};
@@ -27,6 +29,9 @@ use std::process::ExitCode;
 
 /// The proved library and the by-value twin keep their tables on the stack.
 const STACK: usize = 64 << 20;
+
+/// Seconds after which a clearing is given up, where nothing else is said.
+const LIMIT: f64 = 5.0;
 
 /// What the command line asks for.
 struct Options {
@@ -47,24 +52,27 @@ fn work() -> ExitCode {
     let words: Vec<String> = std::env::args().skip(1).collect();
     match words.first().map(String::as_str) {
         Some("--once") => once(&words[1]),
+        Some("--trial") => worst::trial(&words[1], &book_given()),
         Some("--time") => words[1..].iter().for_each(|file| time(file)),
         Some("--texts") => texts::texts(),
         Some("--nodes") => words[2..].iter().for_each(|file| nodes(&words[1], file)),
         Some("--ranges") => return verdict(ranges::table()),
-        _ => return tables(&options(words)),
+        Some("--worst") => return verdict(worst::table(&options(&words[1..], worst::LIMIT))),
+        _ => return tables(&options(&words, LIMIT)),
     }
     ExitCode::SUCCESS
 }
 
-fn options(words: Vec<String>) -> Options {
+fn options(words: &[String], limit: f64) -> Options {
     let package = Path::new(env!("CARGO_MANIFEST_DIR"));
     let mut crates = package.join("../crates");
-    let mut options =
-        Options { limit: 5.0, generated: true, same_source: false, files: Vec::new() };
-    let mut words = words.into_iter();
+    let mut options = Options { limit, generated: true, same_source: false, files: Vec::new() };
+    let mut words = words.iter().cloned();
     while let Some(word) = words.next() {
         match word.as_str() {
-            "--limit" => options.limit = words.next().map_or(5.0, |s| s.parse().expect("seconds")),
+            "--limit" => {
+                options.limit = words.next().map_or(limit, |s| s.parse().expect("seconds"));
+            }
             "--crates" => crates = words.next().expect("a folder of crates").into(),
             "--no-generated" => options.generated = false,
             _ => options.files.push(word),
@@ -75,10 +83,16 @@ fn options(words: Vec<String>) -> Options {
     options
 }
 
-/// Clears the book on standard input once, for a run that is watched from outside.
-fn once(kind: &str) {
+/// The book on standard input.
+fn book_given() -> Vec<u8> {
     let mut book = Vec::new();
     std::io::stdin().read_to_end(&mut book).expect("a book on standard input");
+    book
+}
+
+/// Clears the book on standard input once, for a run that is watched from outside.
+fn once(kind: &str) {
+    let book = book_given();
     let mut result = vec![0; subject::result_length(&book)];
     Clearer::new(Kind::named(kind)).clear(&book, &mut result);
 }

@@ -5,7 +5,7 @@ use crate::clock::keep;
 use crate::subject::{result_length, Subject};
 use auction_listing::paper::Published;
 use auction_listing::twin::count::{self, Nodes};
-use std::io::Write;
+use std::io::{Read, Write};
 use std::process::{Command, Stdio};
 use std::time::{Duration, Instant};
 
@@ -60,23 +60,32 @@ pub fn measure(subject: &Subject, limit: f64) -> Measured {
     Measured { seconds, outside, nodes, nodes_outside, agree }
 }
 
-/// Whether a clearing ends in time, tried in a process of its own.
+/// Whether a clearing ends in time.
 fn ends_within(kind: Kind, book: &[u8], limit: f64) -> bool {
+    said_within("--once", kind, book, limit).is_some()
+}
+
+/// What this program says in a process of its own, called by another word with a book on its
+/// standard input; nothing where it does not end in time.
+pub fn said_within(word: &str, kind: Kind, book: &[u8], limit: f64) -> Option<String> {
     let program = std::env::current_exe().expect("this program");
     let mut command = Command::new(program);
-    command.args(["--once", kind.name()]).stdin(Stdio::piped());
+    command.args([word, kind.name()]).stdin(Stdio::piped()).stdout(Stdio::piped());
     let mut child = command.spawn().expect("a process");
     child.stdin.take().expect("its input").write_all(book).expect("the book");
     let start = Instant::now();
     while start.elapsed().as_secs_f64() < limit {
         if let Some(status) = child.try_wait().expect("its state") {
             assert!(status.success(), "{} failed", kind.name());
-            return true;
+            let mut said = String::new();
+            let mut output = child.stdout.take().expect("its output");
+            output.read_to_string(&mut said).expect("what it says");
+            return Some(said);
         }
         std::thread::sleep(Duration::from_micros(200));
     }
     child.kill().and_then(|()| child.wait()).expect("it can be ended");
-    false
+    None
 }
 
 /// Whether all results are the same and as expected, and the nodes of the twins.
