@@ -9,13 +9,13 @@ use crate::twin::by_value::orders::blocks_of;
 use crate::twin::by_value::orders::layout::HOURS;
 use crate::twin::by_value::orders::parents_of;
 use crate::twin::by_value::orders::steps_of;
+use crate::twin::by_value::passes::find;
 use crate::twin::by_value::records::day_hours;
 use crate::twin::by_value::records::edition_of;
 use crate::twin::by_value::records::record_count;
 use crate::twin::by_value::result::Clearing;
 use crate::twin::by_value::result::RECORD_ROW;
 use crate::twin::by_value::result::RECORD_ROWS;
-use crate::twin::by_value::passes::find;
 use crate::twin::by_value::setup::prepare;
 use crate::twin::by_value::setup::row_needed;
 

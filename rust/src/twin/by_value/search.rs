@@ -14,7 +14,7 @@ pub struct Day {
     pub quantities: [u32; HOURS],
 }
 
-// The least loss so far with its set and day; at first a threshold.
+// The limit below which a loss must fall, with the set that left it and its day; at first a limit alone.
 #[derive(Clone, Copy)]
 pub struct Best {
     pub limit: u64,
