@@ -4,6 +4,7 @@ use mathlib.Core.Bool.{true, false, _&&_}
 use mathlib.Core.Path.{_≡_, refl, ap}
 use mathlib.Core.List.{List}
 use native.Mathlib.Omega.{arith}
+use native.Mathlib.Numerals.{sub-one}
 use lib.Dec.{leb}
 use lib.ListN.{getD}
 use borrow.Author.Tests.{leb-true, le-leb, lt-leb, eq-eqb, ne-eqb}
@@ -21,6 +22,10 @@ name-none place name e = rw (eq-eqb name 0 e)
 pub name-some : (place : List ℕ) (name : ℕ) → 0 < name → placedName place name ≡ suc (getD place (name - 1) 0)
 unfolding placedName
 name-some place name some = rw (ne-eqb name 0 (λ e. omega arith))
+
+-- so of block k its place and 1
+pub name-suc : (place : List ℕ) (k : ℕ) → placedName place (suc k) ≡ suc (getD place k 0)
+name-suc place k = rw sub-one at (name-some place (suc k) (omega arith))
 
 -- A TWIN'S NAME
 -- of a block that is none of count there is none

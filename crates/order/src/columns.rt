@@ -19,7 +19,7 @@ const SIX_COLUMNS: usize = PARENT;
 
 // The first six columns in an order, with room for the others.
 fn columns_in(blocks: &[u32], order: [usize; MOST_BLOCKS], count: usize) -> [u32; BLOCK_LIST]
-    requires { ⌜ BlocksSized (now blocks) × (count ≤ mostBlocks) × EachBelow count mostBlocks order ⌝ }
+    requires { ⌜ BlocksSized (now blocks) × (count ≤ mostBlocks) × EachBelow count count order ⌝ }
     ensures { λ r. ⌜ ColumnsIn count order (now (blocks .entry)) r ⌝ }
 {
     let mut r = [0; BLOCK_LIST];
@@ -64,7 +64,7 @@ fn with_rows(
     order: [usize; MOST_BLOCKS],
     count: usize,
 ) -> [u32; BLOCK_LIST]
-    requires { ⌜ BlocksSized (now blocks) × (count ≤ mostBlocks) × EachBelow count mostBlocks order ⌝ }
+    requires { ⌜ BlocksSized (now blocks) × (count ≤ mostBlocks) × EachBelow count count order ⌝ }
     ensures { λ r. ⌜ RowsIn count order (now (blocks .entry)) linked r ⌝ }
 {
     let mut r = linked;

@@ -6,7 +6,7 @@ use places::layout::MOST_BLOCKS;
 
 // The blocks at the places of a set, by their numbers: block i is in it where its place is in the set.
 pub fn by_number(set: u32, place: [usize; MOST_BLOCKS], count: usize) -> u32
-    requires { ⌜ (count ≤ mostBlocks) × EachBelow count mostBlocks place ⌝ }
+    requires { ⌜ (count ≤ mostBlocks) × EachBelow count count place ⌝ }
     ensures { λ r. ⌜ ByNumber count place set r ⌝ }
 {
     let mut numbered: u32 = 0;

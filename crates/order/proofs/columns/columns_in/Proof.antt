@@ -18,7 +18,9 @@ abbrev μ-loop : tie.MeasureT-loop
 
 -- the number of the block at place k % mostBlocks fits
 block-fits : (c : tie.Then1 Inv-loop μ-loop) → getD (c .before .before .before .args .t2) (c .before .before .loop .k % mostBlocks) 0 < mostBlocks
-block-fits c = c .before .before .before .pre .2 (c .before .before .loop .k % mostBlocks) (c .if1 .taken)
+block-fits c =
+    let start = c .before .before .before in
+    omega (arith, start .pre .2 (c .before .before .loop .k % mostBlocks) (c .if1 .taken), start .pre .1)
 
 loop-holds : tie.Need-loop-holds Inv-loop μ-loop
 loop-holds c = columns-start _ _ _

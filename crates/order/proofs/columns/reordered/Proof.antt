@@ -6,17 +6,13 @@ use Rattle.order.proofs.columns.reordered.Statement.{statement}
 use Rattle.order.proofs.columns.reordered.Tie as tie
 
 columns-in-requires : tie.Need-columns-in-requires
-columns-in-requires c κs =
-    let pre = c .before .pre in
-    (pre .0, pre .1, λ j k. omega (arith, pre .2 .orderIn j k, pre .1))
+columns-in-requires c κs = let pre = c .before .pre in (pre .0, pre .1, pre .2 .orderIn)
 
 with-links-requires : tie.Need-with-links-requires
 with-links-requires c κs = search needs
 
 with-rows-requires : tie.Need-with-rows-requires
-with-rows-requires c κs =
-    let pre = c .before .before .before .pre in
-    (pre .0, pre .1, λ j k. omega (arith, pre .2 .orderIn j k, pre .1))
+with-rows-requires c κs = let pre = c .before .before .before .pre in (pre .0, pre .1, pre .2 .orderIn)
 
 returns : tie.Need-returns
 returns c =

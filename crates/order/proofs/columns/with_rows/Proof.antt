@@ -17,7 +17,9 @@ abbrev μ-loop : tie.MeasureT-loop
 
 -- the number of the block whose row it is fits
 block-fits : (c : tie.In-loop Inv-loop μ-loop) → getD (c .before .before .args .t3) (c .before .loop .k / hourPlaces) 0 < mostBlocks
-block-fits c = c .before .before .pre .2 (c .before .loop .k / hourPlaces) (omega (arith, c .loop-test .taken))
+block-fits c =
+    let start = c .before .before in
+    omega (arith, start .pre .2 (c .before .loop .k / hourPlaces) (omega (arith, c .loop-test .taken)), start .pre .1)
 
 loop-holds : tie.Need-loop-holds Inv-loop μ-loop
 loop-holds c = rows-start _ _ _ _ (search needs)
