@@ -5,8 +5,10 @@ ghost use Rattle.guess.specs.Guess.{mostGuess};
 ghost use Rattle.search.specs.Tables.{tablesOf};
 ghost use Rattle.passes.specs.Passes.{Given, FoundIn, AloneIn, OrderedIn};
 use crate::Ordered;
+use crate::limits::FOR_TIES;
 use crate::limits::LAST_BEFORE_GUESS;
 use crate::limits::LAST_LIMIT;
+use crate::limits::NO_MARGIN;
 use crate::limits::limit_after;
 use crate::numbers::pass;
 use crate::numbers::start_at;
@@ -16,9 +18,6 @@ use order::is_order;
 use order::places_of;
 use order::reordered;
 use search::Best;
-
-// By 1 a pass looks for ties.
-const TIES: u64 = 1;
 
 // What the passes over the blocks give as they stand: they end where one finds a set or a tie.
 fn settle(
@@ -38,7 +37,7 @@ fn settle(
     ensures { λ r. ⌜ OrderedIn (AloneIn (tablesOf (now («unit_prices» .entry)) (now (gap .entry)) (now (hours .entry)) (now (blocks .entry)) count)
         (stepsAt (now (ends .entry)) (now (sides .entry)) (now (prices .entry)) (now (quantities .entry)))) r ⌝ }
 {
-    let mut limit = limit_after(LAST_BEFORE_GUESS, guessed, TIES);
+    let mut limit = limit_after(LAST_BEFORE_GUESS, guessed, FOR_TIES);
     while limit < LAST_LIMIT {
         let found = pass(
             unit_prices,
@@ -50,7 +49,7 @@ fn settle(
             quantities,
             ends,
             count,
-            TIES,
+            FOR_TIES,
             limit,
         );
         if found.limit < limit {
@@ -59,7 +58,7 @@ fn settle(
                 limit: limit,
             };
         }
-        limit = limit_after(limit, guessed, TIES);
+        limit = limit_after(limit, guessed, FOR_TIES);
     }
     let none = start_at(0);
     Ordered {
@@ -92,7 +91,7 @@ pub fn find_in_order(
         let none = start_at(0);
         return Ordered {
             best: none,
-            limit: limit_after(LAST_BEFORE_GUESS, guessed, 0),
+            limit: limit_after(LAST_BEFORE_GUESS, guessed, NO_MARGIN),
         };
     }
     let other = reordered(blocks, order, place, count as usize);

@@ -6,6 +6,7 @@ ghost use Rattle.passes.specs.Passes.{Given, FoundIn};
 use crate::in_order::find_in_order;
 use crate::limits::FIRST_LIMIT;
 use crate::limits::LAST_BEFORE_GUESS;
+use crate::limits::NO_MARGIN;
 use crate::numbers::find_by_number;
 use crate::numbers::pass;
 use guess::guess;
@@ -50,7 +51,7 @@ pub fn find(
             quantities,
             ends,
             count,
-            0,
+            NO_MARGIN,
             limit,
         );
         if found.limit < limit {

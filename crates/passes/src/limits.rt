@@ -3,6 +3,11 @@ ghost use Prim.Native.Nat.{_*_, _≤_, _<_};
 ghost use Rattle.places.specs.Layout.{lastLimit};
 ghost use Rattle.guess.specs.Guess.{mostGuess};
 
+// The margin of a pass: none, or one by which it looks for ties.
+pub const NO_MARGIN: u64 = 0;
+
+pub const FOR_TIES: u64 = 1;
+
 // The limit of the first pass: the published set seldom loses as much.
 pub const FIRST_LIMIT: u64 = 1024;
 

@@ -6,6 +6,7 @@ ghost use Rattle.guess.specs.Guess.{mostGuess};
 ghost use Rattle.search.specs.Tables.{tablesOf};
 ghost use Rattle.passes.specs.Passes.{Given, LimitHeld, startAt, Passed, FoundIn};
 use crate::limits::LAST_LIMIT;
+use crate::limits::NO_MARGIN;
 use crate::limits::limit_after;
 use places::layout::HOURS;
 use search::Best;
@@ -102,13 +103,13 @@ pub fn find_by_number(
             quantities,
             ends,
             count,
-            0,
+            NO_MARGIN,
             limit,
         );
         if found.limit < limit {
             return found;
         }
-        limit = limit_after(limit, guessed, 0);
+        limit = limit_after(limit, guessed, NO_MARGIN);
     }
     pass(
         unit_prices,
@@ -120,7 +121,7 @@ pub fn find_by_number(
         quantities,
         ends,
         count,
-        0,
+        NO_MARGIN,
         limit,
     )
 }

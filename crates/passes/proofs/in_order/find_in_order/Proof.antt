@@ -54,8 +54,7 @@ settle-requires c κs =
 by-number-requires : tie.Need-by-number-requires
 by-number-requires c κs =
     let e = tested (c .before .before) in
-    let few = start (e .before) .pre .0 .0 .few in
-    (few, λ i k. omega (arith, is-one e .placeIn i k))
+    (start (e .before) .pre .0 .0 .few, is-one e .placeIn)
 
 returns-2 : tie.Need-returns-2
 returns-2 c =
