@@ -109,7 +109,7 @@ sum-once (suc n) zero c inside =
 sum-once (suc n) (suc k) c inside =
     let head : when (eqb (suc k) 0) (c 0) ≡ 0 = rw (ne-eqb (suc k) 0 (λ e. omega arith)) in
     let later = sum-same n (λ i. when (eqb (suc k) (suc i)) (c (suc i))) (λ i. when (eqb k i) (c (suc i)))
-        (λ i _. rw (test-same (suc k) (suc i) k i suc-inj (ap suc))) in
+    (λ i _. rw (test-same (suc k) (suc i) k i suc-inj (ap suc))) in
     omega (arith, sum-once n k (λ i. c (suc i)) (omega arith))
 
 -- THE LAW OF ORDERS: a sum in an order is the sum
