@@ -4,6 +4,7 @@
 use crate::twin::by_value::passes::in_order::find_in_order;
 use crate::twin::by_value::passes::limits::FIRST_LIMIT;
 use crate::twin::by_value::passes::limits::LAST_BEFORE_GUESS;
+use crate::twin::by_value::passes::limits::NO_MARGIN;
 use crate::twin::by_value::passes::numbers::find_by_number;
 use crate::twin::by_value::passes::numbers::pass;
 use crate::twin::by_value::guess::guess;
@@ -45,7 +46,7 @@ pub fn find(
             quantities,
             ends,
             count,
-            0,
+            NO_MARGIN,
             limit,
         );
         if found.limit < limit {

@@ -1,8 +1,10 @@
 // Written by `twin_source` from crates/passes/src/in_order.rt.
 // Passes over the blocks in another order, which look for ties: a set that no other ties with is the published one, whatever the order.
 use crate::twin::by_value::passes::Ordered;
+use crate::twin::by_value::passes::limits::FOR_TIES;
 use crate::twin::by_value::passes::limits::LAST_BEFORE_GUESS;
 use crate::twin::by_value::passes::limits::LAST_LIMIT;
+use crate::twin::by_value::passes::limits::NO_MARGIN;
 use crate::twin::by_value::passes::limits::limit_after;
 use crate::twin::by_value::passes::numbers::pass;
 use crate::twin::by_value::passes::numbers::start_at;
@@ -12,9 +14,6 @@ use crate::twin::by_value::order::is_order;
 use crate::twin::by_value::order::places_of;
 use crate::twin::by_value::order::reordered;
 use crate::twin::by_value::search::Best;
-
-// By 1 a pass looks for ties.
-const TIES: u64 = 1;
 
 // What the passes over the blocks give as they stand: they end where one finds a set or a tie.
 fn settle(
@@ -30,7 +29,7 @@ fn settle(
     guessed: u64,
 ) -> Ordered
 {
-    let mut limit = limit_after(LAST_BEFORE_GUESS, guessed, TIES);
+    let mut limit = limit_after(LAST_BEFORE_GUESS, guessed, FOR_TIES);
     while limit < LAST_LIMIT {
         let found = pass(
             unit_prices,
@@ -42,7 +41,7 @@ fn settle(
             quantities,
             ends,
             count,
-            TIES,
+            FOR_TIES,
             limit,
         );
         if found.limit < limit {
@@ -51,7 +50,7 @@ fn settle(
                 limit: limit,
             };
         }
-        limit = limit_after(limit, guessed, TIES);
+        limit = limit_after(limit, guessed, FOR_TIES);
     }
     let none = start_at(0);
     Ordered {
@@ -80,7 +79,7 @@ pub fn find_in_order(
         let none = start_at(0);
         return Ordered {
             best: none,
-            limit: limit_after(LAST_BEFORE_GUESS, guessed, 0),
+            limit: limit_after(LAST_BEFORE_GUESS, guessed, NO_MARGIN),
         };
     }
     let other = reordered(blocks, order, place, count as usize);

@@ -1,6 +1,11 @@
 // Written by `twin_source` from crates/passes/src/limits.rt.
 // The limits of the passes.
 
+// The margin of a pass: none, or one by which it looks for ties.
+pub const NO_MARGIN: u64 = 0;
+
+pub const FOR_TIES: u64 = 1;
+
 // The limit of the first pass: the published set seldom loses as much.
 pub const FIRST_LIMIT: u64 = 1024;
 

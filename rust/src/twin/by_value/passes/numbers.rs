@@ -1,6 +1,7 @@
 // Written by `twin_source` from crates/passes/src/numbers.rt.
 // A pass over all blocks, and passes over the blocks by their numbers until one finds a set.
 use crate::twin::by_value::passes::limits::LAST_LIMIT;
+use crate::twin::by_value::passes::limits::NO_MARGIN;
 use crate::twin::by_value::passes::limits::limit_after;
 use crate::twin::by_value::places::layout::HOURS;
 use crate::twin::by_value::search::Best;
@@ -88,13 +89,13 @@ pub fn find_by_number(
             quantities,
             ends,
             count,
-            0,
+            NO_MARGIN,
             limit,
         );
         if found.limit < limit {
             return found;
         }
-        limit = limit_after(limit, guessed, 0);
+        limit = limit_after(limit, guessed, NO_MARGIN);
     }
     pass(
         unit_prices,
@@ -106,7 +107,7 @@ pub fn find_by_number(
         quantities,
         ends,
         count,
-        0,
+        NO_MARGIN,
         limit,
     )
 }
