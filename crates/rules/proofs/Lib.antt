@@ -29,8 +29,7 @@ pub mod WorkedDayLaws
 pub mod TableLaws
 pub mod NeighbourLaws
 pub mod LossLaws
-pub mod LossSearchLaws
-pub mod AloneLaws
+pub mod CostSearchLaws
 pub mod SetBits
 pub mod PlaceLaws
 pub mod QuietHours
@@ -40,6 +39,9 @@ pub mod LinkLaws
 pub mod TwinLaws
 pub mod SameBlocksLaws
 pub mod RearrangedLaws
+pub mod TieLaws
+pub mod CostLaws
+pub mod RivalLaws
 pub mod OutcomeRulesLaws
 pub mod SharingRuleLaws
 pub mod BoundsLaws

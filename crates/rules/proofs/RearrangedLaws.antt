@@ -1,6 +1,5 @@
 -- THE DAY WITH ITS BLOCKS IN ANOTHER ORDER. Lawful sets, their welfare, their prices and what they trade are the same, each set with its decisions in that
--- order; so are parents and twins, at their new positions. The tie rule alone goes by the order, so a set that no other one ties with in the day with its
--- blocks in any order is the outcome, put back by number: `alone-is-outcome`. Assumes nothing.
+-- order; so are parents and twins, at their new positions. The tie rule alone goes by number (`CostLaws`). Assumes nothing.
 use Prim.Native.Nat.{ℕ, zero, suc, _+_, _≤_, _<_}
 use mathlib.Core.Bool.{Bool, true, false}
 use mathlib.Core.Path.{_≡_, refl, sym, ap, subst, _∙_}
@@ -14,17 +13,12 @@ use borrow.Author.Tests.{eq-eqb, ne-eqb, lt-ltb}
 use Rattle.rules.specs.Orders.{buy, Block}
 use Rattle.rules.specs.Hour.{when}
 use Rattle.rules.specs.Day.{Day, taken, overBlocks, buys, setPrices, allowed, lawful, welfare, traded}
-use Rattle.rules.specs.Outcome.{outcome}
-use Rattle.rules.specs.Contender.{PricesInRange, HoursInRange, NumbersRise}
 use Rattle.rules.specs.OutcomeRules.{EachBlock}
 use Rattle.rules.proofs.Tests.{by-lt, by-eq}
-use Rattle.rules.proofs.BestLaws.{FirstBest, outcome-first}
-use Rattle.rules.proofs.DayLaws.{empty-lawful}
 use Rattle.rules.proofs.PlaceLaws.{hourAt}
 use Rattle.rules.proofs.QuietHours.{Quiet}
 use Rattle.rules.proofs.LinkLaws.{Closed, ClosedBy, Parents}
-use Rattle.rules.proofs.TwinLaws.{Exchangeable, Ahead, InTurn, block-at, block-within, taken-within, outcome-in-turn}
-use Rattle.rules.proofs.AloneLaws.{OnlyBest}
+use Rattle.rules.proofs.TwinLaws.{Exchangeable, Ahead, InTurn, block-at, block-within, taken-within}
 use Rattle.rules.proofs.SameBlocksLaws.{SameBlocks, withBlocks, allowed-same, lawful-same, welfare-same, set-prices-same, traded-same}
 
 -- the block at a position; one of no meaning past the end
@@ -72,11 +66,11 @@ unfoldable pub parentWithin : ℕ → (ℕ → ℕ) → ℕ → ℕ
 parentWithin n parent j = when (ltb j n) (parent j)
 
 -- SUMS over the numbers below n
-unfoldable sumFirst : ℕ → (ℕ → ℕ) → ℕ
+unfoldable pub sumFirst : ℕ → (ℕ → ℕ) → ℕ
 sumFirst zero g = 0
 sumFirst (suc n) g = g 0 + sumFirst n (λ j. g (suc j))
 
-sum-same : (n : ℕ) (f g : ℕ → ℕ) → ((j : ℕ) → j < n → f j ≡ g j) → sumFirst n f ≡ sumFirst n g
+pub sum-same : (n : ℕ) (f g : ℕ → ℕ) → ((j : ℕ) → j < n → f j ≡ g j) → sumFirst n f ≡ sumFirst n g
 unfolding sumFirst
 sum-same zero f g same = refl
 sum-same (suc n) f g same = omega (arith, same 0 (omega arith), sum-same n (λ j. f (suc j)) (λ j. g (suc j)) (λ j k. same (suc j) (omega arith)))
@@ -113,7 +107,7 @@ sum-once (suc n) (suc k) c inside =
     omega (arith, sum-once n k (λ i. c (suc i)) (omega arith))
 
 -- THE LAW OF ORDERS: a sum in an order is the sum
-sum-by-order : (n : ℕ) (order place : ℕ → ℕ) → IsOrder n order place → (g : ℕ → ℕ) → sumFirst n (λ j. g (order j)) ≡ sumFirst n g
+pub sum-by-order : (n : ℕ) (order place : ℕ → ℕ) → IsOrder n order place → (g : ℕ → ℕ) → sumFirst n (λ j. g (order j)) ≡ sumFirst n g
 sum-by-order n order place is g =
     sum-same n (λ j. g (order j)) (λ j. sumFirst n (λ i. when (eqb (order j) i) (g i))) (λ j k. sym (sum-once n (order j) g (is .orderIn j k)))
     ∙ sum-swap n n (λ j i. when (eqb (order j) i) (g i))
@@ -408,37 +402,3 @@ module _ (order place : ℕ → ℕ) (day : Day) (is : IsOrder (length (day .blo
       let ka : a < n = omega (arith, block-within ((rearranged order day) .blocks) a _ _ (ahead .firstAt)) in
       let kb : b < n = omega (arith, block-within ((rearranged order day) .blocks) b _ _ (ahead .secondAt)) in
       at-by false order n set a ka ∙ turn (order a) (order b) (ahead-rearranged a b ahead) (sym (at-by false order n set b kb) ∙ e)
-
-  -- ALONE IS OUTCOME: where numbers rise, the only best of the sets in turn, in whatever order it was found, is the published set
-  module _ (prices : PricesInRange (day .steps)) (hours : HoursInRange (day .steps)) (rise : NumbersRise 0 (day .blocks)) where
-    pub alone-is-outcome : (set : List Bool) → OnlyBest (rearranged order day) (InTurn (rearranged order day) p) set →
-        outcome day ≡ byOrder place (length (day .blocks)) set
-    alone-is-outcome set best =
-        sym (by-order-back n order place is (outcome day) (first .ofBlocks)) ∙ ap (byOrder place n) met
-      where
-        n : ℕ
-        n = length (day .blocks)
-
-        first : FirstBest day (outcome day)
-        first = outcome-first day (empty-lawful day prices hours)
-
-        -- the set, put back
-        mine : List Bool
-        mine = byOrder place n set
-
-        again : byOrder order n mine ≡ set
-        again = by-place-back n order place is set (best .ofBlocks ∙ size-rearranged order place day is)
-
-        mine-lawful : lawful day mine ≡ true
-        mine-lawful = sym (lawful-rearranged order place day is mine) ∙ rw again (best .isLawful)
-
-        no-more : welfare (rearranged order day) set ≤ welfare (rearranged order day) (byOrder order n (outcome day))
-        no-more =
-            rw (← again, welfare-rearranged order place day is mine, welfare-rearranged order place day is (outcome day))
-            (first .wins mine (length-by false place n set) mine-lawful .0)
-
-        met : byOrder order n (outcome day) ≡ set
-        met =
-            best .only (byOrder order n (outcome day)) (length-by false order n (outcome day) ∙ sym (size-rearranged order place day is))
-            (lawful-rearranged order place day is (outcome day) ∙ first .isLawful)
-            (in-turn-rearranged (outcome day) (outcome-in-turn day prices hours rise p)) no-more

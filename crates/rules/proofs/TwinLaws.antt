@@ -145,7 +145,7 @@ module _ (first second : Block) (side : first .side ≡ second .side) (runs : (h
     twin-sum = daySum-same hours _ _ (λ h. rw (runs h))
 
     -- the first keeps its limit if the second does
-    twin-keeps : bySide (first .side) (limitOf hours second) (limitOf hours first) ≤ bySide (first .side) (limitOf hours first) (limitOf hours second) →
+    pub twin-keeps : bySide (first .side) (limitOf hours second) (limitOf hours first) ≤ bySide (first .side) (limitOf hours first) (limitOf hours second) →
         keepsLimit hours price second ≡ true → keepsLimit hours price first ≡ true
     unfolding keepsLimit
     twin-keeps le e =
