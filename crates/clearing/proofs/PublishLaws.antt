@@ -30,7 +30,8 @@ use Rattle.orders.proofs.BridgeLaws.{blocks-from-columns, day-hours-read, price
 use Rattle.places.specs.Layout.{mostQuantity}
 use Rattle.places.specs.Hours.{FirstSmall, timesIn, sumOver, ofHour}
 use Rattle.places.specs.Steps.{stepsAt}
-use Rattle.search.specs.Meaning.{AnHour, DayOf, StepsAre}
+use Rattle.branches.specs.Meaning.{AnHour}
+use Rattle.search.specs.Meaning.{DayOf, StepsAre}
 use Rattle.search.specs.declared.Day as code-day
 use Rattle.result.specs.Rows.{rowAt}
 use Rattle.result.specs.Result.{bytesOf, hourRows, recordRows, beside, blockRows, rowOf, resultBytes}

@@ -1,4 +1,4 @@
--- THE COLUMNS IN AN ORDER: the six that are copied, number after number; the parents and twins, place after place; the rows, number after number; and that
+-- THE COLUMNS IN AN ORDER: the six that are copied, number after number; the parents, twins and ranks, place after place; the rows, number after number; and that
 -- all together they are the blocks in that order. Assumes nothing.
 use Prim.Native.Nat.{ℕ, _+_, _-_, _*_, _/_, _%_, _^_, _≤_, _<_}
 use mathlib.Core.Path.{_≡_, refl, sym, ap, _∙_}
@@ -9,10 +9,11 @@ use native.Mathlib.Nat.{lt-of-not-le}
 use native.Mathlib.Numerals.{add-one}
 use lib.ListN.{length, getD, set, replicate, length-set}
 use lib.Seq.{getD-set-same, getD-set-other}
+use Rattle.rules.proofs.TieLaws.{rankOf, rank-small}
 use Rattle.book.specs.Bounds.{mostBlocks}
 use Rattle.orders.proofs.ColumnLaws.{zeros}
-use Rattle.places.specs.Layout.{hourPlaces, mostAdded, parentColumn, aheadColumn, behindColumn, rowsColumn, blockListSize}
-use Rattle.places.specs.Blocks.{parentAt, aheadAt, behindAt, rowQuantity, BlocksSized}
+use Rattle.places.specs.Layout.{hourPlaces, mostAdded, parentColumn, aheadColumn, behindColumn, rankColumn, rowsColumn, blockListSize}
+use Rattle.places.specs.Blocks.{parentAt, aheadAt, behindAt, rankAt, rowQuantity, BlocksSized}
 use Rattle.places.proofs.NumberLaws.{below-next}
 use Rattle.order.specs.Order.{Words, placedName, IsOrderOf, Reordered}
 use Rattle.order.specs.Written.{earlierName, columnNumber, ColumnsIn, LinksIn, RowsIn}
@@ -71,7 +72,7 @@ module _ (count : ℕ) (order blocks : List ℕ) where
     none = λ i a. c .none i (omega (arith, c .inside));
   }
 
--- THE PARENTS AND TWINS, place after place
+-- THE PARENTS, TWINS AND RANKS, place after place
 module _ (count : ℕ) (order place blocks before : List ℕ) where
   pub record LinksTo (j : ℕ) (r : List ℕ) : Type 0 where
     pub inside : j ≤ count
@@ -81,7 +82,8 @@ module _ (count : ℕ) (order place blocks before : List ℕ) where
     pub parentIs : (i : ℕ) → i < j → parentAt r i ≡ placedName place (parentAt blocks (getD order i 0))
     pub aheadIs : (i : ℕ) → i < j → aheadAt r i ≡ earlierName place count i (aheadAt blocks (getD order i 0))
     pub behindIs : (i : ℕ) → i < j → behindAt r i ≡ earlierName place count i (behindAt blocks (getD order i 0))
-    pub none : (i : ℕ) → j ≤ i → i < mostBlocks → (parentAt r i ≡ 0) × (aheadAt r i ≡ 0) × (behindAt r i ≡ 0)
+    pub rankIs : (i : ℕ) → i < j → rankAt r i ≡ rankOf (getD order i 0)
+    pub none : (i : ℕ) → j ≤ i → i < mostBlocks → (parentAt r i ≡ 0) × (aheadAt r i ≡ 0) × (behindAt r i ≡ 0) × (rankAt r i ≡ 0)
 
   pub links-start : ColumnsIn count order blocks before → LinksTo 0 before
   links-start c = record {
@@ -92,29 +94,38 @@ module _ (count : ℕ) (order place blocks before : List ℕ) where
     parentIs = λ i a. absurd (omega arith);
     aheadIs = λ i a. absurd (omega arith);
     behindIs = λ i a. absurd (omega arith);
-    none = λ i a b. (c .none (parentColumn + i) (omega arith), c .none (aheadColumn + i) (omega arith), c .none (behindColumn + i) (omega arith));
+    rankIs = λ i a. absurd (omega arith);
+    none = λ i a b. (
+      c .none (parentColumn + i) (omega arith),
+      c .none (aheadColumn + i) (omega arith),
+      c .none (behindColumn + i) (omega arith),
+      c .none (rankColumn + i) (omega arith),
+    );
   }
 
-  pub links-next : (j : ℕ) (r : List ℕ) (parent ahead behind : ℕ) → LinksTo j r → j < count → count ≤ mostBlocks →
+  pub links-next : (j : ℕ) (r : List ℕ) (parent ahead behind rank : ℕ) → LinksTo j r → j < count → count ≤ mostBlocks →
       parent ≡ placedName place (parentAt blocks (getD order j 0)) → ahead ≡ earlierName place count j (aheadAt blocks (getD order j 0)) →
-      behind ≡ earlierName place count j (behindAt blocks (getD order j 0)) →
-      LinksTo (j + 1) (set (set (set r (parentColumn + j) parent) (aheadColumn + j) ahead) (behindColumn + j) behind)
-  links-next j r parent ahead behind l below few p a b = record {
+      behind ≡ earlierName place count j (behindAt blocks (getD order j 0)) → rank ≡ rankOf (getD order j 0) →
+      LinksTo (j + 1) (set (set (set (set r (parentColumn + j) parent) (aheadColumn + j) ahead) (behindColumn + j) behind) (rankColumn + j) rank)
+  links-next j r parent ahead behind rank l below few p a b e = record {
     inside = omega arith;
-    size = rw length-set size₂;
-    columns = λ k c. other k (λ e. omega arith) (λ e. omega arith) (λ e. omega arith) ∙ l .columns k c;
-    rows = λ k c. other k (λ e. omega arith) (λ e. omega arith) (λ e. omega arith) ∙ l .rows k c;
-    parentIs = λ i c. below-next (λ i. parentAt r₃ i ≡ placedName place (parentAt blocks (getD order i 0))) j i
-        (λ d. other (parentColumn + i) (λ e. omega arith) (λ e. omega arith) (λ e. omega arith) ∙ l .parentIs i d) (parent-here ∙ p) (rw add-one at c);
-    aheadIs = λ i c. below-next (λ i. aheadAt r₃ i ≡ earlierName place count i (aheadAt blocks (getD order i 0))) j i
-        (λ d. other (aheadColumn + i) (λ e. omega arith) (λ e. omega arith) (λ e. omega arith) ∙ l .aheadIs i d) (ahead-here ∙ a) (rw add-one at c);
-    behindIs = λ i c. below-next (λ i. behindAt r₃ i ≡ earlierName place count i (behindAt blocks (getD order i 0))) j i
-        (λ d. other (behindColumn + i) (λ e. omega arith) (λ e. omega arith) (λ e. omega arith) ∙ l .behindIs i d) (behind-here ∙ b) (rw add-one at c);
+    size = rw length-set size₃;
+    columns = λ k c. other k (λ z. omega arith) (λ z. omega arith) (λ z. omega arith) (λ z. omega arith) ∙ l .columns k c;
+    rows = λ k c. other k (λ z. omega arith) (λ z. omega arith) (λ z. omega arith) (λ z. omega arith) ∙ l .rows k c;
+    parentIs = λ i c. below-next (λ i. parentAt r₄ i ≡ placedName place (parentAt blocks (getD order i 0))) j i
+        (λ d. other (parentColumn + i) (λ z. omega arith) (λ z. omega arith) (λ z. omega arith) (λ z. omega arith) ∙ l .parentIs i d) (parent-here ∙ p) (rw add-one at c);
+    aheadIs = λ i c. below-next (λ i. aheadAt r₄ i ≡ earlierName place count i (aheadAt blocks (getD order i 0))) j i
+        (λ d. other (aheadColumn + i) (λ z. omega arith) (λ z. omega arith) (λ z. omega arith) (λ z. omega arith) ∙ l .aheadIs i d) (ahead-here ∙ a) (rw add-one at c);
+    behindIs = λ i c. below-next (λ i. behindAt r₄ i ≡ earlierName place count i (behindAt blocks (getD order i 0))) j i
+        (λ d. other (behindColumn + i) (λ z. omega arith) (λ z. omega arith) (λ z. omega arith) (λ z. omega arith) ∙ l .behindIs i d) (behind-here ∙ b) (rw add-one at c);
+    rankIs = λ i c. below-next (λ i. rankAt r₄ i ≡ rankOf (getD order i 0)) j i
+        (λ d. other (rankColumn + i) (λ z. omega arith) (λ z. omega arith) (λ z. omega arith) (λ z. omega arith) ∙ l .rankIs i d) (rank-here ∙ e) (rw add-one at c);
     none = λ i c d.
         let n = l .none i (omega arith) d in (
-          other (parentColumn + i) (λ e. omega arith) (λ e. omega arith) (λ e. omega arith) ∙ n .0,
-          other (aheadColumn + i) (λ e. omega arith) (λ e. omega arith) (λ e. omega arith) ∙ n .1,
-          other (behindColumn + i) (λ e. omega arith) (λ e. omega arith) (λ e. omega arith) ∙ n .2,
+          other (parentColumn + i) (λ z. omega arith) (λ z. omega arith) (λ z. omega arith) (λ z. omega arith) ∙ n .0,
+          other (aheadColumn + i) (λ z. omega arith) (λ z. omega arith) (λ z. omega arith) (λ z. omega arith) ∙ n .1,
+          other (behindColumn + i) (λ z. omega arith) (λ z. omega arith) (λ z. omega arith) (λ z. omega arith) ∙ n .2,
+          other (rankColumn + i) (λ z. omega arith) (λ z. omega arith) (λ z. omega arith) (λ z. omega arith) ∙ n .3,
         );
   }
     where
@@ -127,30 +138,43 @@ module _ (count : ℕ) (order place blocks before : List ℕ) where
       r₃ : List ℕ
       r₃ = set r₂ (behindColumn + j) behind
 
+      r₄ : List ℕ
+      r₄ = set r₃ (rankColumn + j) rank
+
       size₁ : length r₁ ≡ blockListSize
       size₁ = length-set r (parentColumn + j) parent ∙ l .size
 
       size₂ : length r₂ ≡ blockListSize
       size₂ = length-set r₁ (aheadColumn + j) ahead ∙ size₁
 
-      other : (at : ℕ) → (at ≡ parentColumn + j → ⊥) → (at ≡ aheadColumn + j → ⊥) → (at ≡ behindColumn + j → ⊥) → getD r₃ at 0 ≡ getD r at 0
-      other at e₀ e₁ e₂ =
-          getD-set-other r₂ (behindColumn + j) at behind 0 e₂ ∙ getD-set-other r₁ (aheadColumn + j) at ahead 0 e₁
-          ∙ getD-set-other r (parentColumn + j) at parent 0 e₀
+      size₃ : length r₃ ≡ blockListSize
+      size₃ = length-set r₂ (behindColumn + j) behind ∙ size₂
 
-      parent-here : parentAt r₃ j ≡ parent
+      other : (at : ℕ) → (at ≡ parentColumn + j → ⊥) → (at ≡ aheadColumn + j → ⊥) → (at ≡ behindColumn + j → ⊥) → (at ≡ rankColumn + j → ⊥) →
+          getD r₄ at 0 ≡ getD r at 0
+      other at e₀ e₁ e₂ e₃ =
+          getD-set-other r₃ (rankColumn + j) at rank 0 e₃ ∙ getD-set-other r₂ (behindColumn + j) at behind 0 e₂
+          ∙ getD-set-other r₁ (aheadColumn + j) at ahead 0 e₁ ∙ getD-set-other r (parentColumn + j) at parent 0 e₀
+
+      parent-here : parentAt r₄ j ≡ parent
       parent-here =
-          getD-set-other r₂ (behindColumn + j) (parentColumn + j) behind 0 (λ e. omega arith)
-          ∙ getD-set-other r₁ (aheadColumn + j) (parentColumn + j) ahead 0 (λ e. omega arith)
+          getD-set-other r₃ (rankColumn + j) (parentColumn + j) rank 0 (λ z. omega arith)
+          ∙ getD-set-other r₂ (behindColumn + j) (parentColumn + j) behind 0 (λ z. omega arith)
+          ∙ getD-set-other r₁ (aheadColumn + j) (parentColumn + j) ahead 0 (λ z. omega arith)
           ∙ getD-set-same r (parentColumn + j) parent 0 (omega (arith, l .size))
 
-      ahead-here : aheadAt r₃ j ≡ ahead
+      ahead-here : aheadAt r₄ j ≡ ahead
       ahead-here =
-          getD-set-other r₂ (behindColumn + j) (aheadColumn + j) behind 0 (λ e. omega arith)
+          getD-set-other r₃ (rankColumn + j) (aheadColumn + j) rank 0 (λ z. omega arith)
+          ∙ getD-set-other r₂ (behindColumn + j) (aheadColumn + j) behind 0 (λ z. omega arith)
           ∙ getD-set-same r₁ (aheadColumn + j) ahead 0 (omega (arith, size₁))
 
-      behind-here : behindAt r₃ j ≡ behind
-      behind-here = getD-set-same r₂ (behindColumn + j) behind 0 (omega (arith, size₂))
+      behind-here : behindAt r₄ j ≡ behind
+      behind-here =
+          getD-set-other r₃ (rankColumn + j) (behindColumn + j) rank 0 (λ z. omega arith) ∙ getD-set-same r₂ (behindColumn + j) behind 0 (omega (arith, size₂))
+
+      rank-here : rankAt r₄ j ≡ rank
+      rank-here = getD-set-same r₃ (rankColumn + j) rank 0 (omega (arith, size₃))
 
   pub links-all : (j : ℕ) (r : List ℕ) → LinksTo j r → count ≤ j → LinksIn count order place blocks before r
   links-all j r l all = record {
@@ -160,6 +184,7 @@ module _ (count : ℕ) (order place blocks before : List ℕ) where
     parentIs = λ i k. l .parentIs i (omega arith);
     aheadIs = λ i k. l .aheadIs i (omega arith);
     behindIs = λ i k. l .behindIs i (omega arith);
+    rankIs = λ i k. l .rankIs i (omega arith);
     none = λ i k. l .none i (omega (arith, l .inside));
   }
 
@@ -226,6 +251,9 @@ module _ (blocks : List ℕ) (count : ℕ) (order place columns linked r : List 
   behind-is : (j : ℕ) → j < mostBlocks → behindAt r j ≡ behindAt linked j
   behind-is j k = rows .same (behindColumn + j) (omega arith)
 
+  rank-is : (j : ℕ) → j < mostBlocks → rankAt r j ≡ rankAt linked j
+  rank-is j k = rows .same (rankColumn + j) (omega arith)
+
   -- no number of a row is too large
   row-fits : (i h : ℕ) → rowQuantity r i h ≤ mostAdded
   row-fits i h = elim (decLe (hourPlaces * count) (hourPlaces * i + (h - 1))) [
@@ -258,6 +286,13 @@ module _ (blocks : List ℕ) (count : ℕ) (order place columns linked r : List 
         )
   ]
 
+  -- and its rank
+  rank-fits : (i : ℕ) → i < mostBlocks → rankAt r i < 2 ^ 32
+  rank-fits i k = elim (decLe count i) [
+    | yes out ↦ omega (arith, rank-is i k, links .none i out k .3)
+    | no more ↦ omega (arith, rank-is i k, links .rankIs i (lt-of-not-le more), rank-small (getD order i 0))
+  ]
+
   pub reordered-sized : BlocksSized r
   reordered-sized = record { columns = rows .size; rowsFit = row-fits; parentsFit = parent-fits; twinsFit = twins-fit }
 
@@ -271,13 +306,19 @@ module _ (blocks : List ℕ) (count : ℕ) (order place columns linked r : List 
         omega (arith, rows .same k (omega arith), links .columns k below, copied .columns k below taken, words at)
   ]
 
-  -- of the parents and twins
+  -- of the parents, twins and ranks
   links-fit : (k : ℕ) → parentColumn ≤ k → k < rowsColumn → getD r k 0 < 2 ^ 32
   links-fit k from to = elim (decLe aheadColumn k) [
     | yes twins ↦ elim (decLe behindColumn k) [
-      | yes after ↦
-          let at : behindColumn + (k - behindColumn) ≡ k = omega arith in
-          omega (arith, ap (λ n. getD r n 0) at, twins-fit (k - behindColumn) (omega arith) .1)
+      | yes after ↦ elim (decLe rankColumn k) [
+        | yes last ↦
+            let at : rankColumn + (k - rankColumn) ≡ k = omega arith in
+            omega (arith, ap (λ n. getD r n 0) at, rank-fits (k - rankColumn) (omega arith))
+        | no more ↦
+            let below : k < rankColumn = lt-of-not-le more in
+            let at : behindColumn + (k - behindColumn) ≡ k = omega arith in
+            omega (arith, ap (λ n. getD r n 0) at, twins-fit (k - behindColumn) (omega arith) .1)
+      ]
       | no more ↦
           let below : k < behindColumn = lt-of-not-le more in
           let at : aheadColumn + (k - aheadColumn) ≡ k = omega arith in
@@ -316,4 +357,5 @@ module _ (blocks : List ℕ) (count : ℕ) (order place columns linked r : List 
     parentIs = λ j k. parent-is j (omega arith) ∙ links .parentIs j k;
     aheadIs = λ j a k e. earlier-is of j (aheadAt blocks (getD order j 0)) a (sym (links .aheadIs j k) ∙ sym (ahead-is j (omega arith)) ∙ e);
     behindIs = λ j a k e. earlier-is of j (behindAt blocks (getD order j 0)) a (sym (links .behindIs j k) ∙ sym (behind-is j (omega arith)) ∙ e);
+    rankIs = λ j k. rank-is j (omega arith) ∙ links .rankIs j k;
   }

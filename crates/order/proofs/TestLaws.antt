@@ -1,18 +1,20 @@
 -- WHETHER A LIST IS AN ORDER: the tests of all places pass exactly where it is one. Assumes nothing.
-use Prim.Native.Nat.{ℕ, zero, suc, _+_, _≤_, _<_}
+use Prim.Native.Nat.{ℕ, zero, suc, _+_, _-_, _≤_, _<_}
 use mathlib.Core.Bool.{Bool, true, false, _&&_}
 use mathlib.Core.Path.{_≡_, refl, sym, ap, _∙_}
 use mathlib.Core.List.{List}
 use native.Mathlib.Omega.{arith}
 use native.Mathlib.Numerals.{add-one}
 use lib.Dec.{ltb, leb, eqb}
-use lib.ListN.{getD}
-use borrow.Author.Tests.{ltb-true, lt-ltb, le-ltb, leb-true, le-leb, eqb-true, eq-eqb}
+use lib.ListN.{length, getD, set}
+use lib.Seq.{getD-set-same, getD-set-other}
+use borrow.Author.Tests.{ltb-true, lt-ltb, le-ltb, leb-true, le-leb, eqb-true, eq-eqb, ne-eqb}
 use Rattle.rules.proofs.Tests.{both}
-use Rattle.places.specs.Blocks.{parentAt}
+use Rattle.book.specs.Bounds.{mostBlocks}
+use Rattle.places.specs.Blocks.{parentAt, BlocksSized}
 use Rattle.places.proofs.NumberLaws.{below-next}
 use Rattle.order.specs.Order.{placedName, IsOrderOf}
-use Rattle.order.specs.Written.{standsAt, allStand}
+use Rattle.order.specs.Written.{standsAt, allStand, EachItself}
 
 -- what the tests of one place say
 pub record Stands (blocks : List ℕ) (count : ℕ) (order place : List ℕ) (j : ℕ) : Type 0 where
@@ -111,3 +113,26 @@ module _ (blocks : List ℕ) (count : ℕ) (order place : List ℕ) where
         back = o .back j k;
         parentBefore = o .parentsBefore j k;
       })
+
+-- THE NUMBERS THEMSELVES are an order, since a parent's number is the lower one
+pub itself-order : (blocks : List ℕ) (count : ℕ) (l : List ℕ) → BlocksSized blocks → count ≤ mostBlocks → EachItself l → IsOrderOf blocks count l l
+unfolding placedName
+itself-order blocks count l sized few itself = record {
+  orderIn = λ i k. rw (itself i (omega arith)) k;
+  placeIn = λ i k. rw (itself i (omega arith)) k;
+  there = λ j k. rw (itself j (omega arith)) (itself j (omega arith));
+  back = λ j k. rw (itself j (omega arith)) (itself j (omega arith));
+  parentsBefore = λ j k. rw (itself j (omega arith)) (own (parentAt blocks j) j (omega arith) (sized .parentsFit j (omega arith)));
+}
+  where
+    -- a name by its place is the name
+    own : (name j : ℕ) → j < mostBlocks → name ≤ j → placedName l name ≤ j
+    own zero j few le = omega arith
+    own (suc k) j few le = let e : suc k - 1 ≡ k = omega arith in rw (ne-eqb (suc k) 0 (λ z. omega arith), e, itself k (omega arith)) le
+
+-- place after place
+pub itself-next : (i : ℕ) (r : List ℕ) → length r ≡ mostBlocks → i < mostBlocks → ((k : ℕ) → k < i → getD r k 0 ≡ k) →
+    (k : ℕ) → k < i + 1 → getD (set r i i) k 0 ≡ k
+itself-next i r size inside done k below =
+    below-next (λ k. getD (set r i i) k 0 ≡ k) i k (λ b. getD-set-other r i k i 0 (λ e. omega arith) ∙ done k b)
+    (getD-set-same r i i 0 (omega arith)) (rw add-one at below)

@@ -6,8 +6,9 @@ use mathlib.Core.List.{List}
 use mathlib.Core.Path.{_≡_}
 use lib.Dec.{eqb}
 use lib.ListN.{getD}
+use Rattle.rules.proofs.TieLaws.{rankOf}
 use Rattle.places.specs.Layout.{hourPlaces}
-use Rattle.places.specs.Blocks.{sideAt, hoursAt, quantityAt, limitAt, againstAt, gainAt, parentAt, aheadAt, behindAt, rowQuantity}
+use Rattle.places.specs.Blocks.{sideAt, hoursAt, quantityAt, limitAt, againstAt, gainAt, parentAt, aheadAt, behindAt, rankAt, rowQuantity}
 
 -- Each of the first n numbers of a list is below a bound.
 abbrev pub EachBelow : (n bound : ℕ) (l : List ℕ) → Type 0
@@ -30,7 +31,7 @@ pub record IsOrderOf (blocks : List ℕ) (count : ℕ) (order place : List ℕ) 
   pub parentsBefore : (j : ℕ) → j < count → placedName place (parentAt blocks (getD order j 0)) ≤ j
 
 -- The columns and rows in an order: at place j stands what the block there has, its parent by its place; a twin by its place, if any is named, and then it
--- stands before place j.
+-- stands before place j; its rank goes by number.
 pub record Reordered (count : ℕ) (order place blocks other : List ℕ) : Type 0 where
   pub sideIs : (j : ℕ) → j < count → sideAt other j ≡ sideAt blocks (getD order j 0)
   pub hoursIs : (j : ℕ) → j < count → hoursAt other j ≡ hoursAt blocks (getD order j 0)
@@ -42,6 +43,7 @@ pub record Reordered (count : ℕ) (order place blocks other : List ℕ) : Type 
   pub parentIs : (j : ℕ) → j < count → parentAt other j ≡ placedName place (parentAt blocks (getD order j 0))
   pub aheadIs : (j a : ℕ) → j < count → aheadAt other j ≡ suc a → (a < j) × (aheadAt blocks (getD order j 0) ≡ suc (getD order a 0))
   pub behindIs : (j a : ℕ) → j < count → behindAt other j ≡ suc a → (a < j) × (behindAt blocks (getD order j 0) ≡ suc (getD order a 0))
+  pub rankIs : (j : ℕ) → j < count → rankAt other j ≡ rankOf (getD order j 0)
 
 -- A set of places as the set of the blocks there by their numbers, both as bits: bit i is that of block i's place.
 pub record ByNumber (count : ℕ) (place : List ℕ) (set numbered : ℕ) : Type 0 where

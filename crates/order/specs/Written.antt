@@ -7,9 +7,10 @@ use mathlib.Core.Path.{_≡_}
 use lib.Dec.{ltb, leb, eqb}
 use lib.ListN.{length, getD}
 use Rattle.rules.specs.Hour.{when}
+use Rattle.rules.proofs.TieLaws.{rankOf}
 use Rattle.book.specs.Bounds.{mostBlocks}
 use Rattle.places.specs.Layout.{hourPlaces, parentColumn, rowsColumn, blockListSize}
-use Rattle.places.specs.Blocks.{parentAt, aheadAt, behindAt, rowQuantity}
+use Rattle.places.specs.Blocks.{parentAt, aheadAt, behindAt, rankAt, rowQuantity}
 use Rattle.order.specs.Order.{placedName}
 
 -- WHETHER IT IS AN ORDER
@@ -24,6 +25,10 @@ standsAt blocks count order place j =
 unfoldable pub allStand : (blocks : List ℕ) (count : ℕ) (order place : List ℕ) (n : ℕ) → Bool
 allStand blocks count order place zero = true
 allStand blocks count order place (suc j) = allStand blocks count order place j && standsAt blocks count order place j
+
+-- Each number of a list is its own place.
+abbrev pub EachItself : List ℕ → Type 0
+EachItself l = (i : ℕ) → i < mostBlocks → getD l i 0 ≡ i
 
 -- THE COLUMNS IN AN ORDER
 -- The name of a twin by its place, where it stands before place j; else 0.
@@ -41,7 +46,7 @@ pub record ColumnsIn (count : ℕ) (order blocks r : List ℕ) : Type 0 where
   pub empty : (k : ℕ) → k < parentColumn → count ≤ k % mostBlocks → getD r k 0 ≡ 0
   pub none : (k : ℕ) → parentColumn ≤ k → getD r k 0 ≡ 0
 
--- The parents and twins of the first count places stand, by their places, and no others; all else is as it was.
+-- The parents, twins and ranks of the first count places stand, and no others; all else is as it was.
 pub record LinksIn (count : ℕ) (order place blocks before r : List ℕ) : Type 0 where
   pub size : length r ≡ blockListSize
   pub columns : (k : ℕ) → k < parentColumn → getD r k 0 ≡ getD before k 0
@@ -49,7 +54,8 @@ pub record LinksIn (count : ℕ) (order place blocks before r : List ℕ) : Type
   pub parentIs : (j : ℕ) → j < count → parentAt r j ≡ placedName place (parentAt blocks (getD order j 0))
   pub aheadIs : (j : ℕ) → j < count → aheadAt r j ≡ earlierName place count j (aheadAt blocks (getD order j 0))
   pub behindIs : (j : ℕ) → j < count → behindAt r j ≡ earlierName place count j (behindAt blocks (getD order j 0))
-  pub none : (j : ℕ) → count ≤ j → j < mostBlocks → (parentAt r j ≡ 0) × (aheadAt r j ≡ 0) × (behindAt r j ≡ 0)
+  pub rankIs : (j : ℕ) → j < count → rankAt r j ≡ rankOf (getD order j 0)
+  pub none : (j : ℕ) → count ≤ j → j < mostBlocks → (parentAt r j ≡ 0) × (aheadAt r j ≡ 0) × (behindAt r j ≡ 0) × (rankAt r j ≡ 0)
 
 -- The rows of the first count places stand; all else is as it was.
 pub record RowsIn (count : ℕ) (order blocks before r : List ℕ) : Type 0 where

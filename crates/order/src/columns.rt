@@ -6,6 +6,7 @@ ghost use Rattle.order.specs.Order.{EachBelow, Words, IsOrderOf, Reorder
 ghost use Rattle.order.specs.Written.{ColumnsIn, LinksIn, RowsIn};
 use crate::names::earlier_name;
 use crate::names::placed_name;
+use crate::names::rank_of;
 use places::layout::AHEAD;
 use places::layout::BEHIND;
 use places::layout::BLOCK_LIST;
@@ -13,6 +14,7 @@ use places::layout::BLOCK_ROWS;
 use places::layout::HOURS;
 use places::layout::MOST_BLOCKS;
 use places::layout::PARENT;
+use places::layout::RANK;
 
 // How much the first six columns hold, those in front of the parents'.
 const SIX_COLUMNS: usize = PARENT;
@@ -34,7 +36,7 @@ fn columns_in(blocks: &[u32], order: [usize; MOST_BLOCKS], count: usize) -> [u32
     r
 }
 
-// The same with the parent of each block, and its twins where they stand before it.
+// The same with the parent of each block, its twins where they stand before it, and its rank by number.
 fn with_links(
     columns: [u32; BLOCK_LIST],
     blocks: &[u32],
@@ -52,6 +54,7 @@ fn with_links(
         r[PARENT + j] = placed_name(place, blocks[PARENT + i]);
         r[AHEAD + j] = earlier_name(place, count, j, blocks[AHEAD + i]);
         r[BEHIND + j] = earlier_name(place, count, j, blocks[BEHIND + i]);
+        r[RANK + j] = rank_of(i as u32);
         j += 1;
     }
     r

@@ -2,10 +2,14 @@
 ghost use mathlib.Core.Path.{_≡_};
 ghost use Prim.Native.Nat.{_≤_, _<_};
 ghost use lib.Dec.{leb};
+ghost use Rattle.rules.proofs.TieLaws.{rankOf};
 ghost use Rattle.book.specs.Bounds.{mostBlocks};
 ghost use Rattle.order.specs.Order.{placedName};
 ghost use Rattle.order.specs.Written.{earlierName};
 use places::layout::MOST_BLOCKS;
+
+// The highest bit of a rank: that of block 0.
+const LAST_BIT: u32 = 31;
 
 // Whether the block that is named stands before place j, or none is named.
 pub fn stands_before(place: [usize; MOST_BLOCKS], name: u32, j: usize) -> bool
@@ -41,4 +45,12 @@ pub fn earlier_name(place: [usize; MOST_BLOCKS], count: usize, j: usize, name: u
         return 0;
     }
     placed_name(place, name)
+}
+
+// The rank of block number i: the lower its number, the higher, and more than those of all after it together.
+pub fn rank_of(i: u32) -> u32
+    requires { ⌜ i < mostBlocks ⌝ }
+    ensures { λ r. ⌜ r ≡ rankOf i ⌝ }
+{
+    1u32 << (LAST_BIT - i)
 }

@@ -1,43 +1,45 @@
--- A pass over all blocks: one by number that finds a set has found the published one, and one with a large limit finds; one that looks for ties and finds a
--- set, but no tie, has found a set that no other ties with. Assumes nothing.
+-- A PASS over all blocks: one that finds a set, with fuel left, has found the cheapest one; one with a large limit finds; and one with enough fuel does not
+-- spend it. Assumes nothing.
 use Prim.Native.Nat.{ℕ, zero, suc, _+_, _-_, _*_, _/_, _^_, _≤_, _<_}
 use mathlib.Core.Path.{_≡_, refl, sym, ap, _∙_}
 use mathlib.Core.List.{List, []}
-use mathlib.Core.Bool.{false}
+use mathlib.Core.Bool.{Bool, false, not, _||_}
+use native.Mathlib.Numerals.{add-one}
+use lib.Dec.{eqb}
 use native.Mathlib.Omega.{arith}
 use native.Mathlib.Nat.{mul-le-mul-right}
 use lib.ListN.{length, drop, getD, replicate, length-replicate}
-use lib.Pow.{shr-le, pow-pos}
+use lib.Pow.{shr-le, pow-pos, pow-mono}
 use Rattle.rules.specs.Orders.{Step, Block}
 use Rattle.rules.specs.Day.{Day, changeHour, daySum, sumTo, taken, decisions, overBlocks, hourOf}
-use Rattle.rules.specs.Outcome.{outcome}
-use Rattle.rules.specs.Contender.{NumbersRise}
 use Rattle.rules.proofs.HourSums.{daySum-add}
 use Rattle.rules.proofs.Tests.{clash}
 use Rattle.rules.proofs.DayLaws.{empty-lawful}
 use Rattle.rules.proofs.BoundLaws.{gain}
 use Rattle.rules.proofs.NeighbourLaws.{slack}
 use Rattle.rules.proofs.LossLaws.{daySum-counted, gaps, wholeOf, lossOf, losses-none, losses-empty, bound-with}
-use Rattle.rules.proofs.TwinLaws.{InTurn, outcome-in-turn}
 use Rattle.rules.proofs.PlaceLaws.{place, place-none}
-use Rattle.rules.proofs.LossSearchLaws as by-loss
-use Rattle.rules.proofs.AloneLaws as alone
+use Rattle.rules.proofs.CostSearchLaws as by-cost
+use Rattle.rules.proofs.TieLaws.{ties, ties-fit}
+use Rattle.rules.proofs.CostLaws.{tieRoom}
 use Rattle.book.specs.Bounds.{mostBlocks}
-use Rattle.places.specs.Layout.{hourPlaces, lastLimit, gainColumn}
+use Rattle.places.specs.Layout.{hourPlaces, lastLimit, mostLoss, gainColumn, rankColumn}
 use Rattle.places.specs.Hours.{cell, rowWidth}
+use Rattle.places.specs.Blocks.{parentAt, rankAt}
 use Rattle.places.specs.Reach.{isOut}
-use Rattle.search.specs.Meaning.{Fits, Known, Turning, Branch, lossAbove, DayOf, Outcome, StepsAre, ExploredFrom}
-use Rattle.search.specs.Tables.{Tables}
+use Rattle.branches.specs.Tables.{Tables}
+use Rattle.branches.specs.Meaning.{Fits, Known, Turning, Branch, lossAbove, costAbove}
+use Rattle.search.specs.Meaning.{costLimit, bestAs, Held, Kept, DayOf, Sought, Outcome, StepsAre, ExploredFrom}
 use Rattle.orders.proofs.ColumnLaws.{zeros}
 use Rattle.places.proofs.CountedLaws.{change-apart, day-sum}
-use Rattle.search.proofs.ClosedLaws.{none-closed}
-use Rattle.search.proofs.DecidedLaws.{an-hour, gap-of-lawful, rest-below}
+use Rattle.branches.proofs.ClosedLaws.{none-closed}
+use Rattle.branches.proofs.SetLaws.{an-hour, gap-of-lawful, rest-below}
 use Rattle.search.specs.declared.Best.{Best}
-use Rattle.passes.specs.Passes.{root, startAt, Passed}
+use Rattle.passes.specs.Passes.{isLinked, root, startAt, Passed, Cheapest}
 
 -- THE ROOT
 pub root-fits : (n : ℕ) → Fits n root
-root-fits n = record { setFits = pow-pos n; lossFits = omega arith; placesSize = refl; placesFit = λ i. omega (arith, zeros hourPlaces i) }
+root-fits n = record { setFits = pow-pos n; lossFits = omega arith; tieFits = omega arith; placesSize = refl; placesFit = λ i. omega (arith, zeros hourPlaces i) }
 
 root-branch : (day : Day) (p : ℕ → ℕ) → Branch day p [] root
 unfolding decisions
@@ -48,13 +50,23 @@ root-branch day p = record {
 }
 
 -- a pass is an exploration from it, once no set is found yet
-pub pass-from : {t : Tables} {steps : ℕ → List Step} {margin limit : ℕ} {start r : Best} → start ≡ startAt limit →
-    ExploredFrom t steps (t .count) 0 margin root start r → Passed t steps margin limit r
-pass-from e explored = rw e at explored
+pub pass-from : {t : Tables} {steps : ℕ → List Step} {limit fuel : ℕ} {start r : Best} → start ≡ startAt limit fuel →
+    Kept (t .count) start r → ExploredFrom t steps (t .count) 0 root start r → Passed t steps limit fuel r
+pass-from e kept explored = (rw e at kept, rw e at explored)
 
--- where no set is found, its limit of 0 says so
-pub none-found : {r : Best} {A : Type 0} → r ≡ startAt 0 → 0 < r .limit → A
-none-found e some = absurd (omega (arith, ap (λ (b : Best). b .limit) e))
+pub start-held : {limit fuel : ℕ} {start : Best} → start ≡ startAt limit fuel → limit ≤ 2 * lastLimit → Held start
+start-held e fits = rw e record { limitFits = fits; tieFits = omega arith }
+
+-- where no set is found, no fuel says so
+pub none-found : {r : Best} {A : Type 0} → r ≡ startAt 0 0 → 0 < r .fuel → A
+none-found e some = absurd (omega (arith, ap (λ (b : Best). b .fuel) e))
+
+-- what is below the limit in loss is so in cost
+below-limit : (limit loss tie : ℕ) → tie ≤ mostLoss → loss < limit → loss * tieRoom + tie < limit * tieRoom + 0
+below-limit limit loss tie fits less = omega arith
+
+limit-below : (limit loss tie : ℕ) → loss * tieRoom + tie < limit * tieRoom + 0 → loss < limit
+limit-below limit loss tie less = omega arith
 
 -- and none is out
 none-out : (k : ℕ) → isOut 0 k ≡ false
@@ -104,54 +116,68 @@ module _ {tables : Tables} (few : tables .count ≤ mostBlocks) (small : (i : �
 -- A PASS over all blocks of a day
 module _ {tables : Tables} {day : Day} {p rest : ℕ → ℕ} (known : Known day p rest tables) where
   -- welfare and what a set loses by the tables add up to one number
-  adds : by-loss.Adds day (lossAbove day p rest) (wholeOf day p - daySum (day .hours) rest)
+  pub adds : by-cost.Adds day (lossAbove day p rest) (wholeOf day p - daySum (day .hours) rest)
   unfolding lossAbove
   adds =
-      by-loss.adds-less day (lossOf day p) (lossAbove day p rest) _ (daySum (day .hours) rest) (by-loss.loss-adds day (known .prices) (known .hours) p)
+      by-cost.adds-less day (lossOf day p) (lossAbove day p rest) _ (daySum (day .hours) rest) (by-cost.loss-adds day (known .prices) (known .hours) p)
       (λ set size law. omega (arith, bound-with day p [] set 0 rest (omega arith) (λ h c. rest-below known set (size ∙ known .counted) law h (an-hour c))))
 
-  module _ {steps : ℕ → List Step} (turning : Turning tables) (same : StepsAre day steps) {margin limit : ℕ} {r : Best}
-      (pass : Passed tables steps margin limit r) where
-    outcome-of : Outcome margin day p rest (length (day .blocks)) (length (day .blocks)) [] (startAt limit) r
-    outcome-of = rw (known .counted) (pass day p rest [] same record {
+  module _ {steps : ℕ → List Step} (turning : Turning tables) (same : StepsAre day steps) {limit fuel : ℕ} {r : Best}
+      (pass : Passed tables steps limit fuel r) where
+    outcome-of : Outcome day p rest tables (tables .count) [] (startAt limit fuel) r
+    outcome-of = pass .1 day p rest [] same record {
       known = known;
       turning = turning;
       branch = root-branch day p;
+      tieIs = unfold ties in refl;
       closed = none-closed (known .parent);
       size = omega arith;
       outOf = λ t k l law less inside is. clash is (none-out k);
-    })
+    }
 
-  -- with a margin a set that it finds, and no tie, is one that no other ties with
-  pub pass-alone : {steps : ℕ → List Step} → Turning tables → StepsAre day steps → {limit : ℕ} {r : Best} → Passed tables steps 1 limit r →
-      r .limit < limit → 0 < r .limit →
-      alone.OnlyBest day (InTurn day p) (decisions (tables .count) (r .set)) × (r .set < 2 ^ tables .count)
-      × DayOf day (decisions (tables .count) (r .set)) (r .day)
-  pass-alone turning same pass less some =
-      let o = outcome-of turning same pass in
-      rw (← (known .counted))
-      (alone.pass-alone day (InTurn day p) (lossAbove day p rest) _ adds _ _ (o .tried .narrowed refl) less some, o .found less .0, o .found less .1)
+    module _ (some : 0 < r .fuel) where
+      whole-pass : by-cost.Pass day (Sought day p rest tables) (costAbove day p rest (tables .blocks)) (bestAs (tables .count) (startAt limit fuel))
+          (bestAs (tables .count) r)
+      whole-pass = rw (known .counted) (outcome-of .explored some)
 
-  -- BY NUMBER: the blocks' numbers rise
-  module _ (rise : NumbersRise 0 (day .blocks)) where
-    in-turn : InTurn day p (outcome day)
-    in-turn = outcome-in-turn day (known .prices) (known .hours) rise p
+      module _ {set : List Bool} (best : Cheapest day p rest tables set) where
+        size : length set ≡ length (day .blocks)
+        size = best .size ∙ sym (known .counted)
 
-    -- without a margin a set that it finds is the published one
-    pub pass-is : {steps : ℕ → List Step} → Turning tables → StepsAre day steps → {limit : ℕ} {r : Best} → Passed tables steps 0 limit r → r .limit < limit →
-        (decisions (tables .count) (r .set) ≡ outcome day) × (r .set < 2 ^ tables .count) × DayOf day (outcome day) (r .day)
-    pass-is turning same {r = r} pass less =
-        let o = outcome-of turning same pass in
-        let e : decisions (length (day .blocks)) (r .set) ≡ outcome day =
-        by-loss.pass-outcome day (InTurn day p) (known .prices) (known .hours) (lossAbove day p rest) _ adds _ _ (o .tried .explored refl) in-turn less in
-        rw (← (known .counted)) (e, o .found less .0, rw e at (o .found less .1))
+        -- a set that it finds is the cheapest one
+        pub pass-is : r .limit < limit → (decisions (tables .count) (r .set) ≡ set) × (r .set < 2 ^ tables .count) × DayOf day set (r .day)
+        pass-is less =
+            let lower : costLimit r < costLimit (startAt limit fuel) = below-limit limit (r .limit) (r .tie) (pass .0 .tieFits) less in
+            let e : decisions (tables .count) (r .set) ≡ set =
+            by-cost.pass-least day _ _ _ _ whole-pass set size (best .isLawful) (best .sought)
+            (λ other l law. best .sought .cheapest other (l ∙ known .counted) law) (λ other l e. best .apart other (l ∙ known .counted) e) lower in
+            (e, outcome-of .found lower .0, rw e at (outcome-of .found lower .1))
 
-    -- and it finds one where the limit is large
-    pub pass-found : tables .count ≤ mostBlocks → ((i : ℕ) → getD (tables .blocks) i 0 < 2 ^ 32) → ((i : ℕ) → getD (tables .gaps) i 0 < 2 ^ 32) →
-        {steps : ℕ → List Step} → Turning tables → StepsAre day steps → {limit : ℕ} {r : Best} → Passed tables steps 0 limit r →
-        lastLimit ≤ limit → r .limit < limit
-    pass-found few small smallGap turning same pass k =
-        let o = outcome-of turning same pass in
-        by-loss.pass-finds-any day (InTurn day p) (known .prices) (known .hours) (lossAbove day p rest) _ adds _ _ (o .tried .explored refl) in-turn
-        (replicate (length (day .blocks)) false) (length-replicate _ _) (empty-lawful day (known .prices) (known .hours))
-        (omega (arith, empty-loss few small smallGap known))
+        -- and it finds one where the limit is large
+        pub pass-found : tables .count ≤ mostBlocks → ((i : ℕ) → getD (tables .blocks) i 0 < 2 ^ 32) → ((i : ℕ) → getD (tables .gaps) i 0 < 2 ^ 32) →
+            lastLimit ≤ limit → r .limit < limit
+        pass-found few small smallGap k =
+            let none = replicate (length (day .blocks)) false in
+            let none-size : length none ≡ tables .count = length-replicate (length (day .blocks)) false ∙ known .counted in
+            let fits : ties (rankAt (tables .blocks)) none ≤ mostLoss =
+            omega (arith, ties-fit (rankAt (tables .blocks)) none (2 ^ 32) (λ j b. omega (arith, small (rankColumn + j))), mul-le-mul-right (2 ^ 32) few) in
+            let cheap : costAbove day p rest (tables .blocks) set < costLimit (startAt limit fuel) =
+            omega (
+              arith,
+              best .sought .cheapest none none-size (empty-lawful day (known .prices) (known .hours)),
+              below-limit lastLimit (lossAbove day p rest none) (ties (rankAt (tables .blocks)) none) fits (empty-loss few small smallGap known),
+            ) in
+            limit-below limit (r .limit) (r .tie) (by-cost.pass-finds day _ _ _ _ whole-pass set size (best .isLawful) (best .sought) cheap)
+
+-- enough fuel is not spent
+pub fuel-left : {tables : Tables} {steps : ℕ → List Step} {limit fuel : ℕ} {r : Best} → tables .count ≤ mostBlocks → 2 ^ 32 ≤ fuel →
+    Passed tables steps limit fuel r → 0 < r .fuel
+fuel-left {tables} few enough pass = omega (arith, pass .0 .fuelSpent, pow-mono {i = tables .count} {j = 32} few)
+
+-- WHETHER BLOCKS ARE LINKED, one block after another
+pub linked-next : (blocks : List ℕ) (i : ℕ) {linked : Bool} → linked ≡ isLinked blocks i → (linked || not (eqb (parentAt blocks i) 0)) ≡ isLinked blocks (i + 1)
+unfolding isLinked
+linked-next blocks i e = rw (e, add-one) refl
+
+pub linked-all : (blocks : List ℕ) {count i : ℕ} {linked : Bool} → i ≤ count → count ≤ i → linked ≡ isLinked blocks i → linked ≡ isLinked blocks count
+linked-all blocks {count} {i} inside all e = let same : i ≡ count = omega arith in rw same at e

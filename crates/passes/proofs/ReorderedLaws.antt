@@ -1,9 +1,9 @@
--- THE COLUMNS IN ANOTHER ORDER are those of the day with its blocks in that order, whose tables are the same; and a set that no other ties with there is,
--- put back by number, the published one of the day itself, with the same prices and traded quantities. Assumes nothing.
-use Prim.Native.Nat.{ℕ, zero, suc, _-_, _<_}
-use mathlib.Core.Bool.{false}
+-- THE COLUMNS IN AN ORDER are those of the day with its blocks in that order, whose tables are the same; the published set in that order is the cheapest one
+-- there; and put back by number it is the published one of the day itself, with the same prices and traded quantities. Assumes nothing.
+use Prim.Native.Nat.{ℕ, zero, suc, _-_, _≤_, _<_}
+use mathlib.Core.Bool.{Bool, false}
 use mathlib.Core.List.{List}
-use mathlib.Core.Path.{_≡_, refl, sym, _∙_}
+use mathlib.Core.Path.{_≡_, refl, sym, ap, _∙_}
 use native.Mathlib.Omega.{arith}
 use borrow.Author.Tests.{ne-eqb}
 use lib.ListN.{length, getD}
@@ -12,9 +12,12 @@ use Rattle.rules.specs.Orders.{Step}
 use Rattle.rules.specs.Day.{Day, decisions, sells, buys}
 use Rattle.rules.specs.Outcome.{outcome}
 use Rattle.rules.specs.Contender.{NumbersRise}
-use Rattle.rules.proofs.AloneLaws.{OnlyBest}
+use Rattle.rules.proofs.BestLaws.{FirstBest, outcome-first}
+use Rattle.rules.proofs.DayLaws.{empty-lawful}
 use Rattle.rules.proofs.LinkLaws.{Parents}
-use Rattle.rules.proofs.TwinLaws.{Ahead, InTurn, block-at}
+use Rattle.rules.proofs.TwinLaws.{Ahead, block-at, outcome-in-turn}
+use Rattle.rules.proofs.TieLaws.{ties, ties-same-rank, rankOf}
+use Rattle.rules.proofs.CostLaws.{costs-apart, outcome-costs-least}
 use Rattle.rules.proofs.SetBits.{bits-at}
 use Rattle.rules.proofs.RearrangedLaws as other-order
 use Rattle.rules.proofs.RearrangedLaws.{
@@ -27,7 +30,7 @@ use Rattle.rules.proofs.RearrangedLaws.{
   parentWithin,
   length-by,
   at-by,
-  by-place-back,
+  by-order-back,
   size-rearranged,
   next-rearranged,
   sum-rearranged,
@@ -37,18 +40,21 @@ use Rattle.rules.proofs.RearrangedLaws.{
   traded-rearranged,
   closed-rearranged,
   ahead-placed,
-  alone-is-outcome,
+  in-turn-rearranged,
+  lawful-rearranged,
   parent-within,
   parents-within,
 }
-use Rattle.places.specs.Blocks.{BlocksSized, parentAt}
+use Rattle.places.specs.Blocks.{BlocksSized, parentAt, rankAt}
 use Rattle.order.specs.Order.{placedName, IsOrderOf, Reordered, ByNumber}
-use Rattle.search.specs.Tables.{Tables}
-use Rattle.search.specs.Meaning.{Sized, Shown, Known, DayOf, lastReached}
-use Rattle.search.proofs.DecisionLaws.{decisions-long}
+use Rattle.branches.specs.Tables.{Tables}
+use Rattle.branches.specs.Meaning.{Sized, Shown, Known, lastReached, lossAbove}
+use Rattle.branches.proofs.DecisionLaws.{decisions-long}
+use Rattle.search.specs.Meaning.{DayOf}
 use Rattle.search.specs.declared.Day as code-day
 use Rattle.search.specs.declared.Best.{Best}
-use Rattle.passes.specs.Passes.{FoundIn, AloneIn}
+use Rattle.passes.specs.Passes.{Cheapest, FoundThere, FoundIn}
+use Rattle.passes.proofs.PassLaws.{adds}
 
 -- the tables with other columns of the blocks
 abbrev pub withColumns : List ℕ → Tables → Tables
@@ -154,10 +160,46 @@ module _ {day : Day} {p rest : ℕ → ℕ} {t : Tables} (known : Known day p re
           (twin .0, ahead-there j b k (omega (arith, twin .0)) (known .behind (at order j) (at order b) (is .orderIn j k) (twin .1) .1));
     }
 
-  -- A SET THAT NO OTHER TIES WITH there, by number
+    -- THE PUBLISHED SET in that order costs least of all
+    module _ (few : t .count ≤ 32) (rise : NumbersRise 0 (day .blocks)) where
+      abbrev there : List Bool
+      there = byOrder (at order) (length (day .blocks)) (outcome day)
+
+      first : FirstBest day (outcome day)
+      first = outcome-first day (empty-lawful day (known .prices) (known .hours))
+
+      -- the ranks in the columns are those by number
+      rank-there : (set : List Bool) → length set ≡ t .count → ties (rankAt other) set ≡ ties (λ j. rankOf (at order j)) set
+      rank-there set size = ties-same-rank (rankAt other) (λ j. rankOf (at order j)) set (λ j k. columns .rankIs j (omega arith))
+
+      few-blocks : length (day .blocks) ≤ 32
+      few-blocks = omega (arith, known .counted)
+
+      there-size : length there ≡ t .count
+      there-size = length-by false (at order) (length (day .blocks)) (outcome day) ∙ known .counted
+
+      sized-by : (set : List Bool) → length set ≡ t .count → length set ≡ length (D .blocks)
+      sized-by set size = size ∙ sym (known .counted) ∙ sym (size-rearranged (at order) (at place) day order-of)
+
+      pub published-cheapest : Cheapest (rearranged (at order) day) p rest (withColumns other t) (byOrder (at order) (length (day .blocks)) (outcome day))
+      published-cheapest = record {
+        size = there-size;
+        isLawful = lawful-rearranged (at order) (at place) day order-of (outcome day) ∙ first .isLawful;
+        sought = record {
+          inTurn = in-turn-rearranged (at order) (at place) day order-of p (outcome day) (outcome-in-turn day (known .prices) (known .hours) rise p);
+          cheapest = λ set size law.
+              rw (rank-there there there-size, rank-there set size)
+              (outcome-costs-least (at order) (at place) day order-of few-blocks (known .prices) (known .hours) _ _ (adds known-there) set (sized-by set size) law);
+        };
+        apart = λ set size e.
+            costs-apart (at order) (at place) day order-of few-blocks (lossAbove D p rest) set there (sized-by set size) (sized-by there there-size)
+            (rw (rank-there there there-size, rank-there set size) at e);
+      }
+
+  -- PUT BACK BY NUMBER
   module _ {set numbered : ℕ} (by : ByNumber (t .count) place set numbered) where
     -- its decisions are those of the places, put back
-    pub decided-back : decisions (t .count) numbered ≡ byOrder (at place) (length (day .blocks)) (decisions (t .count) set)
+    decided-back : decisions (t .count) numbered ≡ byOrder (at place) (length (day .blocks)) (decisions (t .count) set)
     decided-back =
         rw (known .counted)
         (ext-getD false (decisions (t .count) numbered) (byOrder (at place) (t .count) (decisions (t .count) set))
@@ -167,27 +209,21 @@ module _ {day : Day} {p rest : ℕ → ℕ} {t : Tables} (known : Known day p re
         ∙ (rw (by .bits i inside))
         ∙ sym (at-by false (at place) (t .count) (decisions (t .count) set) i inside ∙ bits-at (t .count) set (at place i) (is .placeIn i inside))))
 
-    module _ (rise : NumbersRise 0 (day .blocks))
-        (alone : OnlyBest (rearranged (at order) day) (InTurn (rearranged (at order) day) p) (decisions (t .count) set)) where
+    module _ (is-there : decisions (t .count) set ≡ byOrder (at order) (length (day .blocks)) (outcome day)) where
       -- it is the published one
       pub published-back : decisions (t .count) numbered ≡ outcome day
       published-back =
-          decided-back
-          ∙ sym (alone-is-outcome (at order) (at place) day order-of p (known .prices) (known .hours) rise (decisions (t .count) set) alone)
+          decided-back ∙ ap (byOrder (at place) (length (day .blocks))) is-there
+          ∙ by-order-back (length (day .blocks)) (at order) (at place) order-of (outcome day)
+          (outcome-first day (empty-lawful day (known .prices) (known .hours)) .ofBlocks)
 
-      -- put in the order again, it is the set that was found
-      there-again : byOrder (at order) (length (day .blocks)) (outcome day) ≡ decisions (t .count) set
-      there-again =
-          rw (← published-back, decided-back)
-          (by-place-back (length (day .blocks)) (at order) (at place) order-of (decisions (t .count) set)
-          (decisions-long (t .count) set ∙ sym (known .counted)))
-
-      -- and its day is the published one's
-      pub day-back : {found : code-day.Day} → DayOf (rearranged (at order) day) (decisions (t .count) set) found → DayOf day (outcome day) found
-      day-back of = record {
-        pricesAre = λ h c. of .pricesAre h c ∙ rw there-again at (prices-rearranged (at order) (at place) day order-of (outcome day) h);
-        tradedAre = λ h c. of .tradedAre h c ∙ rw there-again at (traded-rearranged (at order) (at place) day order-of (outcome day) h);
-      }
+  -- and its day is the published one's
+  pub day-back : {found : code-day.Day} → DayOf (rearranged (at order) day) (byOrder (at order) (length (day .blocks)) (outcome day)) found →
+      DayOf day (outcome day) found
+  day-back of = record {
+    pricesAre = λ h c. of .pricesAre h c ∙ prices-rearranged (at order) (at place) day order-of (outcome day) h;
+    tradedAre = λ h c. of .tradedAre h c ∙ traded-rearranged (at order) (at place) day order-of (outcome day) h;
+  }
 
 -- WHAT THE PASSES over the columns in an order have settled, by number
 module _ {t : Tables} {other : List ℕ} where
@@ -206,10 +242,12 @@ module _ {t : Tables} {other : List ℕ} where
     few = sized .few;
   }
 
-  -- the set that no other ties with there is the published one
-  pub settled-back : {steps : ℕ → List Step} {order place : List ℕ} (best : Best) {numbered : ℕ} → IsOrderOf (t .blocks) (t .count) order place →
-      Reordered (t .count) order place (t .blocks) other → ByNumber (t .count) place (best .set) numbered → AloneIn (withColumns other t) steps best →
-      FoundIn t steps record { limit = best .limit; set = numbered; day = best .day }
-  settled-back {order = order} best is columns by alone day p rest same known turning rise =
-      let a = alone (rearranged (at order) day) p rest same (known-there known is columns) record { falls = turning .falls; rises = turning .rises } in
-      (published-back known is by rise (a .0), by .fits, day-back known is by rise (a .0) (a .2))
+  -- the set that is found there is the published one
+  pub found-back : {steps : ℕ → List Step} {order place : List ℕ} (best : Best) {numbered : ℕ} → t .count ≤ 32 →
+      IsOrderOf (t .blocks) (t .count) order place → Reordered (t .count) order place (t .blocks) other → ByNumber (t .count) place (best .set) numbered →
+      FoundThere (withColumns other t) steps best →
+      FoundIn t steps record { limit = best .limit; tie = best .tie; fuel = best .fuel; set = numbered; day = best .day }
+  found-back {order = order} best few is columns by found day p rest same known turning rise =
+      let a = found (rearranged (at order) day) p rest _ same (known-there known is columns) record { falls = turning .falls; rises = turning .rises }
+      (published-cheapest known is columns few rise) in
+      (published-back known is by (a .0), by .fits, day-back known is (a .2))

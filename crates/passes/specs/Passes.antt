@@ -1,21 +1,23 @@
--- WHAT THE PASSES PROMISE: one pass over all blocks, the passes by number, the passes in another order, and all together. Definitions only. Assumes nothing.
-use Prim.Native.Nat.{ℕ, _+_, _*_, _^_, _≤_, _<_}
+-- WHAT THE PASSES PROMISE: one pass over all blocks, the light passes, the heavy ones, and all together. Definitions only. Assumes nothing.
+use Prim.Native.Nat.{ℕ, zero, suc, _+_, _*_, _^_, _≤_, _<_}
+use mathlib.Core.Bool.{Bool, true, false, not, _||_}
+use lib.Dec.{eqb}
 use mathlib.Core.List.{List}
 use mathlib.Core.Path.{_≡_}
 use lib.ListN.{length, replicate}
 use Rattle.rules.specs.Orders.{Step}
-use Rattle.rules.specs.Day.{decisions}
+use Rattle.rules.specs.Day.{Day, decisions, lawful}
 use Rattle.rules.specs.Outcome.{outcome}
 use Rattle.rules.specs.Contender.{NumbersRise}
-use Rattle.rules.proofs.AloneLaws.{OnlyBest}
-use Rattle.rules.proofs.TwinLaws.{InTurn}
 use Rattle.places.specs.Layout.{hourPlaces, hourListSize, lastLimit}
+use Rattle.places.specs.Blocks.{parentAt}
 use Rattle.places.specs.Steps.{StepsSized}
-use Rattle.search.specs.Tables.{Tables}
-use Rattle.search.specs.Meaning.{Sized, Known, Turning, DayOf, StepsAre, ExploredFrom}
+use Rattle.branches.specs.Tables.{Tables}
+use Rattle.branches.specs.Meaning.{Sized, Known, Turning, costAbove}
+use Rattle.branches.specs.declared.Node.{Node}
+use Rattle.search.specs.Meaning.{Kept, Sought, DayOf, StepsAre, ExploredFrom}
 use Rattle.search.specs.declared.Best.{Best}
-use Rattle.search.specs.declared.Node.{Node}
-use Rattle.passes.specs.declared.Ordered.{Ordered}
+use Rattle.passes.specs.declared.Reached.{Reached}
 
 -- WHAT IS GIVEN: the tables and the steps' columns, for safe arithmetic and indexing.
 abbrev pub Given : (t : Tables) (hours sides prices quantities ends : List ℕ) → Type 0
@@ -26,30 +28,43 @@ Given t hours sides prices quantities ends =
 abbrev pub LimitHeld : ℕ → Type 0
 LimitHeld limit = (1 ≤ limit) × (limit ≤ 2 * lastLimit)
 
+-- One of the first n blocks has a parent.
+unfoldable pub isLinked : (blocks : List ℕ) → ℕ → Bool
+isLinked blocks zero = false
+isLinked blocks (suc i) = isLinked blocks i || not (eqb (parentAt blocks i) 0)
+
 -- THE ROOT: nothing is decided.
 abbrev pub root : Node
-root = record { set = 0; loss = 0; places = replicate hourPlaces 0 }
+root = record { set = 0; loss = 0; tie = 0; places = replicate hourPlaces 0 }
 
--- No set is found yet, and a limit is set.
-abbrev pub startAt : ℕ → Best
-startAt limit = record { limit = limit; set = 0; day = record { prices = replicate hourPlaces 0; quantities = replicate hourPlaces 0 } }
+-- No set is found yet, and a limit is set; with fuel.
+abbrev pub startAt : (limit fuel : ℕ) → Best
+startAt limit fuel =
+    record { limit = limit; tie = 0; fuel = fuel; set = 0; day = record { prices = replicate hourPlaces 0; quantities = replicate hourPlaces 0 } }
 
--- A PASS over all blocks, with a margin, from a limit.
-abbrev pub Passed : (t : Tables) (steps : ℕ → List Step) (margin limit : ℕ) (r : Best) → Type 0
-Passed t steps margin limit r = ExploredFrom t steps (t .count) 0 margin root (startAt limit) r
+-- A PASS over all blocks from a limit, with fuel.
+abbrev pub Passed : (t : Tables) (steps : ℕ → List Step) (limit fuel : ℕ) (r : Best) → Type 0
+Passed t steps limit fuel r = Kept (t .count) (startAt limit fuel) r × ExploredFrom t steps (t .count) 0 root (startAt limit fuel) r
+
+-- THE CHEAPEST SET of a day: lawful and sought, and no other set costs the same.
+pub record Cheapest (day : Day) (p rest : ℕ → ℕ) (t : Tables) (set : List Bool) : Type 0 where
+  pub size : length set ≡ t .count
+  pub isLawful : lawful day set ≡ true
+  pub sought : Sought day p rest t set
+  pub apart : (other : List Bool) → length other ≡ t .count → costAbove day p rest (t .blocks) other ≡ costAbove day p rest (t .blocks) set → other ≡ set
+
+-- It is found, of the day's blocks in whatever order they stand; with its day.
+abbrev pub FoundThere : (t : Tables) (steps : ℕ → List Step) (r : Best) → Type 0
+FoundThere t steps r =
+    (day : _) (p rest : ℕ → ℕ) (set : List Bool) → StepsAre day steps → Known day p rest t → Turning t → Cheapest day p rest t set →
+    (decisions (t .count) (r .set) ≡ set) × (r .set < 2 ^ t .count) × DayOf day set (r .day)
+
+-- THE LIGHT PASSES: where fuel is left it is found; with the limit that was reached.
+abbrev pub FoundLight : (t : Tables) (steps : ℕ → List Step) (r : Reached) → Type 0
+FoundLight t steps r = (0 < r .best .fuel → FoundThere t steps (r .best)) × LimitHeld (r .limit)
 
 -- THE PUBLISHED SET, with its day.
 abbrev pub FoundIn : (t : Tables) (steps : ℕ → List Step) (r : Best) → Type 0
 FoundIn t steps r =
     (day : _) (p rest : ℕ → ℕ) → StepsAre day steps → Known day p rest t → Turning t → NumbersRise 0 (day .blocks) →
     (decisions (t .count) (r .set) ≡ outcome day) × (r .set < 2 ^ t .count) × DayOf day (outcome day) (r .day)
-
--- A SET THAT NO OTHER TIES WITH, of the day's blocks in whatever order they stand: of the sets in turn only it has so much welfare. With its day.
-abbrev pub AloneIn : (t : Tables) (steps : ℕ → List Step) (r : Best) → Type 0
-AloneIn t steps r =
-    (day : _) (p rest : ℕ → ℕ) → StepsAre day steps → Known day p rest t → Turning t →
-    OnlyBest day (InTurn day p) (decisions (t .count) (r .set)) × (r .set < 2 ^ t .count) × DayOf day (decisions (t .count) (r .set)) (r .day)
-
--- THE PASSES IN AN ORDER: the best that they give is such a set, or it has a limit of 0; with the limit of the last pass.
-abbrev pub OrderedIn : (P : Best → Type 0) (r : Ordered) → Type 0
-OrderedIn P r = (0 < r .best .limit → P (r .best)) × LimitHeld (r .limit)

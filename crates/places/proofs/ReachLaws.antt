@@ -25,13 +25,13 @@ use Rattle.places.proofs.AddedLaws.{places-grow, added-more}
 
 -- WHETHER ONE BLOCK MOVES its places on, in the code's form
 pub moves-are : (blocks : List ℕ) (out : Bool) (loss limit i : ℕ) →
-    (((isLeft blocks out loss limit i && eqb (sideAt blocks i) 0) || (isTaken blocks loss limit i && not (eqb (sideAt blocks i) 0)))
+    (((isLeft blocks out loss limit i && eqb (sideAt blocks i) 0) || (isTaken blocks out loss limit i && not (eqb (sideAt blocks i) 0)))
     ≡ mustMove blocks out loss limit i)
-    × ((not (isLeft blocks out loss limit i) && not (isTaken blocks loss limit i)) ≡ mayMove blocks out loss limit i)
+    × ((not (isLeft blocks out loss limit i) && not (isTaken blocks out loss limit i)) ≡ mayMove blocks out loss limit i)
 unfolding mustMove mayMove
 moves-are blocks out loss limit i = (refl, refl)
 
--- WHAT ONE BLOCK ADDS to an hour: where it is taken and not out, or left out, at a loss below the limit
+-- WHAT ONE BLOCK ADDS to an hour: where it is taken and not out, or left out, at a loss below the limit where it is not out
 module _ (blocks : List ℕ) (out : Bool) (loss limit i row : ℕ) where
   abbrev must-add : ℕ
   must-add = when (mustMove blocks out loss limit i) row
@@ -42,7 +42,7 @@ module _ (blocks : List ℕ) (out : Bool) (loss limit i row : ℕ) where
   pub taken-adds : out ≡ false → loss + againstAt blocks i < limit →
       (must-add ≤ when (not (eqb (sideAt blocks i) 0)) row) × (when (not (eqb (sideAt blocks i) 0)) row ≤ must-add + may-add)
   unfolding mustMove mayMove
-  taken-adds e k = rw (e, lt-leb limit (loss + againstAt blocks i) k) (go (eqb (sideAt blocks i) 0) (isTaken blocks loss limit i))
+  taken-adds e k = rw (e, lt-leb limit (loss + againstAt blocks i) k) (go (eqb (sideAt blocks i) 0) (isTaken blocks false loss limit i))
     where
       go : (b t : Bool) → (when (((false || false) && b) || (t && not b)) row ≤ when (not b) row)
           × (when (not b) row ≤ when (((false || false) && b) || (t && not b)) row + when (not (false || false) && not t) row)
@@ -51,11 +51,15 @@ module _ (blocks : List ℕ) (out : Bool) (loss limit i row : ℕ) where
       go false true = (omega arith, omega arith)
       go false false = (omega arith, omega arith)
 
-  pub left-adds : loss + gainAt blocks i < limit →
+  pub left-adds : (out ≡ false → loss + gainAt blocks i < limit) →
       (must-add ≤ when (eqb (sideAt blocks i) 0) row) × (when (eqb (sideAt blocks i) 0) row ≤ must-add + may-add)
   unfolding mustMove mayMove
-  left-adds k = rw (lt-leb limit (loss + gainAt blocks i) k) (go (eqb (sideAt blocks i) 0) (isLeft blocks out loss limit i))
+  left-adds k = rw not-taken (go (eqb (sideAt blocks i) 0) (isLeft blocks out loss limit i))
     where
+      not-taken : isTaken blocks out loss limit i ≡ false
+      not-taken = by-test (λ u. out ≡ u → (not u && leb limit (loss + gainAt blocks i)) ≡ false) out (λ _ _. refl)
+          (λ _ e. lt-leb limit (loss + gainAt blocks i) (k e)) refl
+
       go : (b l : Bool) → (when ((l && b) || (false && not b)) row ≤ when b row)
           × (when b row ≤ when ((l && b) || (false && not b)) row + when (not l && not false) row)
       go true true = (omega arith, omega arith)

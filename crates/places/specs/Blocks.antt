@@ -9,11 +9,12 @@ use Rattle.rules.specs.Execution.{testSide}
 use Rattle.orders.specs.Columns.{sideFor}
 use Rattle.rules.specs.Hour.{when}
 use Rattle.book.specs.Bounds.{mostBlocks}
-use Rattle.places.specs.Layout.{hourPlaces, mostAdded, mostPlace, sideColumn, hoursColumn, quantityColumn, limitColumn, againstColumn, gainColumn, parentColumn, aheadColumn, behindColumn, rowsColumn, blockListSize}
+use Rattle.places.specs.Layout.{hourPlaces, mostAdded, mostPlace, sideColumn, hoursColumn, quantityColumn, limitColumn, againstColumn, gainColumn, parentColumn, aheadColumn, behindColumn, rankColumn, rowsColumn, blockListSize}
 use Rattle.places.specs.Hours.{Small, sumOfHours, ofHour}
 
--- THE BLOCKS: nine columns: side, hours, quantity, limit (price times hour count), loss if taken, loss if left out, parent, and for twins the
--- earlier block that is taken before this one, and the one that is taken after it (0 for none, else its number and 1); then a row of hours for each.
+-- THE BLOCKS: ten columns: side, hours, quantity, limit (price times hour count), loss if taken, loss if left out, parent, for twins the
+-- earlier block that is taken before this one, and the one that is taken after it (0 for none, else its number and 1), and the rank by which ties are settled;
+-- then a row of hours for each.
 abbrev pub sideAt : List ℕ → ℕ → ℕ
 sideAt blocks i = getD blocks (sideColumn + i) 0
 
@@ -40,6 +41,9 @@ aheadAt blocks i = getD blocks (aheadColumn + i) 0
 
 abbrev pub behindAt : List ℕ → ℕ → ℕ
 behindAt blocks i = getD blocks (behindColumn + i) 0
+
+abbrev pub rankAt : List ℕ → ℕ → ℕ
+rankAt blocks i = getD blocks (rankColumn + i) 0
 
 -- What block i trades in hour h.
 abbrev pub rowQuantity : List ℕ → ℕ → ℕ → ℕ

@@ -39,6 +39,10 @@ mostPlace = mostBlocks * mostAdded
 abbrev pub mostLoss : ℕ
 mostLoss = mostBlocks * 2 ^ 32
 
+-- What a branch is charged: what its decided blocks lose, and what its blocks that are out would gain.
+abbrev pub mostCharged : ℕ
+mostCharged = 2 * mostLoss
+
 abbrev pub mostGaps : ℕ
 mostGaps = hourPlaces * 2 ^ 32
 
@@ -69,7 +73,7 @@ shiftsPlace = changePlace + 1
 abbrev pub hourListSize : ℕ
 hourListSize = shiftsPlace + 1
 
--- THE BLOCKS: nine columns in one list, from sides to twins, then a row of 24 hours for each block.
+-- THE BLOCKS: ten columns in one list, from sides to ranks, then a row of 24 hours for each block.
 abbrev pub sideColumn : ℕ
 sideColumn = 0
 
@@ -97,8 +101,11 @@ aheadColumn = parentColumn + mostBlocks
 abbrev pub behindColumn : ℕ
 behindColumn = aheadColumn + mostBlocks
 
+abbrev pub rankColumn : ℕ
+rankColumn = behindColumn + mostBlocks
+
 abbrev pub rowsColumn : ℕ
-rowsColumn = behindColumn + mostBlocks
+rowsColumn = rankColumn + mostBlocks
 
 abbrev pub blockListSize : ℕ
 blockListSize = rowsColumn + mostBlocks * hourPlaces

@@ -15,21 +15,21 @@ abbrev pub isOut : ℕ → ℕ → Bool
 isOut out k = eqb (out / 2 ^ k % 2) 1
 
 -- THE REACH: the places that a branch can still come to, hour by hour. With so much lost, a decision that loses up to the limit is not made; nor is a
--- block taken that is out.
+-- block taken that is out: what it would gain counts in the loss already, so it is no reason to take it.
 abbrev pub isLeft : (blocks : List ℕ) (out : Bool) (loss limit i : ℕ) → Bool
 isLeft blocks out loss limit i = out || leb limit (loss + againstAt blocks i)
 
-abbrev pub isTaken : (blocks : List ℕ) (loss limit i : ℕ) → Bool
-isTaken blocks loss limit i = leb limit (loss + gainAt blocks i)
+abbrev pub isTaken : (blocks : List ℕ) (out : Bool) (loss limit i : ℕ) → Bool
+isTaken blocks out loss limit i = not out && leb limit (loss + gainAt blocks i)
 
 -- Block i moves the places of its hours on for certain: as a buy that is left out, as a sell that is taken.
 unfoldable pub mustMove : (blocks : List ℕ) (out : Bool) (loss limit i : ℕ) → Bool
 mustMove blocks out loss limit i =
-    (isLeft blocks out loss limit i && eqb (sideAt blocks i) 0) || (isTaken blocks loss limit i && not (eqb (sideAt blocks i) 0))
+    (isLeft blocks out loss limit i && eqb (sideAt blocks i) 0) || (isTaken blocks out loss limit i && not (eqb (sideAt blocks i) 0))
 
 -- It may move them: neither decision is certain.
 unfoldable pub mayMove : (blocks : List ℕ) (out : Bool) (loss limit i : ℕ) → Bool
-mayMove blocks out loss limit i = not (isLeft blocks out loss limit i) && not (isTaken blocks loss limit i)
+mayMove blocks out loss limit i = not (isLeft blocks out loss limit i) && not (isTaken blocks out loss limit i)
 
 -- The same of each block from number j on, the first of those that `out` is for.
 abbrev pub mustFrom : (blocks : List ℕ) (j out loss limit : ℕ) → ℕ → Bool

@@ -3,7 +3,7 @@ ghost use mathlib.Core.Path.{_≡_};
 ghost use Prim.Native.Nat.{_*_, _≤_, _<_};
 ghost use lib.ListN.{length};
 ghost use Rattle.book.specs.Bounds.{mostBlocks};
-ghost use Rattle.places.specs.Layout.{hourPlaces, mostAdded, mostPlace, mostLoss, hourListSize};
+ghost use Rattle.places.specs.Layout.{hourPlaces, mostAdded, mostPlace, mostCharged, hourListSize};
 ghost use Rattle.places.specs.Hours.{Small, clearsFirst, clearsLast};
 ghost use Rattle.places.specs.Blocks.{BlocksSized};
 ghost use Rattle.places.specs.Reach.{isOut, mustMove, mayMove, AddedTo, RestOf, ReachOf, ReachedBy};
@@ -34,12 +34,12 @@ pub struct Moves {
 }
 
 fn moves_of(blocks: &[u32], i: usize, out: bool, loss: u64, limit: u64) -> Moves
-    requires { ⌜ BlocksSized (now blocks) × (i < mostBlocks) × (loss ≤ mostLoss) ⌝ }
+    requires { ⌜ BlocksSized (now blocks) × (i < mostBlocks) × (loss ≤ mostCharged) ⌝ }
     ensures { λ r. ⌜ (r .must ≡ mustMove (now (blocks .entry)) out loss limit i) × (r .may ≡ mayMove (now (blocks .entry)) out loss limit i) ⌝ }
 {
     let buys = blocks[SIDE + i] == 0;
     let left_out = out | (limit <= loss + (blocks[AGAINST + i] as u64));
-    let taken = limit <= loss + (blocks[GAIN + i] as u64);
+    let taken = !out & (limit <= loss + (blocks[GAIN + i] as u64));
     Moves {
         must: (left_out & buys) | (taken & !buys),
         may: !left_out & !taken,
@@ -91,7 +91,7 @@ fn rest_of(
     limit: u64,
     places: [u32; HOURS],
 ) -> Rest
-    requires { ⌜ BlocksSized (now blocks) × (count ≤ mostBlocks) × (at ≤ count) × (loss ≤ mostLoss) × Small (at * mostAdded) places ⌝ }
+    requires { ⌜ BlocksSized (now blocks) × (count ≤ mostBlocks) × (at ≤ count) × (loss ≤ mostCharged) × Small (at * mostAdded) places ⌝ }
     ensures { λ r. ⌜ RestOf (now (blocks .entry)) count at out loss limit places (r .least) (r .free) ⌝ }
 {
     let mut least = places;
@@ -144,7 +144,7 @@ pub fn reach_at(
     limit: u64,
     places: [u32; HOURS],
 ) -> Reach
-    requires { ⌜ BlocksSized (now blocks) × (length (now hours) ≡ hourListSize) × (count ≤ mostBlocks) × (at ≤ count) × (loss ≤ mostLoss)
+    requires { ⌜ BlocksSized (now blocks) × (length (now hours) ≡ hourListSize) × (count ≤ mostBlocks) × (at ≤ count) × (loss ≤ mostCharged)
         × Small (at * mostAdded) places ⌝ }
     ensures { λ r. ⌜ ReachedBy (clearsFirst (now (hours .entry))) (clearsLast (now (hours .entry))) (now (blocks .entry)) count at out loss limit places
         (r .balances) (r .from) (r .to) ⌝ }

@@ -1,10 +1,6 @@
--- Laws of the search: sets that take no block without its parent, decisions made for certain, the best so far with a margin or without, a decided set and
--- what it trades, branches, why one is dropped.
-pub mod ClosedLaws
-pub mod DecisionLaws
+-- Laws of the search: the limit of a branch by the best so far, a decided set and what it trades, a branch explored.
+pub mod LimitLaws
 pub mod TradedLaws
-pub mod MarginLaws
 pub mod DecidedLaws
 pub mod ShiftedLaws
-pub mod BranchLaws
-pub mod DropLaws
+pub mod ExploredLaws

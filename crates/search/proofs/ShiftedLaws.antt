@@ -2,8 +2,8 @@
 use Prim.Native.Nat.{ℕ, _≤_, _<_}
 use mathlib.Core.Path.{_≡_, refl, sym, ap, _∙_, fun-ext}
 use mathlib.Core.List.{List}
-use mathlib.Core.Bool.{Bool, true, false}
-use mathlib.Core.Option.{Option, none, some}
+use mathlib.Core.Bool.{Bool}
+use mathlib.Core.Option.{none}
 use native.Mathlib.Omega.{arith}
 use lib.ListN.{length}
 use Rattle.rules.specs.Orders.{Step}
@@ -13,16 +13,17 @@ use Rattle.rules.specs.Day.{Day, taken, keepsAll}
 use Rattle.rules.proofs.SetShiftLaws.{shift-small, shift-chosen, shift-not-chosen}
 use Rattle.rules.proofs.SetPriceLaws.{any-shift, own-shift}
 use Rattle.rules.proofs.Tests.{by-le}
-use Rattle.places.specs.Layout.{hourPlaces}
+use Rattle.places.specs.Layout.{hourPlaces, mostLoss}
 use Rattle.places.specs.Hours.{PlacesClear, PricesOf}
 use Rattle.shift.specs.Columns.{shiftedColumn, chosenShift, shiftFrom}
 use Rattle.shift.proofs.ShiftedLaws.{column-size, column-of}
 use Rattle.shift.proofs.ChosenLaws.{shift-some}
-use Rattle.search.specs.Meaning.{Known, Branch, FoundAt, ShiftDecided}
-use Rattle.search.specs.Tables.{Tables}
+use Rattle.branches.specs.Tables.{Tables}
+use Rattle.branches.specs.Meaning.{Known, Branch}
+use Rattle.branches.specs.declared.Node.{Node}
+use Rattle.search.specs.Meaning.{limitAt, FoundAt, ShiftDecided}
 use Rattle.search.proofs.DecidedLaws.{priced-at, keeps-by-columns, prices-are, limits-kept, limits-broken, becomes-best, leaf-as-it-was}
 use Rattle.search.specs.declared.Best.{Best}
-use Rattle.search.specs.declared.Node.{Node}
 
 -- a number above the last shift stands for none
 above-none : (r : ℕ) → lastShift < r → shiftFrom r ≡ none
@@ -44,19 +45,20 @@ module _ {tables : Tables} {steps : ℕ → List Step} {node : Node} {limit : �
     (is : shiftFrom found ≡ chosenShift (tables .unitPrices) (tables .blocks) (tables .count) (node .set) (node .places) (tables .change)) where
   -- no shift keeps all blocks
   pub shift-missing : lastShift < found → ShiftDecided tables steps node limit best best
-  shift-missing k margin day p rest d same known branch closed whole room less leaves inside way =
+  shift-missing k day p rest d same known branch tied closed whole room loses inside way =
       leaf-as-it-was (λ law. absurd (limits-broken known branch whole inside
       (rw (own-shift day (taken (day .blocks) d) (known .shiftsIs ∙ way))
       (shift-not-chosen day (taken (day .blocks) d) (chosen-same known branch whole inside ∙ sym is ∙ above-none found k) _
       (shift-small day (taken (day .blocks) d)))) law))
 
   -- the set at its shift
-  pub shift-found : found ≤ lastShift → {prices : List ℕ} → PricesOf (shifted found) (tables .unitPrices) (node .places) prices → {r : Best} →
-      FoundAt (tables .blocks) (tables .count) steps (node .set) limit prices r → ShiftDecided tables steps node limit best r
-  shift-found k {prices} priced at margin day p rest d same known branch closed whole room less leaves inside way =
+  pub shift-found : found ≤ lastShift → {prices : List ℕ} → PricesOf (shifted found) (tables .unitPrices) (node .places) prices → {fuel : ℕ} {r : Best} →
+      FoundAt (tables .blocks) (tables .count) steps node limit fuel prices r → node .tie ≤ mostLoss → limit < limitAt (best .limit) (best .tie) (node .tie) →
+      ShiftDecided tables steps node limit best r
+  shift-found k {prices} priced at small less day p rest d same known branch tied closed whole room loses inside way =
       let gives = known .shiftsIs ∙ way in
       let chosen = shift-chosen day (taken (day .blocks) d) (chosen-same known branch whole inside ∙ sym is ∙ shift-some found k) in
-      becomes-best at less leaves same known branch whole room
+      becomes-best at small less loses tied same known branch whole room
       (limits-kept known branch whole inside closed (any-shift gives found k) (chosen .1))
       (prices-are known branch whole inside found prices (priced .size) (priced-at known branch whole (shifted found) found (λ l h z. refl) prices (priced .are))
       (own-shift day (taken (day .blocks) d) gives ∙ chosen .0))

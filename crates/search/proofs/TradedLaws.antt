@@ -2,44 +2,26 @@
 use Prim.Native.Nat.{ℕ, zero, suc, _+_, _/_, _%_, _^_, _≤_, _<_}
 use mathlib.Core.Path.{_≡_, refl, sym, _∙_}
 use mathlib.Core.List.{List, [], _∷_}
-use mathlib.Core.Bool.{Bool, true, false, not}
+use mathlib.Core.Bool.{Bool, true, false}
 use native.Mathlib.Omega.{arith}
 use native.Mathlib.Nat.{suc-inj}
 use lib.Dec.{eqb}
 use lib.ListN.{length, drop, getD}
-use borrow.Author.Tests.{ne-eqb}
-use Rattle.orders.specs.Columns.{sideFor}
 use Rattle.rules.specs.Orders.{Step, Block}
-use Rattle.rules.specs.Hour.{bySide, when}
 use Rattle.rules.specs.Day.{Day, taken, decisions, overBlocks, sells, buys, hourOf, setPrices, lawful, traded}
 use Rattle.rules.specs.Contender.{PricesInRange, HoursInRange}
-use Rattle.rules.proofs.CurveLaws.{when-zero}
 use Rattle.rules.proofs.DayLaws.{clearable-clears}
 use Rattle.rules.proofs.SetPriceLaws.{dayShift, price-at-shift, shift-price-positive}
 use Rattle.rules.proofs.ExecutionLaws.{traded-lesser}
 use Rattle.rules.proofs.QuietHours.{Quiet, each-clears, each-clearable}
 use Rattle.rules.proofs.SetBits.{bits-at}
 use Rattle.places.specs.Hours.{ofHour}
-use Rattle.places.specs.Blocks.{sideAt, rowQuantity, addedIn, sellsIn, buysIn, SetTrades}
+use Rattle.places.specs.Blocks.{addedIn, sellsIn, buysIn, SetTrades}
 use Rattle.places.specs.Steps.{HoursTraded}
-use Rattle.search.specs.Meaning.{AnHour, Shown, Known, StepsAre}
-use Rattle.search.specs.Tables.{Tables}
-
--- what a block sells and buys in an hour, by its row
-sells-row : (side : ℕ) (t : Bool) (q : ℕ) → when t (bySide (sideFor side) 0 q) ≡ when (not (eqb side 0)) (when t q)
-sells-row zero t q = when-zero t
-sells-row (suc side) t q = rw (ne-eqb (suc side) 0 (omega arith))
-
-buys-row : (side : ℕ) (t : Bool) (q : ℕ) → when t (bySide (sideFor side) q 0) ≡ when (eqb side 0) (when t q)
-buys-row zero t q = refl
-buys-row (suc side) t q = rw (ne-eqb (suc side) 0 (omega arith)) (when-zero t)
-
-module _ {day : Day} {p : ℕ → ℕ} {blocks : List ℕ} {j : ℕ} (s : Shown day p blocks j) (h : ℕ) (c : AnHour h) where
-  pub sells-at : sells h (s .block) ≡ when (not (eqb (sideAt blocks j) 0)) (rowQuantity blocks j h)
-  sells-at = rw (s .sideIs, s .rowIs h c) (sells-row (sideAt blocks j) (s .block .runs h) (s .block .quantity))
-
-  pub buys-at : buys h (s .block) ≡ when (eqb (sideAt blocks j) 0) (rowQuantity blocks j h)
-  buys-at = rw (s .sideIs, s .rowIs h c) (buys-row (sideAt blocks j) (s .block .runs h) (s .block .quantity))
+use Rattle.branches.specs.Meaning.{AnHour, Known}
+use Rattle.search.specs.Meaning.{StepsAre}
+use Rattle.branches.specs.Tables.{Tables}
+use Rattle.branches.proofs.SetLaws.{sells-at, buys-at}
 
 -- A SET'S BLOCKS in an hour, by their rows
 module _ {day : Day} {p rest : ℕ → ℕ} {tables : Tables} (known : Known day p rest tables)

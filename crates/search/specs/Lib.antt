@@ -1,4 +1,2 @@
--- The search over the blocks: what it works on, and what its functions promise. Definitions only.
-pub mod Tables
-pub mod Decisions
+-- The search over the blocks: what its functions promise. Definitions only.
 pub mod Meaning

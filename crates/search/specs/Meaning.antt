@@ -1,243 +1,107 @@
--- WHAT THE SEARCH MEANS: the day behind its tables, the branch behind its state, and what it promises of the best it gives back. These are the
--- contracts of private functions; the promise of the clearing itself is in Promise. Definitions only. Assumes nothing.
-use Prim.Native.Nat.{ℕ, suc, _+_, _-_, _*_, _^_, _≤_, _<_}
-use mathlib.Core.Bool.{Bool, true, false, not}
-use lib.Dec.{eqb, ltb}
-use mathlib.Core.List.{List, _∷_, _++_}
+-- WHAT THE SEARCH MEANS: what a set costs, and what the search promises of the best it gives back. These are the contracts of private functions; the promise of
+-- the clearing itself is in Promise. Definitions only. Assumes nothing.
+use Prim.Native.Nat.{ℕ, _+_, _*_, _^_, _≤_, _<_}
+use mathlib.Core.Bool.{Bool, true}
+use mathlib.Core.List.{List}
 use mathlib.Core.Path.{_≡_}
-use lib.ListN.{length, drop, getD}
-use Rattle.book.specs.Bounds.{mostBlocks}
-use Rattle.places.specs.Layout.{hourPlaces, mostAdded}
-use Rattle.records.specs.Records.{holdsHour}
-use Rattle.orders.specs.Columns.{sideFor}
-use Rattle.rules.specs.Orders.{Step, Block, maxPrice}
-use Rattle.rules.specs.Day.{Day, changeHour, weight, daySum, taken, decisions, overBlocks, sells, buys, stepsIn, givesWay, setPrices, hourCount, lawful, traded}
-use Rattle.rules.specs.Contender.{PricesInRange, HoursInRange}
-use Rattle.rules.proofs.PricingLaws.{Clearable, net}
-use Rattle.rules.proofs.TableLaws.{unitPrice}
-use Rattle.rules.proofs.NeighbourLaws.{slack}
-use Rattle.rules.proofs.BoundLaws.{gain}
-use Rattle.rules.proofs.LossLaws.{against, losses, lossOf}
-use Rattle.rules.proofs.LossSearchLaws as by-loss
-use Rattle.rules.proofs.AloneLaws as alone
-use Rattle.rules.proofs.PlaceLaws.{place, hourAt}
-use Rattle.rules.proofs.QuietHours.{Quiet}
-use Rattle.rules.proofs.LinkLaws.{Closed, Parents}
-use Rattle.rules.proofs.TwinLaws.{Ahead, InTurn}
-use Rattle.places.specs.Hours.{Small, DayPrices, cell, ofHour, HasRows, lastIn, countedColumn, PlacesClear, lowEnd, highEnd, PricesOf}
-use Rattle.places.specs.Blocks.{BlocksSized, sideAt, hoursAt, limitAt, againstAt, gainAt, parentAt, aheadAt, behindAt, rowQuantity, SetTrades}
+use lib.Dec.{ltb}
+use lib.ListN.{length}
+use Rattle.rules.specs.Orders.{Step}
+use Rattle.rules.specs.Hour.{when}
+use Rattle.rules.specs.Day.{Day, taken, decisions, stepsIn, setPrices, lawful, traded}
+use Rattle.rules.proofs.CostSearchLaws as by-cost
+use Rattle.rules.proofs.TieLaws.{ties}
+use Rattle.rules.proofs.CostLaws.{tieRoom}
+use Rattle.rules.proofs.LinkLaws.{Closed}
+use Rattle.rules.proofs.TwinLaws.{InTurn}
+use Rattle.places.specs.Layout.{hourPlaces, lastLimit, mostLoss}
+use Rattle.places.specs.Hours.{ofHour, PlacesClear}
+use Rattle.places.specs.Blocks.{rankAt, SetTrades}
 use Rattle.places.specs.Steps.{HoursTraded}
-use Rattle.places.specs.Reach.{isOut}
-use Rattle.search.specs.Tables.{Tables, tablesOf}
+use Rattle.branches.specs.Tables.{Tables, tablesOf}
+use Rattle.branches.specs.Meaning.{AnHour, Known, Branch, lossAbove, costAbove, At}
+use Rattle.branches.specs.declared.Node.{Node}
 use Rattle.search.specs.declared.Day as code-day
 use Rattle.search.specs.declared.Best.{Best}
-use Rattle.search.specs.declared.Node.{Node}
-use Rattle.rules.specs.Hour.{when, middle}
 
--- SIZES, for safe arithmetic and indexing
-pub record Sized (t : Tables) : Type 0 where
-  pub priceRows : HasRows (t .unitPrices)
-  pub gapRows : HasRows (t .gaps)
-  pub firstHours : length (t .first) ≡ hourPlaces
-  pub lastHours : length (t .last) ≡ hourPlaces
-  pub lastInPrices : Small (lastIn (t .unitPrices)) (t .last)
-  pub lastInGaps : Small (lastIn (t .gaps)) (t .last)
-  pub pricesFit : Small maxPrice (t .unitPrices)
-  pub blocksFit : BlocksSized (t .blocks)
-  pub changeFew : t .change ≤ 2
-  pub few : t .count ≤ mostBlocks
+-- THE BEST SO FAR
+-- What a set must cost less than, to become the best.
+abbrev pub costLimit : Best → ℕ
+costLimit best = best .limit * tieRoom + best .tie
 
--- A node with so many blocks decided.
-pub record Fits (decided : ℕ) (node : Node) : Type 0 where
-  pub setFits : node .set < 2 ^ decided
-  pub lossFits : node .loss ≤ decided * 2 ^ 32
-  pub placesSize : length (node .places) ≡ hourPlaces
-  pub placesFit : Small (decided * mostAdded) (node .places)
+-- The best in the laws' form.
+abbrev pub bestAs : ℕ → Best → by-cost.Best
+bestAs count best = record { limit = costLimit best; set = decisions count (best .set) }
 
--- ONE OF THE 24 HOURS, whether it counts or not: nothing is offered in one that does not
-pub record AnHour (h : ℕ) : Type 0 where
-  pub first : 1 ≤ h
-  pub last : h ≤ hourPlaces
+-- What a branch's completions must lose less than, once its left-out blocks come to `here`: the best's loss, or one more where they may still settle a tie.
+unfoldable pub limitAt : (limit tie here : ℕ) → ℕ
+limitAt limit tie here = limit + when (ltb here tie) 1
 
--- THE DAY behind the tables, at hourly prices p; `rest` is what the tables leave off each hour's gaps
--- Block j of the day and its columns.
-pub record Shown (day : Day) (p : ℕ → ℕ) (blocks : List ℕ) (j : ℕ) : Type 0 where
-  pub block : Block
-  pub next : drop j (day .blocks) ≡ block ∷ drop (suc j) (day .blocks)
-  pub sideIs : block .side ≡ sideFor (sideAt blocks j)
-  pub runsIs : (h : ℕ) → block .runs h ≡ holdsHour (hoursAt blocks j) h
-  pub rowIs : (h : ℕ) → AnHour h → rowQuantity blocks j h ≡ when (block .runs h) (block .quantity)
-  pub limitIs : block .price * hourCount (day .hours) block ≡ limitAt blocks j
-  pub againstIs : against (day .hours) p block ≡ againstAt blocks j
-  pub gainIs : gain (day .hours) p block ≡ gainAt blocks j
+-- For safe arithmetic: its loss, and what its left-out blocks come to.
+pub record Held (best : Best) : Type 0 where
+  pub limitFits : best .limit ≤ 2 * lastLimit
+  pub tieFits : best .tie ≤ mostLoss
 
--- The last place that a set of the day's blocks can have in hour h: where every sell is taken and every buy left out.
-abbrev pub lastReached : Day → ℕ → ℕ
-lastReached day h = overBlocks (sells h) (day .blocks) + overBlocks (buys h) (day .blocks)
-
-pub record Known (day : Day) (p rest : ℕ → ℕ) (t : Tables) : Type 0 where
-  pub prices : PricesInRange (day .steps)
-  pub hours : HoursInRange (day .steps)
-  pub quiet : Quiet day
-  pub changeIs : weight (day .hours) changeHour ≡ t .change
-  pub changeFew : t .change ≤ 2
-  pub shiftsIs : givesWay (day .edition) ≡ t .shifts
-  pub counted : length (day .blocks) ≡ t .count
-  -- the price table: the least price that meets the demand, one unit of N below the place
-  pub unitPriceIs : (h i : ℕ) → AnHour h → i ≤ lastReached day h + 1 →
-      cell (t .unitPrices) h i ≡ unitPrice (net (stepsIn h (day .steps)) i (suc (overBlocks (buys h) (day .blocks))))
-  -- the places at which an hour clears, of those that its blocks can reach
-  pub lastIs : (h : ℕ) → AnHour h → ofHour (t .last) h ≤ lastReached day h
-  pub clears : (h i : ℕ) → AnHour h → ofHour (t .first) h ≤ i → i ≤ ofHour (t .last) h → Clearable (hourAt day h i)
-  pub clearsOnly : (h i : ℕ) → AnHour h → i ≤ lastReached day h → Clearable (hourAt day h i) →
-      (ofHour (t .first) h ≤ i) × (i ≤ ofHour (t .last) h)
-  -- the gap table
-  pub gapIs : (h i : ℕ) → AnHour h → ofHour (t .first) h ≤ i → i ≤ ofHour (t .last) h →
-      slack (p h) (hourAt day h i) ≡ cell (t .gaps) h i + rest h
-  pub shown : (j : ℕ) → j < t .count → Shown day p (t .blocks) j
-  -- the parents
-  pub parent : ℕ → ℕ
-  pub parents : Parents day parent
-  pub parentIs : (j : ℕ) → j < t .count → parentAt (t .blocks) j ≡ parent j
-  -- the twins
-  pub ahead : (j a : ℕ) → j < t .count → aheadAt (t .blocks) j ≡ suc a → (a < j) × Ahead day p a j
-  pub behind : (j b : ℕ) → j < t .count → behindAt (t .blocks) j ≡ suc b → (b < j) × Ahead day p j b
-
--- Each hour's gaps fall to the place where they turn, and rise from it.
-pub record Turning (t : Tables) : Type 0 where
-  pub falls : (h i j : ℕ) → 1 ≤ h → h ≤ hourPlaces → ofHour (t .first) h ≤ i → i ≤ j → j ≤ ofHour (t .last) h → j ≤ ofHour (t .turn) h →
-      cell (t .gaps) h j ≤ cell (t .gaps) h i
-  pub rises : (h i j : ℕ) → 1 ≤ h → h ≤ hourPlaces → ofHour (t .first) h ≤ i → i ≤ j → j ≤ ofHour (t .last) h → ofHour (t .turn) h ≤ i →
-      cell (t .gaps) h i ≤ cell (t .gaps) h j
-
--- THE BRANCH of the decided blocks d
-pub record Branch (day : Day) (p : ℕ → ℕ) (d : List Bool) (node : Node) : Type 0 where
-  pub setIs : decisions (length d) (node .set) ≡ d
-  pub lossIs : node .loss ≡ losses (day .hours) p (day .blocks) d
-  pub placesAre : (h : ℕ) → AnHour h → ofHour (node .places) h ≡ place (day .blocks) d h
-
--- the loss of a set, less what the tables leave off
-unfoldable pub lossAbove : Day → (ℕ → ℕ) → (ℕ → ℕ) → List Bool → ℕ
-lossAbove day p rest set = lossOf day p set - daySum (day .hours) rest
-
--- the best in the code's form and in the laws'
-abbrev pub bestAs : ℕ → Best → by-loss.Best
-bestAs count best = record { limit = best .limit; set = decisions count (best .set) }
+-- What a branch with so many undecided blocks makes of it in any case: it costs no more, and at most one unit of fuel is spent for each way to decide them.
+pub record Kept (left : ℕ) (best r : Best) : Type 0 where
+  pub noMore : costLimit r ≤ costLimit best
+  pub tieFits : r .tie ≤ mostLoss
+  pub fuelFalls : r .fuel ≤ best .fuel
+  pub fuelSpent : best .fuel < r .fuel + 2 ^ left
 
 -- a set's prices and traded quantities
 pub record DayOf (day : Day) (set : List Bool) (found : code-day.Day) : Type 0 where
   pub pricesAre : (h : ℕ) → AnHour h → ofHour (found .prices) h ≡ setPrices day (taken (day .blocks) set) h
   pub tradedAre : (h : ℕ) → AnHour h → ofHour (found .quantities) h ≡ traded day (taken (day .blocks) set) h
 
--- THE LIMIT that a set leaves which loses so much, less than the limit: that and the margin; 0 where it is no lower
-unfoldable pub limitLeft : (total margin limit : ℕ) → ℕ
-limitLeft total margin limit = when (ltb (total + margin) limit) (total + margin)
+-- THE SETS THAT ARE SOUGHT: of twins in turn, and such that no lawful set costs less
+pub record Sought (day : Day) (p rest : ℕ → ℕ) (t : Tables) (set : List Bool) : Type 0 where
+  pub inTurn : InTurn day p set
+  pub cheapest : (other : List Bool) → length other ≡ t .count → lawful day other ≡ true → costAbove day p rest (t .blocks) set ≤ costAbove day p rest (t .blocks) other
 
--- WHAT IS MADE of the best so far over the completions of d by n more: without a margin the set of least loss that the tie rule takes; with a margin of 1
--- the only set of so little loss, or word of a tie
-pub record Tried (margin : ℕ) (day : Day) (sought : List Bool → Type 0) (loss : List Bool → ℕ) (n : ℕ) (d : List Bool) (best r : by-loss.Best) : Type 0 where
-  pub explored : margin ≡ 0 → by-loss.Explored day sought loss n d best r
-  pub narrowed : margin ≡ 1 → alone.Narrowed day sought loss n d best r
-
--- WHAT A BRANCH GIVES BACK of the best so far
-pub record Outcome (margin : ℕ) (day : Day) (p rest : ℕ → ℕ) (count left : ℕ) (d : List Bool) (best r : Best) : Type 0 where
-  pub tried : Tried margin day (InTurn day p) (lossAbove day p rest) left d (bestAs count best) (bestAs count r)
-  pub noMore : r .limit ≤ best .limit
-  pub same : r .limit ≡ best .limit → r ≡ best
-  pub found : r .limit < best .limit → (r .set < 2 ^ count) × DayOf day (decisions count (r .set)) (r .day)
+-- WHAT A BRANCH GIVES BACK of the best so far: with fuel left, no completion that is sought costs less
+pub record Outcome (day : Day) (p rest : ℕ → ℕ) (t : Tables) (left : ℕ) (d : List Bool) (best r : Best) : Type 0 where
+  pub explored : 0 < r .fuel →
+      by-cost.Explored day (Sought day p rest t) (costAbove day p rest (t .blocks)) left d (bestAs (t .count) best) (bestAs (t .count) r)
+  pub same : costLimit r ≡ costLimit best → (r .set ≡ best .set) × (r .day ≡ best .day)
+  pub found : costLimit r < costLimit best → (r .set < 2 ^ t .count) × DayOf day (decisions (t .count) (r .set)) (r .day)
 
 -- the steps of each hour are the day's
 abbrev pub StepsAre : Day → (ℕ → List Step) → Type 0
 StepsAre day steps = (h : ℕ) → 1 ≤ h → h ≤ hourPlaces → steps h ≡ stepsIn h (day .steps)
 
-abbrev pub Decided : (t : Tables) (steps : ℕ → List Step) (margin : ℕ) (node : Node) (best r : Best) → Type 0
-Decided t steps margin node best r =
+-- A SET WITH ALL BLOCKS DECIDED, against the best so far.
+abbrev pub Decided : (t : Tables) (steps : ℕ → List Step) (node : Node) (best r : Best) → Type 0
+Decided t steps node best r =
     (day : _) (p rest : ℕ → ℕ) (d : List Bool) → StepsAre day steps → (known : Known day p rest t) → Branch day p d node →
-    Closed (known .parent) d → length d ≡ t .count → node .set < 2 ^ t .count → Outcome margin day p rest (t .count) 0 d best r
+    node .tie ≡ ties (rankAt (t .blocks)) d → Closed (known .parent) d → length d ≡ t .count → node .set < 2 ^ t .count → Outcome day p rest t 0 d best r
 
--- A SET THAT BECOMES THE BEST at prices, with the limit that it leaves: its day has these prices, and what is traded at them.
-pub record FoundAt (blocks : List ℕ) (count : ℕ) (steps : ℕ → List Step) (set limit : ℕ) (prices : List ℕ) (r : Best) : Type 0 where
+-- A SET THAT BECOMES THE BEST at prices, with what it loses and what its left-out blocks come to: its day has these prices, and what is traded at them.
+pub record FoundAt (blocks : List ℕ) (count : ℕ) (steps : ℕ → List Step) (node : Node) (limit fuel : ℕ) (prices : List ℕ) (r : Best) : Type 0 where
   pub limitIs : r .limit ≡ limit
-  pub setIs : r .set ≡ set
+  pub tieIs : r .tie ≡ node .tie
+  pub fuelIs : r .fuel ≡ fuel
+  pub setIs : r .set ≡ node .set
   pub pricesAre : r .day .prices ≡ prices
   pub sales : List ℕ
   pub purchases : List ℕ
-  pub trades : SetTrades blocks count set sales purchases
+  pub trades : SetTrades blocks count (node .set) sales purchases
   pub traded : HoursTraded steps sales purchases prices (r .day .quantities)
 
--- The same set where prices can give way, once its hours clear and it loses less than the best, by which it leaves this limit.
+-- The same set where prices can give way, once its hours clear and it loses so much.
 abbrev pub ShiftDecided : (t : Tables) (steps : ℕ → List Step) (node : Node) (limit : ℕ) (best r : Best) → Type 0
 ShiftDecided t steps node limit best r =
-    (margin : ℕ) (day : _) (p rest : ℕ → ℕ) (d : List Bool) → StepsAre day steps → (known : Known day p rest t) → Branch day p d node →
-    Closed (known .parent) d → length d ≡ t .count → node .set < 2 ^ t .count → lossAbove day p rest d < best .limit →
-    limit ≡ limitLeft (lossAbove day p rest d) margin (best .limit) → PlacesClear (t .first) (t .last) (node .places) → t .shifts ≡ true →
-    Outcome margin day p rest (t .count) 0 d best r
+    (day : _) (p rest : ℕ → ℕ) (d : List Bool) → StepsAre day steps → (known : Known day p rest t) → Branch day p d node →
+    node .tie ≡ ties (rankAt (t .blocks)) d → Closed (known .parent) d → length d ≡ t .count → node .set < 2 ^ t .count →
+    limit ≡ lossAbove day p rest d → PlacesClear (t .first) (t .last) (node .places) → t .shifts ≡ true → Outcome day p rest t 0 d best r
 
 -- The gaps play no part in that.
 abbrev pub ShiftDecidedIn : (unitPrices hours blocks : List ℕ) (count : ℕ) (steps : ℕ → List Step) (node : Node) (limit : ℕ) (best r : Best) → Type 0
 ShiftDecidedIn unitPrices hours blocks count steps node limit best r =
     (gaps : List ℕ) → ShiftDecided (tablesOf unitPrices gaps hours blocks count) steps node limit best r
 
--- THE BEST PRICES WITHIN REACH: for a sell those of the lowest places, for a buy those of the highest; H and L there where prices can give way, else the middle.
-abbrev pub bestForSells : Bool → (low high : ℕ) → ℕ
-bestForSells true = highEnd
-bestForSells false = middle
-
-abbrev pub bestForBuys : Bool → (low high : ℕ) → ℕ
-bestForBuys true = lowEnd
-bestForBuys false = middle
-
--- These as they count, hour 3's so often.
-pub record BoundsOf (shifts : Bool) (unitPrices : List ℕ) (often : ℕ) (from to high low : List ℕ) : Type 0 where
-  pub highs : List ℕ
-  pub lows : List ℕ
-  pub highsAre : PricesOf (bestForSells shifts) unitPrices from highs
-  pub lowsAre : PricesOf (bestForBuys shifts) unitPrices to lows
-  pub highIs : high ≡ countedColumn often highs
-  pub lowIs : low ≡ countedColumn often lows
-  pub highFits : DayPrices high
-  pub lowFits : DayPrices low
-
--- THE BLOCKS THAT ARE OUT of a branch: no lawful completion that loses less than the limit takes one of them.
-abbrev pub OutOf : (day : Day) (p rest : ℕ → ℕ) (d : List Bool) (left limit out : ℕ) → Type 0
-OutOf day p rest d left limit out =
-    (tail : List Bool) (k : ℕ) → length tail ≡ left → lawful day (d ++ tail) ≡ true → lossAbove day p rest (d ++ tail) < limit → k < left →
-    isOut out k ≡ true → getD tail k false ≡ false
-
--- THE BRANCH AT ITS TABLES: it takes no block without its parent; with its blocks that are out
-pub record At (t : Tables) (left : ℕ) (node : Node) (limit out : ℕ) (day : Day) (p rest : ℕ → ℕ) (d : List Bool) : Type 0 where
-  pub known : Known day p rest t
-  pub turning : Turning t
-  pub branch : Branch day p d node
-  pub closed : Closed (known .parent) d
-  pub size : length d + left ≡ t .count
-  pub outOf : OutOf day p rest d left limit out
-
-abbrev pub ExploredFrom : (t : Tables) (steps : ℕ → List Step) (left out margin : ℕ) (node : Node) (best r : Best) → Type 0
-ExploredFrom t steps left out margin node best r =
-    (day : _) (p rest : ℕ → ℕ) (d : List Bool) → StepsAre day steps → At t left node (best .limit) out day p rest d →
-    Outcome margin day p rest (t .count) left d best r
-
--- A BRANCH TO DROP: no lawful completion loses less than the limit.
-abbrev pub DroppedFrom : (t : Tables) (left out : ℕ) (node : Node) (limit : ℕ) → Type 0
-DroppedFrom t left out node limit =
-    (day : _) (p rest : ℕ → ℕ) (d tail : List Bool) → At t left node limit out day p rest d →
-    length tail ≡ left → lawful day (d ++ tail) ≡ true → limit ≤ lossAbove day p rest (d ++ tail)
-
--- A BRANCH JUDGED: it is dropped, or these blocks are out of it.
-pub record JudgedFrom (t : Tables) (left out : ℕ) (node : Node) (limit : ℕ) (isDropped : Bool) (r : ℕ) : Type 0 where
-  pub dropped : isDropped ≡ true → DroppedFrom t left out node limit
-  pub outOf : isDropped ≡ false → (day : _) (p rest : ℕ → ℕ) (d : List Bool) → At t left node limit out day p rest d → OutOf day p rest d left limit r
-
--- ONE MORE BLOCK decided: the set, the loss, and the places moved on by what a sell sells if taken, a buy buys if left out
-pub record TakenTo (blocks : List ℕ) (at : ℕ) (node r : Node) : Type 0 where
-  pub setIs : r .set ≡ node .set + 2 ^ at
-  pub lossIs : r .loss ≡ node .loss + againstAt blocks at
-  pub placesAre : (h : ℕ) → 1 ≤ h → h ≤ hourPlaces →
-      ofHour (r .places) h ≡ ofHour (node .places) h + when (not (eqb (sideAt blocks at) 0)) (rowQuantity blocks at h)
-
-pub record LeftTo (blocks : List ℕ) (at : ℕ) (node r : Node) : Type 0 where
-  pub setIs : r .set ≡ node .set
-  pub lossIs : r .loss ≡ node .loss + gainAt blocks at
-  pub placesAre : (h : ℕ) → 1 ≤ h → h ≤ hourPlaces →
-      ofHour (r .places) h ≡ ofHour (node .places) h + when (eqb (sideAt blocks at) 0) (rowQuantity blocks at h)
+-- A BRANCH EXPLORED.
+abbrev pub ExploredFrom : (t : Tables) (steps : ℕ → List Step) (left out : ℕ) (node : Node) (best r : Best) → Type 0
+ExploredFrom t steps left out node best r =
+    (day : _) (p rest : ℕ → ℕ) (d : List Bool) → StepsAre day steps → At t left node (limitAt (best .limit) (best .tie) (node .tie)) out day p rest d →
+    Outcome day p rest t left d best r

@@ -1,18 +1,19 @@
 // All blocks are decided: whether the set becomes the best, with its day.
 ghost use mathlib.Core.Path.{_≡_};
-ghost use Prim.Native.Nat.{_+_, _≤_, _<_};
+ghost use Prim.Native.Nat.{_+_, _*_, _≤_, _<_};
 ghost use lib.ListN.{length};
 ghost use Rattle.book.specs.Bounds.{mostBlocks};
-ghost use Rattle.places.specs.Layout.{hourPlaces, mostLoss, hourListSize};
+ghost use Rattle.places.specs.Layout.{hourPlaces, mostLoss, lastLimit, hourListSize};
 ghost use Rattle.places.specs.Hours.{changeOften};
 ghost use Rattle.places.specs.Blocks.{BlocksSized};
 ghost use Rattle.places.specs.Steps.{stepsAt, StepsSized};
 ghost use Rattle.shift.specs.Columns.{ShiftSized};
-ghost use Rattle.search.specs.Meaning.{Sized, limitLeft, FoundAt, ShiftDecidedIn, Decided};
-ghost use Rattle.search.specs.Tables.{tablesOf};
+ghost use Rattle.branches.specs.Meaning.{Sized};
+ghost use Rattle.branches.specs.Tables.{tablesOf};
+ghost use Rattle.search.specs.Meaning.{limitAt, Held, Kept, FoundAt, ShiftDecidedIn, Decided};
 use crate::Best;
 use crate::Day;
-use crate::Node;
+use branches::Node;
 use places::cells::counted_gaps;
 use places::cells::counted_prices;
 use places::cells::prices_at;
@@ -29,20 +30,18 @@ use places::trades::hours_traded;
 use places::trades::set_trades;
 use shift::shift_of;
 
-// The limit that a set which loses so much leaves: what it loses, and where ties are looked for one more, so that sets that lose the same are still met; 0
-// where one is met.
-fn limit_left(total: u64, margin: u64, limit: u64) -> u64
-    requires { ⌜ (total < limit) × (margin ≤ 1) ⌝ }
-    ensures { λ r. ⌜ r ≡ limitLeft total margin limit ⌝ }
+// What a branch's completions must lose less than: the best's loss, or one more where its left-out blocks come to less, so that a tie may still be settled.
+pub fn limit_at(limit: u64, tie: u64, here: u64) -> u64
+    requires { ⌜ limit ≤ 2 * lastLimit ⌝ }
+    ensures { λ r. ⌜ r ≡ limitAt limit tie here ⌝ }
 {
-    let left = total + margin;
-    if left < limit {
-        return left;
+    if here < tie {
+        return limit + 1;
     }
-    0
+    limit
 }
 
-// The set as the best, with the limit that it leaves and its day at these prices.
+// The set as the best, with what it loses and its day at these prices.
 fn found_at(
     blocks: &[u32],
     sides: &[u8],
@@ -50,16 +49,17 @@ fn found_at(
     quantities: &[u32],
     ends: &[u16],
     count: u32,
-    set: u32,
+    node: Node,
     limit: u64,
+    fuel: u64,
     set_prices: [u32; HOURS],
 ) -> Best
     requires { ⌜ BlocksSized (now blocks) × (count ≤ mostBlocks) × (length (now ends) ≡ hourPlaces + 1)
         × StepsSized (now ends) (now sides) (now prices) (now quantities) ⌝ }
     ensures { λ r. ⌜ FoundAt (now (blocks .entry)) count (stepsAt (now (ends .entry)) (now (sides .entry)) (now (prices .entry)) (now (quantities .entry)))
-        set limit «set_prices» r ⌝ }
+        node limit fuel «set_prices» r ⌝ }
 {
-    let trades = set_trades(blocks, count as usize, set);
+    let trades = set_trades(blocks, count as usize, node.set);
     let traded = hours_traded(sides, prices, quantities, ends, trades, set_prices);
     let day = Day {
         prices: set_prices,
@@ -67,7 +67,9 @@ fn found_at(
     };
     Best {
         limit: limit,
-        set: set,
+        tie: node.tie,
+        fuel: fuel,
+        set: node.set,
         day: day,
     }
 }
@@ -87,8 +89,10 @@ fn decide_at_shift(
     best: Best,
 ) -> Best
     requires { ⌜ ShiftSized (now «unit_prices») (now blocks) count (node .places) (changeOften (now hours)) × (length (now hours) ≡ hourListSize)
-        × BlocksSized (now blocks) × (length (now ends) ≡ hourPlaces + 1) × StepsSized (now ends) (now sides) (now prices) (now quantities) ⌝ }
-    ensures { λ r. ⌜ ShiftDecidedIn (now («unit_prices» .entry)) (now (hours .entry)) (now (blocks .entry)) count
+        × BlocksSized (now blocks) × (length (now ends) ≡ hourPlaces + 1) × StepsSized (now ends) (now sides) (now prices) (now quantities)
+        × (node .tie ≤ mostLoss) × Held best × (limit < limitAt (best .limit) (best .tie) (node .tie)) ⌝ }
+    ensures kept { λ r. ⌜ Kept 0 best r ⌝ }
+    ensures decided { λ r. ⌜ ShiftDecidedIn (now («unit_prices» .entry)) (now (hours .entry)) (now (blocks .entry)) count
         (stepsAt (now (ends .entry)) (now (sides .entry)) (now (prices .entry)) (now (quantities .entry))) node limit best r ⌝ }
 {
     let places = node.places;
@@ -111,8 +115,9 @@ fn decide_at_shift(
         quantities,
         ends,
         count,
-        node.set,
+        node,
         limit,
+        best.fuel,
         shifted,
     )
 }
@@ -129,15 +134,15 @@ pub fn decide(
     quantities: &[u32],
     ends: &[u16],
     count: u32,
-    margin: u64,
     node: Node,
     best: Best,
 ) -> Best
     requires { ⌜ Sized (tablesOf (now «unit_prices») (now gap) (now hours) (now blocks) count) × (length (now hours) ≡ hourListSize)
         × (length (now ends) ≡ hourPlaces + 1) × StepsSized (now ends) (now sides) (now prices) (now quantities) × (node .loss ≤ mostLoss)
-        × (margin ≤ 1) ⌝ }
-    ensures { λ r. ⌜ Decided (tablesOf (now («unit_prices» .entry)) (now (gap .entry)) (now (hours .entry)) (now (blocks .entry)) count)
-        (stepsAt (now (ends .entry)) (now (sides .entry)) (now (prices .entry)) (now (quantities .entry))) margin node best r ⌝ }
+        × (node .tie ≤ mostLoss) × Held best ⌝ }
+    ensures kept { λ r. ⌜ Kept 0 best r ⌝ }
+    ensures decided { λ r. ⌜ Decided (tablesOf (now («unit_prices» .entry)) (now (gap .entry)) (now (hours .entry)) (now (blocks .entry)) count)
+        (stepsAt (now (ends .entry)) (now (sides .entry)) (now (prices .entry)) (now (quantities .entry))) node best r ⌝ }
 {
     let places = node.places;
     let often = hours[CHANGE];
@@ -146,10 +151,9 @@ pub fn decide(
         return best;
     }
     let total = node.loss + gaps.sum;
-    if best.limit <= total {
+    if limit_at(best.limit, best.tie, node.tie) <= total {
         return best;
     }
-    let left = limit_left(total, margin, best.limit);
     let middles = prices_at(unit_prices, places);
     let counted = counted_prices(middles, often);
     if keeps_limits(blocks, count as usize, node.set, &counted, &counted) {
@@ -160,8 +164,9 @@ pub fn decide(
             quantities,
             ends,
             count,
-            node.set,
-            left,
+            node,
+            total,
+            best.fuel,
             middles,
         );
     }
@@ -178,7 +183,7 @@ pub fn decide(
         ends,
         count,
         node,
-        left,
+        total,
         best,
     )
 }

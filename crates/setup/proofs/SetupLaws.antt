@@ -43,8 +43,8 @@ use Rattle.tables.proofs.LevelLaws.{table-not-rising}
 use Rattle.tables.proofs.GapLaws.{gap-table, gap-falls, gap-rises}
 use Rattle.places.specs.Hours.{Small, cell, ofHour, sumOfHours, countedColumn, rowWidth, lastIn, HasRows}
 use Rattle.places.specs.Blocks.{sideAt, quantityAt, limitAt, parentAt, aheadAt, behindAt, BlocksSized}
-use Rattle.search.specs.Tables.{Tables}
-use Rattle.search.specs.Meaning.{lastReached, Sized, Shown, Known, Turning}
+use Rattle.branches.specs.Tables.{Tables}
+use Rattle.branches.specs.Meaning.{lastReached, Sized, Shown, Known, Turning}
 use Rattle.setup.specs.Setup.{
   StepsHeld,
   BlocksHeld,

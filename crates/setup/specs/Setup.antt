@@ -21,8 +21,8 @@ use Rattle.places.specs.Layout.{hourPlaces, mostQuantity, lastPlace, lastAndAbo
 use Rattle.places.specs.Hours.{Small, FirstSmall, sumOfHours}
 use Rattle.places.specs.Blocks.{sideAt, hoursAt, quantityAt, limitAt, againstAt, gainAt, parentAt, aheadAt, behindAt, rowQuantity}
 use Rattle.rules.proofs.LinkLaws.{parentPlace, Parents}
-use Rattle.search.specs.Tables.{Tables}
-use Rattle.search.specs.Meaning.{Known, Turning}
+use Rattle.branches.specs.Tables.{Tables}
+use Rattle.branches.specs.Meaning.{Known, Turning}
 
 -- WHAT SAFETY ASKS of the columns
 -- The steps' columns have one length, and are not too long; the hours' ends rise and stay within it.

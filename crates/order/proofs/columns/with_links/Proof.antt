@@ -1,4 +1,4 @@
--- `order::columns::with_links` meets its contract: the parents and twins at the places before j stand. Assumes nothing.
+-- `order::columns::with_links` meets its contract: the parents, twins and ranks at the places before j stand. Assumes nothing.
 use Prim.Native.Nat.{ℕ, _-_, _<_}
 use native.Mathlib.Omega.{arith}
 use lib.ListN.{getD}
@@ -107,6 +107,21 @@ mul-r-3 c = search needs
 array-write-r-3 : tie.Need-array-write-r-3 Inv-loop μ-loop
 array-write-r-3 c = search needs
 
+cast-rank-of : tie.Need-cast-rank-of Inv-loop μ-loop
+cast-rank-of c = omega (arith, block-fits (c .before .before .before .before .before .before))
+
+rank-of-requires : tie.Need-rank-of-requires Inv-loop μ-loop
+rank-of-requires c κs = block-fits (c .before .before .before .before .before .before)
+
+add-r-4 : tie.Need-add-r-4 Inv-loop μ-loop
+add-r-4 c = search needs
+
+mul-r-4 : tie.Need-mul-r-4 Inv-loop μ-loop
+mul-r-4 c = search needs
+
+array-write-r-4 : tie.Need-array-write-r-4 Inv-loop μ-loop
+array-write-r-4 c = search needs
+
 add-j : tie.Need-add-j Inv-loop μ-loop
 add-j c = search needs
 
@@ -115,11 +130,12 @@ loop-less c = search needs
 
 loop-again : tie.Need-loop-again Inv-loop μ-loop
 loop-again c =
-    let ahead = c .before .before in
+    let behind = c .before in
+    let ahead = behind .before .before in
     let parent = ahead .before .before in
     let turn = parent .before .before in
-    links-next _ _ _ _ _ _ _ _ _ _ (turn .before .loop .inv) (turn .loop-test .taken) (turn .before .before .before .pre .1) (parent .placed-name .ensures)
-    (ahead .earlier-name .ensures) (c .earlier-name2 .ensures)
+    links-next _ _ _ _ _ _ _ _ _ _ _ (turn .before .loop .inv) (turn .loop-test .taken) (turn .before .before .before .pre .1) (parent .placed-name .ensures)
+    (ahead .earlier-name .ensures) (behind .earlier-name2 .ensures) (c .rank-of .ensures)
 
 returns : tie.Need-returns Inv-loop μ-loop
 returns c = links-all _ _ _ _ _ _ _ (c .before .loop .inv) (c .loop-test .left)
@@ -154,6 +170,11 @@ with-links-spec =
     add-r-3
     mul-r-3
     array-write-r-3
+    cast-rank-of
+    rank-of-requires
+    add-r-4
+    mul-r-4
+    array-write-r-4
     add-j
     loop-less
     loop-again

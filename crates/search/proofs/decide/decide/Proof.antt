@@ -1,5 +1,5 @@
 -- `search::decide::decide` meets its contract: one law for each way out. Assumes nothing.
-use Prim.Native.Nat.{ℕ}
+use Prim.Native.Nat.{ℕ, _+_, _<_}
 use mathlib.Core.Bool.{true, false, not}
 use mathlib.Core.Path.{_≡_, refl, sym, _∙_}
 use lib.Dec.{eqb}
@@ -9,12 +9,14 @@ use borrow.Author.Tests.{ne-eqb, not-true, not-false}
 use Rattle.places.specs.Layout.{hourPlaces}
 use Rattle.places.specs.Hours.{clearsFirst, clearsLast}
 use Rattle.places.proofs.CellLaws.{places-small}
+use Rattle.search.specs.Meaning.{limitAt}
+use Rattle.search.proofs.LimitLaws.{kept-same, kept-found}
 use Rattle.search.proofs.DecidedLaws.{decided-unclear, decided-worse, decided-broken, decided-better, decided-at-shift}
 use borrow.Author.Needs.{needs}
 use Rattle.search.proofs.decide.decide.Statement.{statement}
 use Rattle.search.proofs.decide.decide.Tie as tie
 
--- THE STATES on the way: the start behind the gaps, the gaps behind an hour's clearing, that behind a lower loss and the limit that it leaves, that behind the prices, these behind the
+-- THE STATES on the way: the start behind the gaps, the gaps behind an hour's clearing, that behind a lower loss, that behind the prices, these behind the
 -- prices as they count, these behind the limits
 abbrev start : tie.After-counted-gaps-arg2 → tie.Start
 start c = c .before .before .before .before .before .before .before .before .before .before .before .before
@@ -22,8 +24,14 @@ start c = c .before .before .before .before .before .before .before .before .bef
 abbrev gaps : tie.Else1 → tie.After-counted-gaps
 gaps c = c .before .before
 
-abbrev clear : tie.After-limit-left → tie.Else1
-clear c = c .before .before .before .before .before
+abbrev clear : tie.Else2 → tie.Else1
+clear c = c .before .before .before .before
+
+-- what the set loses is below the limit
+below : (c : tie.Else2) →
+    let s = start (gaps (clear c) .before) .args in
+    s .node .loss + gaps (clear c) .counted-gaps .result .sum < limitAt (s .best .limit) (s .best .tie) (s .node .tie)
+below c = rw (c .before .limit-at .ensures) at (c .if2 .left)
 
 abbrev counting : tie.After-keeps-limits → tie.After-counted-prices
 counting c = c .before .before .before
@@ -64,18 +72,24 @@ counted-gaps-requires : tie.Need-counted-gaps-requires
 counted-gaps-requires c κs = let s = start c .pre .0 in (s .gapRows, s .firstHours, s .lastHours, s .lastInGaps, s .changeFew)
 
 returns : tie.Need-returns
-returns c = decided-unclear (c .before .before .counted-gaps .ensures) (not-true _ (c .if1 .taken))
+returns c =
+    let g = c .before .before in
+    (kept-same 0 _ (start (g .before) .pre .6), decided-unclear (g .counted-gaps .ensures) (not-true _ (c .if1 .taken)))
 
 add-total : tie.Need-add-total
 add-total c = let g = gaps (c .before .before) in omega (arith, g .counted-gaps .ensures .fits, start (g .before) .pre .4)
 
+limit-at-requires : tie.Need-limit-at-requires
+limit-at-requires c κs = start (gaps (c .before .before) .before) .pre .6 .limitFits
+
 returns-2 : tie.Need-returns-2
 returns-2 c =
     let clears = c .before .before .before .before in
-    decided-worse (gaps clears .counted-gaps .ensures) (not-false _ (clears .if1 .left)) (c .if2 .taken)
-
-limit-left-requires : tie.Need-limit-left-requires
-limit-left-requires c κs = (c .if2 .left, start (gaps (c .before .before .before .before) .before) .pre .5)
+    let held = start (gaps clears .before) .pre .6 in (
+      kept-same 0 _ held,
+      decided-worse (gaps clears .counted-gaps .ensures) (not-false _ (clears .if1 .left)) (held .tieFits)
+          (rw (c .before .limit-at .ensures) at (c .if2 .taken)),
+    )
 
 prices-at-requires : tie.Need-prices-at-requires
 prices-at-requires c κs =
@@ -119,9 +133,13 @@ returns-3 c =
     let p = priced (kept .before) in
     let less = p .before in
     let clears = clear less in
-    decided-better (gaps clears .counted-gaps .ensures) (not-false _ (clears .if1 .left)) (p .prices-at .ensures)
-    (rw (counting (kept .before) .counted-prices .ensures .0) at (sym (kept .before .keeps-limits .ensures) ∙ kept .if3 .taken)) (less .before .if2 .left)
-    (less .limit-left .ensures) (c .found-at .ensures)
+    let s = start (gaps clears .before) in
+    let found = c .found-at .ensures in (
+      kept-found _ _ _ _ (found .limitIs) (found .tieIs) (found .fuelIs) (s .pre .5) (below less),
+      decided-better (gaps clears .counted-gaps .ensures) (not-false _ (clears .if1 .left)) (p .prices-at .ensures)
+          (rw (counting (kept .before) .counted-prices .ensures .0) at (sym (kept .before .keeps-limits .ensures) ∙ kept .if3 .taken)) (s .pre .5) (below less)
+          found,
+    )
 
 shared-slice-read-if4 : tie.Need-shared-slice-read-if4
 shared-slice-read-if4 c = omega (arith, first (c .before .before) .pre .1)
@@ -130,10 +148,12 @@ returns-4 : tie.Need-returns-4
 returns-4 c =
     let misses = c .before .before in
     let p = priced (misses .before) in
-    let clears = clear (p .before) in
-    decided-broken (gaps clears .counted-gaps .ensures) (not-false _ (clears .if1 .left)) (p .prices-at .ensures)
-    (rw (counting (misses .before) .counted-prices .ensures .0) at (sym (misses .before .keeps-limits .ensures) ∙ misses .if3 .left))
-    (rw (c .if4 .taken) refl)
+    let clears = clear (p .before) in (
+      kept-same 0 _ (start (gaps clears .before) .pre .6),
+      decided-broken (gaps clears .counted-gaps .ensures) (not-false _ (clears .if1 .left)) (p .prices-at .ensures)
+          (rw (counting (misses .before) .counted-prices .ensures .0) at (sym (misses .before .keeps-limits .ensures) ∙ misses .if3 .left))
+          (rw (c .if4 .taken) refl),
+    )
 
 decide-at-shift-requires : tie.Need-decide-at-shift-requires
 decide-at-shift-requires c κs =
@@ -153,15 +173,19 @@ decide-at-shift-requires c κs =
       s .pre .0 .blocksFit,
       s .pre .2,
       s .pre .3,
+      s .pre .5,
+      s .pre .6,
+      below less,
     )
 
 returns-5 : tie.Need-returns-5
 returns-5 c =
     let else = c .before in
     let less = priced (missed else .before) .before in
-    let clears = clear less in
-    decided-at-shift (gaps clears .counted-gaps .ensures) (not-false _ (clears .if1 .left)) (less .before .if2 .left)
-    (less .limit-left .ensures) (not-zero _ (else .if4 .left)) (c .decide-at-shift .ensures _)
+    let clears = clear less in (
+      c .decide-at-shift .ensures .0,
+      decided-at-shift (gaps clears .counted-gaps .ensures) (not-false _ (clears .if1 .left)) (not-zero _ (else .if4 .left)) (c .decide-at-shift .ensures .1 _),
+    )
 
 pub decide-spec : {M : Type 1} → statement M
 decide-spec =
@@ -177,8 +201,8 @@ decide-spec =
     counted-gaps-requires
     returns
     add-total
+    limit-at-requires
     returns-2
-    limit-left-requires
     prices-at-requires
     counted-prices-requires
     slice-aggregate-keeps-limits

@@ -1,0 +1,63 @@
+// Passes with small limits and little fuel, without rivals: where ordinary days are found.
+ghost use Prim.Native.Nat.{_≤_};
+ghost use Rattle.places.specs.Layout.{lastLimit};
+ghost use Rattle.places.specs.Steps.{stepsAt};
+ghost use Rattle.branches.specs.Tables.{tablesOf};
+ghost use Rattle.passes.specs.Passes.{Given, LimitHeld, FoundLight};
+use crate::Reached;
+use crate::limits::LITTLE_FUEL;
+use crate::pass::pass;
+use crate::pass::start_at;
+
+// The published set, where a light pass with a limit from..to finds it before the fuel is spent: a pass that has spent it says nothing.
+pub fn find_light(
+    unit_prices: &[u32],
+    gap: &[u32],
+    hours: &[u32],
+    blocks: &[u32],
+    sides: &[u8],
+    prices: &[u32],
+    quantities: &[u32],
+    ends: &[u16],
+    count: u32,
+    from: u64,
+    to: u64,
+) -> Reached
+    requires { ⌜ Given (tablesOf (now «unit_prices») (now gap) (now hours) (now blocks) count) (now hours) (now sides) (now prices) (now quantities) (now ends)
+        × LimitHeld from × (to ≤ lastLimit) ⌝ }
+    ensures { λ r. ⌜ FoundLight (tablesOf (now («unit_prices» .entry)) (now (gap .entry)) (now (hours .entry)) (now (blocks .entry)) count)
+        (stepsAt (now (ends .entry)) (now (sides .entry)) (now (prices .entry)) (now (quantities .entry))) r ⌝ }
+{
+    let mut no_rivals: [u32; 0] = [0; 0];
+    let mut fuel = LITTLE_FUEL;
+    let mut limit = from;
+    while limit <= to {
+        let found = pass(
+            unit_prices,
+            gap,
+            hours,
+            blocks,
+            sides,
+            prices,
+            quantities,
+            ends,
+            &mut no_rivals,
+            count,
+            limit,
+            fuel,
+        );
+        if (found.fuel == 0) | (found.limit < limit) {
+            return Reached {
+                best: found,
+                limit: limit,
+            };
+        }
+        fuel = found.fuel;
+        limit = limit * 2;
+    }
+    let none = start_at(0, 0);
+    Reached {
+        best: none,
+        limit: limit,
+    }
+}
