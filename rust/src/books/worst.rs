@@ -4,8 +4,8 @@
 //! Hours are of one class where no block has one of them without the other: with so many
 //! classes, to find the best set is a subset sum in so many dimensions.
 //!
-//! Members choose the numbers of their blocks: here those that trade least come first, so that
-//! what is decided first tells least of the rest.
+//! Members choose the numbers of their blocks: here those that trade least come first. A search
+//! that decided them in that order would learn least of the rest.
 
 use super::builder::Orders;
 use super::dice::Dice;

@@ -6,6 +6,9 @@
 pub mod book;
 #[allow(clippy::all, unused)]
 #[rustfmt::skip]
+pub mod branches;
+#[allow(clippy::all, unused)]
+#[rustfmt::skip]
 pub mod chains;
 #[allow(clippy::all, unused)]
 #[rustfmt::skip]
@@ -37,6 +40,9 @@ pub mod records;
 #[allow(clippy::all, unused)]
 #[rustfmt::skip]
 pub mod result;
+#[allow(clippy::all, unused)]
+#[rustfmt::skip]
+pub mod rivals;
 #[allow(clippy::all, unused)]
 #[rustfmt::skip]
 pub mod roots;

@@ -1,5 +1,6 @@
 //! The nodes of a search. A node is one call of `explore`; it is cut where the
-//! test at its beginning fails, so that no block is decided below it.
+//! test at its beginning fails, so that no block is decided below it. One that is not
+//! followed for a rival has passed that test, and does not count as cut.
 
 use std::panic::{self, AssertUnwindSafe};
 use std::sync::atomic::{AtomicU64, Ordering::Relaxed};

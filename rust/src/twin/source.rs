@@ -12,9 +12,10 @@ use std::path::{Path, PathBuf};
 use std::{fs, io};
 
 /// The proved crates that a clearing runs.
-pub const CRATES: [&str; 18] = [
+pub const CRATES: [&str; 20] = [
     "records", "fields", "chains", "book", "orders", "pricing", "shares", "places", "shift",
-    "tables", "guess", "order", "search", "passes", "roots", "setup", "result", "clearing",
+    "tables", "guess", "order", "branches", "rivals", "search", "passes", "roots", "setup",
+    "result", "clearing",
 ];
 
 /// A file of the twin: where it stands in `src/twin/by_value`, and its text.

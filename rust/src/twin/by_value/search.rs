@@ -1,11 +1,10 @@
 // Written by `twin_source` from crates/search/src/lib.rt.
-// The search over the blocks: each first taken and then left out, by loss at fixed hourly prices. Its tables hold, for each hour, the hour's unit prices and
-// gaps at each place; a place is what the taken blocks sell and the left-out blocks would buy in the hour. Assumes nothing.
+// The search over the blocks: each first taken and then left out, by cost: by loss at fixed hourly prices, and among sets that lose the same by the ranks of the
+// blocks left out. Assumes nothing.
 use crate::twin::by_value::places::layout::HOURS;
 
 mod decide; // all blocks are decided
 pub mod explore; // every way to decide the blocks that are left
-mod judge; // whether a branch is dropped
 
 // The price and the traded quantity of each hour.
 #[derive(Clone, Copy)]
@@ -14,18 +13,13 @@ pub struct Day {
     pub quantities: [u32; HOURS],
 }
 
-// The limit below which a loss must fall, with the set that left it and its day; at first a limit alone.
+// The best so far: what it loses, what its left-out blocks come to, the set and its day; at first a loss alone, which must be less. With the fuel that is left:
+// a search that has spent it says nothing.
 #[derive(Clone, Copy)]
 pub struct Best {
     pub limit: u64,
+    pub tie: u64,
+    pub fuel: u64,
     pub set: u32,
     pub day: Day,
-}
-
-// What is decided in a branch: its set, what that loses, and the hours' places.
-#[derive(Clone, Copy)]
-pub struct Node {
-    pub set: u32,
-    pub loss: u64,
-    pub places: [u32; HOURS],
 }

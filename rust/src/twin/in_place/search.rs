@@ -3,6 +3,7 @@
 use super::guess::Guess;
 use super::hours::Hours;
 use super::orders::{Block, Day, Orders, CHANGED};
+use super::rivals::Rivals;
 use super::root::{prices_at, Mask};
 use super::shift;
 use super::ByHour;
@@ -19,11 +20,31 @@ pub struct Best {
 /// What a pass finds.
 pub enum Pass {
     Nothing,
-    /// The set that loses least; by numbers it is the published one.
+    /// The published set.
     Found(Best),
-    /// Two sets that lose the same, where the margin lets the second be met; or one that loses
-    /// one less than the limit.
-    Tied,
+    /// Nothing is known: the fuel was spent before all branches were looked at.
+    Spent,
+}
+
+/// How the published set was found.
+#[derive(Clone, Copy, Debug, Default, PartialEq, Eq)]
+pub struct Settled {
+    /// By heavy passes.
+    pub heavily: bool,
+    /// After another set that loses the same, which comes later by the blocks' numbers.
+    pub by_tie: bool,
+    /// How many branches were dropped for a rival.
+    pub rivalled: u64,
+}
+
+/// The first blocks decided one way: how many, those that are taken, what these decisions lose,
+/// and what they add to the tie.
+#[derive(Clone, Copy)]
+pub struct Branch {
+    pub at: usize,
+    pub set: u32,
+    pub loss: u64,
+    pub tie: u32,
 }
 
 /// A block as the search needs it.
@@ -42,12 +63,17 @@ pub struct Choice {
     /// Its place in `Search::by_loss`.
     rank: usize,
     /// The bits of the blocks without which it is not taken: its parent, and the twin that
-    /// is taken next before it, of those with lower numbers.
+    /// is taken next before it, of those that stand before it.
     pub needs: u32,
-    /// The bit of the twin that is taken next after it, of those with lower numbers.
+    /// The bit of the twin that is taken next after it, of those that stand before it.
     pub behind: u32,
     /// The blocks that are not taken without it: its children, theirs and so on.
     pub below: u32,
+    /// The bit of its parent.
+    pub parent: u32,
+    /// What it adds to the tie of a set that leaves it out: of sets that lose the same the one
+    /// with the least tie is published, which holds the lowest number in which two differ.
+    pub tie: u32,
 }
 
 /// What is known of a branch.
@@ -61,6 +87,8 @@ struct State {
     /// The undecided blocks that no completion takes, found by their limits and by those
     /// of the blocks above them.
     out: u32,
+    /// What these would gain: every completion loses it.
+    owed: u64,
     /// The blocks below those that were left out; out from the next test on.
     orphans: u32,
     /// The blocks whose best prices may have changed since the last test.
@@ -74,27 +102,31 @@ struct State {
 /// The search of a day, `LINKED` or without links, with prices that give way, `SHIFTED`, or
 /// without.
 pub struct Search<'a, const ROOM: usize, const LINKED: bool, const SHIFTED: bool> {
-    pub hours: &'a Hours<ROOM>,
+    hours: &'a Hours<ROOM>,
     day: Day,
     /// The blocks in the order in which they are decided.
-    pub choices: Vec<Choice>,
+    choices: Vec<Choice>,
     /// Their places in falling order of loss.
     by_loss: Vec<usize>,
     sells: u32,
     all: u32,
+    /// Sets are sought that lose less than the limit, or as much with a smaller tie.
     limit: u64,
-    /// What is added to a set's loss to give the limit from there on: 0, or 1 for ties.
-    margin: u64,
+    tie: u32,
+    /// How often a block may still be decided a second way.
+    fuel: u64,
+    /// Where branches are looked up in heavy passes.
+    rivals: Option<Rivals<'a>>,
     found: bool,
-    tied: bool,
     best: Best,
+    settled: Settled,
     state: State,
 }
 
 impl<'a, const ROOM: usize, const LINKED: bool, const SHIFTED: bool>
     Search<'a, ROOM, LINKED, SHIFTED>
 {
-    pub fn new(hours: &'a Hours<ROOM>, day: Day, choices: Vec<Choice>, margin: u64) -> Self {
+    pub fn new(hours: &'a Hours<ROOM>, day: Day, choices: Vec<Choice>, fuel: u64) -> Self {
         let mut choices = choices;
         let mut by_loss: Vec<usize> = (0..choices.len()).collect();
         by_loss.sort_by_key(|&i| std::cmp::Reverse(choices[i].taken + choices[i].left));
@@ -109,24 +141,38 @@ impl<'a, const ROOM: usize, const LINKED: bool, const SHIFTED: bool>
             choices,
             by_loss,
             limit: 0,
-            margin,
+            tie: 0,
+            fuel,
+            rivals: None,
             found: false,
-            tied: false,
             best: Best::default(),
+            settled: Settled::default(),
             state: State::before(hours.most),
         }
     }
 
+    /// From here on as much fuel as is needed, and branches are dropped that have a rival.
+    pub fn go_on_with_rivals(&mut self, hints: &'a mut [u32]) {
+        self.fuel = u64::MAX;
+        self.rivals = Some(Rivals::new(&self.choices, hints));
+        self.settled.heavily = true;
+    }
+
+    /// How the last pass has found its set.
+    pub fn settled(&self) -> Settled {
+        self.settled
+    }
+
     /// All sets that lose less than a limit, but for the branches that are dropped.
     pub fn pass(&mut self, limit: u64) -> Pass {
-        self.limit = limit;
-        (self.found, self.tied) = (false, false);
+        (self.limit, self.tie) = (limit, 0);
+        self.found = false;
         self.state = State::before(self.hours.most);
-        self.explore(0, 0, 0);
-        match (self.tied, self.found) {
-            (true, _) => Pass::Tied,
-            (false, true) => Pass::Found(self.best),
-            (false, false) => Pass::Nothing,
+        self.explore(Branch { at: 0, set: 0, loss: 0, tie: 0 });
+        match (self.fuel, self.found) {
+            (0, _) => Pass::Spent,
+            (_, true) => Pass::Found(self.best),
+            (_, false) => Pass::Nothing,
         }
     }
 
@@ -135,68 +181,100 @@ impl<'a, const ROOM: usize, const LINKED: bool, const SHIFTED: bool>
         Guess { choices: &self.choices, hours: self.hours, day: &self.day }.least()
     }
 
-    /// Every way to decide the blocks from `at` on, each first taken and then left out.
-    fn explore(&mut self, at: usize, set: u32, loss: u64) {
+    /// Every way to decide the blocks that a branch leaves, each first taken and then left out.
+    fn explore(&mut self, branch: Branch) {
         count::node();
-        if !self.is_open(at, set, loss) {
+        if !self.is_open(&branch) {
             count::cut();
             return;
         }
-        if at == self.choices.len() {
-            return self.decide(set, loss);
+        if branch.at == self.choices.len() {
+            return self.decide(&branch);
         }
-        let Choice { taken, left, needs, behind, .. } = self.choices[at];
-        let is_only_left = needs & !set != 0 || self.state.is_out(at);
-        let is_due = behind & set != 0;
-        let here = self.state;
-        if !is_only_left {
-            self.child(at, true, set | 1 << at, loss + taken);
-            self.state = here;
-        }
-        if is_only_left || !is_due {
-            self.child(at, false, set, loss + left);
+        if !self.is_rivalled(&branch) {
+            self.decide_next(&branch);
         }
     }
 
-    /// The branch in which block `at` is taken or left out. A node that its loss cuts
-    /// is counted here and not called.
-    fn child(&mut self, at: usize, take: bool, set: u32, loss: u64) {
-        if self.limit <= loss {
+    /// The next block decided both ways, or one way alone where the other is not lawful or a
+    /// twin goes before. Where the fuel is spent a second way is not gone.
+    fn decide_next(&mut self, branch: &Branch) {
+        let &Branch { at, set, .. } = branch;
+        let Choice { needs, behind, .. } = self.choices[at];
+        let may_take = needs & !set == 0 && !self.state.is_out(at);
+        let may_leave = !may_take || behind & set == 0;
+        let here = self.state;
+        if may_take {
+            self.child(branch, true);
+            self.state = here;
+        }
+        if may_take && may_leave {
+            if self.fuel == 0 {
+                return;
+            }
+            self.fuel -= 1;
+        }
+        if may_leave {
+            self.child(branch, false);
+        }
+    }
+
+    /// The branch in which the next block is taken or left out. A node that is cut by what it
+    /// loses and owes is counted here and not called.
+    fn child(&mut self, branch: &Branch, take: bool) {
+        let at = branch.at;
+        let choice = &self.choices[at];
+        let next = branch.decided(choice, take);
+        let is_out = self.state.is_out(at);
+        if is_out {
+            // From here on it is part of the loss.
+            self.state.owed -= choice.left;
+        }
+        if self.limit_for(next.tie) <= next.loss + self.state.owed {
             count::node();
             count::cut();
             return;
         }
-        let choice = &self.choices[at];
         if take {
             self.state.risk |= 1 << at;
         } else if LINKED {
             self.state.orphans |= choice.below;
         }
         // A block that is fixed, or out, is decided as it was before.
-        if choice.rank >= self.state.fixed && !self.state.is_out(at) {
+        if choice.rank >= self.state.fixed && !is_out {
             self.state.decide(choice, take, self.sells);
         }
-        self.explore(at + 1, set, loss);
+        self.explore(next);
     }
 
-    /// Whether a completion may be lawful and lose less than the limit.
-    fn is_open(&mut self, at: usize, set: u32, loss: u64) -> bool {
-        if self.limit <= loss {
-            return false;
-        }
-        if self.is_forced(at, set, loss) {
+    /// What the sets of a branch may not lose: the limit, or one more where they may have a
+    /// smaller tie than the best set.
+    fn limit_for(&self, tie: u32) -> u64 {
+        self.limit + u64::from(tie < self.tie)
+    }
+
+    /// Whether the branch is dropped for a rival, in heavy passes.
+    fn is_rivalled(&mut self, branch: &Branch) -> bool {
+        let Some(rivals) = &mut self.rivals else { return false };
+        let is_rivalled = rivals.drop::<LINKED>(&self.choices, branch);
+        self.settled.rivalled += u64::from(is_rivalled);
+        is_rivalled
+    }
+
+    /// Whether a completion may be lawful and lose less than the limit, which is more than the
+    /// branch loses and owes.
+    fn is_open(&mut self, branch: &Branch) -> bool {
+        let &Branch { at, set, loss, tie } = branch;
+        let limit = self.limit_for(tie);
+        let charged = loss + self.state.owed;
+        if self.is_forced(at, set, charged, limit) {
             return true;
         }
-        self.fix(at, loss);
-        self.passes(set, loss) && {
+        self.fix(at, charged, limit);
+        self.passes(set, loss, limit) && {
             self.rule_out(at);
-            self.limit > loss + self.state.gaps + self.lost_by_out(at)
+            limit > loss + self.state.gaps + self.state.owed
         }
-    }
-
-    /// What the undecided blocks that are out would gain.
-    fn lost_by_out(&self, at: usize) -> u64 {
-        bits_of(self.state.out & self.undecided(at)).map(|i| self.choices[i].left).sum()
     }
 
     fn undecided(&self, at: usize) -> u32 {
@@ -205,32 +283,33 @@ impl<'a, const ROOM: usize, const LINKED: bool, const SHIFTED: bool>
 
     /// Whether the other decision of the last block would have lost the limit: then what
     /// can be reached is as it was before that block, and the node passes as it is.
-    fn is_forced(&self, at: usize, set: u32, loss: u64) -> bool {
+    fn is_forced(&self, at: usize, set: u32, charged: u64, limit: u64) -> bool {
         let Some(last) = at.checked_sub(1) else { return false };
         let Choice { taken, left, .. } = self.choices[last];
-        self.limit <= loss + if (set >> last) & 1 == 1 { left } else { taken }
+        limit <= charged + if (set >> last) & 1 == 1 { left } else { taken }
     }
 
     /// The test of the places in reach: every hour can balance, the least gaps do not
     /// come to the limit, and each taken block could keep its own.
-    fn passes(&mut self, set: u32, loss: u64) -> bool {
+    fn passes(&mut self, set: u32, loss: u64, limit: u64) -> bool {
         if self.state.changed {
             let Some(gaps) = self.state.least_gaps(self.hours, &self.day) else { return false };
             self.state.gaps = gaps;
             self.state.changed = false;
         }
-        self.limit > loss + self.state.gaps && self.could_keep(set)
+        limit > loss + self.state.gaps && self.could_keep(set)
     }
 
-    /// Decides the undecided blocks whose other decision would lose the limit.
-    fn fix(&mut self, at: usize, loss: u64) {
+    /// Decides the undecided blocks whose other decision would lose the limit; those that are
+    /// out are decided already.
+    fn fix(&mut self, at: usize, charged: u64, limit: u64) {
         while let Some(&i) = self.by_loss.get(self.state.fixed) {
             let choice = &self.choices[i];
-            if loss + choice.taken + choice.left < self.limit {
+            if charged + choice.taken + choice.left < limit {
                 return;
             }
-            if at <= i {
-                self.state.settle(choice, i, choice.taken == 0, self.sells);
+            if at <= i && !self.state.is_out(i) {
+                self.state.decide(choice, choice.taken == 0, self.sells);
             }
             self.state.fixed += 1;
         }
@@ -296,26 +375,27 @@ impl<'a, const ROOM: usize, const LINKED: bool, const SHIFTED: bool>
         }
         for i in bits_of(missing) {
             let choice = &self.choices[i];
+            self.state.owed += choice.left;
+            // One that is fixed is left out already, or it must be taken, and the branch has
+            // no completion.
             if choice.rank >= self.state.fixed {
                 self.state.decide(choice, false, self.sells);
-            } else if choice.taken == 0 && !choice.sells {
-                self.state.raise(choice, self.sells);
             }
         }
         self.state.out |= missing;
     }
 
-    /// All blocks are decided: the set is the best so far where it passes as well. One that
-    /// leaves the limit as it was ties, and ends the pass.
-    fn decide(&mut self, set: u32, loss: u64) {
-        if !self.passes(set, loss) {
+    /// All blocks are decided: the set is the best so far where it passes as well.
+    fn decide(&mut self, branch: &Branch) {
+        let &Branch { set, loss, tie, .. } = branch;
+        if !self.passes(set, loss, self.limit_for(tie)) {
             return;
         }
         let places = self.state.least;
         let Some(prices) = self.kept_prices(set, &places) else { return };
-        let left = loss + self.state.gaps + self.margin;
-        self.tied = left == self.limit;
-        self.limit = if self.tied { 0 } else { left };
+        let total = loss + self.state.gaps;
+        self.settled.by_tie = self.found && total == self.limit;
+        (self.limit, self.tie) = (total, tie);
         self.found = true;
         self.best = Best { set, places, prices };
     }
@@ -350,9 +430,29 @@ impl Choice {
         }
     }
 
+    /// Whether it keeps its limit only where another one of its side and hours does.
+    pub fn outdoes(&self, other: &Choice) -> bool {
+        let is_tight =
+            if other.sells { self.limit >= other.limit } else { self.limit <= other.limit };
+        (self.sells, &self.mask.hours) == (other.sells, &other.mask.hours) && is_tight
+    }
+
     /// What it trades in all its hours.
     pub fn size(&self) -> u32 {
         self.row.into_iter().map(u32::from).sum()
+    }
+}
+
+impl Branch {
+    /// The branch with its next block decided.
+    fn decided(&self, choice: &Choice, take: bool) -> Branch {
+        let &Branch { at, set, loss, tie } = self;
+        Branch {
+            at: at + 1,
+            set: set | u32::from(take) << at,
+            loss: loss + if take { choice.taken } else { choice.left },
+            tie: tie + if take { 0 } else { choice.tie },
+        }
     }
 }
 
@@ -374,6 +474,7 @@ impl State {
             most,
             fixed: 0,
             out: 0,
+            owed: 0,
             orphans: 0,
             risk: u32::MAX,
             changed: true,
@@ -383,26 +484,6 @@ impl State {
 
     fn is_out(&self, i: usize) -> bool {
         (self.out >> i) & 1 == 1
-    }
-
-    /// Decides a block that its losses fix. One that is out and must be taken has no
-    /// completion left; as in the proved code it moves its places on.
-    fn settle(&mut self, choice: &Choice, i: usize, take: bool, sells: u32) {
-        if !self.is_out(i) {
-            self.decide(choice, take, sells);
-        } else if take && choice.sells {
-            self.raise(choice, sells);
-        }
-    }
-
-    /// Moves the places on for a block that was decided the other way.
-    fn raise(&mut self, choice: &Choice, sells: u32) {
-        for (h, row) in choice.row.into_iter().enumerate() {
-            self.least[h] += row;
-            self.most[h] += row;
-        }
-        self.risk |= choice.near & sells;
-        self.changed = true;
     }
 
     /// Takes a block or leaves it out. A sell that is taken and a buy that is left out
@@ -434,28 +515,31 @@ impl State {
 
 /// The blocks of a day by number, with what they lose at the root prices.
 pub fn choices_of(orders: &Orders, root: &ByHour<u32>) -> Vec<Choice> {
-    let choice = |block: &Block| {
+    let choice = |(i, block): (usize, &Block)| {
         let mask = Mask::of(block, &orders.day);
         let sum = mask.sum(root);
         let over = u64::from(block.quantity * sum.saturating_sub(block.limit));
         let under = u64::from(block.quantity * block.limit.saturating_sub(sum));
         let (taken, left) = if block.sells { (under, over) } else { (over, under) };
         let near = |other: &Block| other.hours & block.hours != 0;
+        let row = mask.hours.map(|mask| mask as u16 & block.quantity as u16);
         Choice {
             sells: block.sells,
             limit: block.limit,
             taken,
             left,
-            row: mask.hours.map(|mask| mask as u16 & block.quantity as u16),
+            row,
             mask,
             near: bits_where(&orders.blocks, near),
             rank: 0,
             needs: block.parent,
             behind: 0,
             below: 0,
+            parent: block.parent,
+            tie: 1 << (31 - i),
         }
     };
-    let mut choices: Vec<Choice> = orders.blocks.iter().map(choice).collect();
+    let mut choices: Vec<Choice> = orders.blocks.iter().enumerate().map(choice).collect();
     let parents = orders.blocks.iter().fold(0, |found, block| found | block.parent);
     for (i, choice) in choices.iter_mut().enumerate() {
         let (ahead, behind) = twins_of(&orders.blocks, parents, i);
@@ -505,6 +589,6 @@ fn twins_of(blocks: &[Block], parents: u32, i: usize) -> (u32, u32) {
 }
 
 /// A bit for each block that is wanted.
-fn bits_where<T>(blocks: &[T], wanted: impl Fn(&T) -> bool) -> u32 {
+pub fn bits_where<T>(blocks: &[T], wanted: impl Fn(&T) -> bool) -> u32 {
     (0..blocks.len()).filter(|&i| wanted(&blocks[i])).map(|i| 1 << i).sum()
 }

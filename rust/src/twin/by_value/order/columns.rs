@@ -2,6 +2,7 @@
 // The columns and rows of the blocks in an order.
 use crate::twin::by_value::order::names::earlier_name;
 use crate::twin::by_value::order::names::placed_name;
+use crate::twin::by_value::order::names::rank_of;
 use crate::twin::by_value::places::layout::AHEAD;
 use crate::twin::by_value::places::layout::BEHIND;
 use crate::twin::by_value::places::layout::BLOCK_LIST;
@@ -9,6 +10,7 @@ use crate::twin::by_value::places::layout::BLOCK_ROWS;
 use crate::twin::by_value::places::layout::HOURS;
 use crate::twin::by_value::places::layout::MOST_BLOCKS;
 use crate::twin::by_value::places::layout::PARENT;
+use crate::twin::by_value::places::layout::RANK;
 
 // How much the first six columns hold, those in front of the parents'.
 const SIX_COLUMNS: usize = PARENT;
@@ -28,7 +30,7 @@ fn columns_in(blocks: &[u32], order: [usize; MOST_BLOCKS], count: usize) -> [u32
     r
 }
 
-// The same with the parent of each block, and its twins where they stand before it.
+// The same with the parent of each block, its twins where they stand before it, and its rank by number.
 fn with_links(
     columns: [u32; BLOCK_LIST],
     blocks: &[u32],
@@ -44,6 +46,7 @@ fn with_links(
         r[PARENT + j] = placed_name(place, blocks[PARENT + i]);
         r[AHEAD + j] = earlier_name(place, count, j, blocks[AHEAD + i]);
         r[BEHIND + j] = earlier_name(place, count, j, blocks[BEHIND + i]);
+        r[RANK + j] = rank_of(i as u32);
         j += 1;
     }
     r

@@ -2,6 +2,9 @@
 // Blocks named by their places in an order: a name is a number and 1, or 0 for none.
 use crate::twin::by_value::places::layout::MOST_BLOCKS;
 
+// The highest bit of a rank: that of block 0.
+const LAST_BIT: u32 = 31;
+
 // Whether the block that is named stands before place j, or none is named.
 pub fn stands_before(place: [usize; MOST_BLOCKS], name: u32, j: usize) -> bool
 {
@@ -30,4 +33,10 @@ pub fn earlier_name(place: [usize; MOST_BLOCKS], count: usize, j: usize, name: u
         return 0;
     }
     placed_name(place, name)
+}
+
+// The rank of block number i: the lower its number, the higher, and more than those of all after it together.
+pub fn rank_of(i: u32) -> u32
+{
+    1u32 << (LAST_BIT - i)
 }

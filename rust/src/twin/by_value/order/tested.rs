@@ -1,5 +1,8 @@
 // Written by `twin_source` from crates/order/src/tested.rt.
-// Whether a list is an order of the blocks, tested: the order is chosen by a rule of which nothing is proved.
+// An order of the blocks, tested: that the chosen one is an order of them is not proved, and where it were none the blocks stand by their numbers.
+use crate::twin::by_value::order::Order;
+use crate::twin::by_value::order::chosen::deciding_order;
+use crate::twin::by_value::order::chosen::places_of;
 use crate::twin::by_value::order::names::stands_before;
 use crate::twin::by_value::places::layout::MOST_BLOCKS;
 use crate::twin::by_value::places::layout::PARENT;
@@ -26,7 +29,7 @@ fn stands_at(
 }
 
 // Whether a list of blocks and a list of places are an order of the first count blocks and the place of each in it, parents before their children.
-pub fn is_order(
+fn is_order(
     blocks: &[u32],
     order: [usize; MOST_BLOCKS],
     place: [usize; MOST_BLOCKS],
@@ -41,4 +44,34 @@ pub fn is_order(
         j += 1;
     }
     all
+}
+
+// The numbers themselves: an order too, since a parent has the lower number.
+fn by_themselves() -> [usize; MOST_BLOCKS]
+{
+    let mut r = [0; MOST_BLOCKS];
+    let mut i: usize = 0;
+    while i < MOST_BLOCKS {
+        r[i] = i;
+        i += 1;
+    }
+    r
+}
+
+// The order in which the first count blocks are decided: the chosen one, where it is an order.
+pub fn order_of(blocks: &[u32], count: usize) -> Order
+{
+    let chosen = deciding_order(blocks, count);
+    let places = places_of(chosen, count);
+    if is_order(blocks, chosen, places, count) {
+        return Order {
+            blocks: chosen,
+            places: places,
+        };
+    }
+    let numbers = by_themselves();
+    Order {
+        blocks: numbers,
+        places: numbers,
+    }
 }

@@ -41,7 +41,7 @@ pub const SHIFTS: usize = CHANGE + 1;
 // The three columns and these numbers.
 pub const HOUR_LIST: usize = SHIFTS + 1;
 
-// THE BLOCKS: nine columns and the rows in one list.
+// THE BLOCKS: ten columns and the rows in one list.
 // The side: 0 buys.
 pub const SIDE: usize = 0;
 
@@ -69,8 +69,11 @@ pub const AHEAD: usize = PARENT + MOST_BLOCKS;
 // The twin that is taken after it.
 pub const BEHIND: usize = AHEAD + MOST_BLOCKS;
 
+// The rank by which ties are settled, where the blocks stand in the order of deciding: the lower a block's number, the higher.
+pub const RANK: usize = BEHIND + MOST_BLOCKS;
+
 // The rows: what each block trades in each of the 24 hours.
-pub const BLOCK_ROWS: usize = BEHIND + MOST_BLOCKS;
+pub const BLOCK_ROWS: usize = RANK + MOST_BLOCKS;
 
 // The columns and the rows.
 pub const BLOCK_LIST: usize = BLOCK_ROWS + MOST_BLOCKS * HOURS;

@@ -29,7 +29,7 @@ fn moves_of(blocks: &[u32], i: usize, out: bool, loss: u64, limit: u64) -> Moves
 {
     let buys = blocks[SIDE + i] == 0;
     let left_out = out | (limit <= loss + (blocks[AGAINST + i] as u64));
-    let taken = limit <= loss + (blocks[GAIN + i] as u64);
+    let taken = !out & (limit <= loss + (blocks[GAIN + i] as u64));
     Moves {
         must: (left_out & buys) | (taken & !buys),
         may: !left_out & !taken,

@@ -2,7 +2,7 @@
 // All blocks are decided: whether the set becomes the best, with its day.
 use crate::twin::by_value::search::Best;
 use crate::twin::by_value::search::Day;
-use crate::twin::by_value::search::Node;
+use crate::twin::by_value::branches::Node;
 use crate::twin::by_value::places::cells::counted_gaps;
 use crate::twin::by_value::places::cells::counted_prices;
 use crate::twin::by_value::places::cells::prices_at;
@@ -19,18 +19,16 @@ use crate::twin::by_value::places::trades::hours_traded;
 use crate::twin::by_value::places::trades::set_trades;
 use crate::twin::by_value::shift::shift_of;
 
-// The limit that a set which loses so much leaves: what it loses, and where ties are looked for one more, so that sets that lose the same are still met; 0
-// where one is met.
-fn limit_left(total: u64, margin: u64, limit: u64) -> u64
+// What a branch's completions must lose less than: the best's loss, or one more where its left-out blocks come to less, so that a tie may still be settled.
+pub fn limit_at(limit: u64, tie: u64, here: u64) -> u64
 {
-    let left = total + margin;
-    if left < limit {
-        return left;
+    if here < tie {
+        return limit + 1;
     }
-    0
+    limit
 }
 
-// The set as the best, with the limit that it leaves and its day at these prices.
+// The set as the best, with what it loses and its day at these prices.
 fn found_at(
     blocks: &[u32],
     sides: &[u8],
@@ -38,12 +36,13 @@ fn found_at(
     quantities: &[u32],
     ends: &[u16],
     count: u32,
-    set: u32,
+    node: Node,
     limit: u64,
+    fuel: u64,
     set_prices: [u32; HOURS],
 ) -> Best
 {
-    let trades = set_trades(blocks, count as usize, set);
+    let trades = set_trades(blocks, count as usize, node.set);
     let traded = hours_traded(sides, prices, quantities, ends, trades, set_prices);
     let day = Day {
         prices: set_prices,
@@ -51,7 +50,9 @@ fn found_at(
     };
     Best {
         limit: limit,
-        set: set,
+        tie: node.tie,
+        fuel: fuel,
+        set: node.set,
         day: day,
     }
 }
@@ -91,8 +92,9 @@ fn decide_at_shift(
         quantities,
         ends,
         count,
-        node.set,
+        node,
         limit,
+        best.fuel,
         shifted,
     )
 }
@@ -109,7 +111,6 @@ pub fn decide(
     quantities: &[u32],
     ends: &[u16],
     count: u32,
-    margin: u64,
     node: Node,
     best: Best,
 ) -> Best
@@ -121,10 +122,9 @@ pub fn decide(
         return best;
     }
     let total = node.loss + gaps.sum;
-    if best.limit <= total {
+    if limit_at(best.limit, best.tie, node.tie) <= total {
         return best;
     }
-    let left = limit_left(total, margin, best.limit);
     let middles = prices_at(unit_prices, places);
     let counted = counted_prices(middles, often);
     if keeps_limits(blocks, count as usize, node.set, &counted, &counted) {
@@ -135,8 +135,9 @@ pub fn decide(
             quantities,
             ends,
             count,
-            node.set,
-            left,
+            node,
+            total,
+            best.fuel,
             middles,
         );
     }
@@ -153,7 +154,7 @@ pub fn decide(
         ends,
         count,
         node,
-        left,
+        total,
         best,
     )
 }

@@ -1,72 +1,21 @@
 // Written by `twin_source` from crates/search/src/explore.rt.
 // Every way to decide the blocks that are left: a block taken, left out; a child only with its parent, and of twins only one way where the other is decided.
 use crate::twin::by_value::search::Best;
-use crate::twin::by_value::search::Node;
 use crate::twin::by_value::search::decide::decide;
-use crate::twin::by_value::search::judge::bit;
-use crate::twin::by_value::search::judge::judge;
-use crate::twin::by_value::places::added::moved_where;
-use crate::twin::by_value::places::layout::AGAINST;
-use crate::twin::by_value::places::layout::AHEAD;
-use crate::twin::by_value::places::layout::BEHIND;
-use crate::twin::by_value::places::layout::GAIN;
-use crate::twin::by_value::places::layout::PARENT;
-use crate::twin::by_value::places::layout::SIDE;
+use crate::twin::by_value::search::decide::limit_at;
+use crate::twin::by_value::branches::Node;
+use crate::twin::by_value::branches::judge::judge;
+use crate::twin::by_value::branches::next::is_barred;
+use crate::twin::by_value::branches::next::is_due;
+use crate::twin::by_value::branches::next::leave;
+use crate::twin::by_value::branches::next::take;
 use crate::twin::by_value::places::reach::is_out;
-
-// The node with block number at taken: a sell moves the places on in its hours.
-fn take(blocks: &[u32], at: u32, node: Node) -> Node
-{
-    let i = at as usize;
-    let places = node.places;
-    let moved = moved_where(blocks[SIDE + i] != 0, places, blocks, i);
-    Node {
-        set: node.set + bit(at),
-        loss: node.loss + (blocks[AGAINST + i] as u64),
-        places: moved,
-    }
-}
-
-// The node with block number at left out: a buy moves the places on in its hours.
-fn leave(blocks: &[u32], at: u32, node: Node) -> Node
-{
-    let i = at as usize;
-    let places = node.places;
-    let moved = moved_where(blocks[SIDE + i] == 0, places, blocks, i);
-    Node {
-        set: node.set,
-        loss: node.loss + (blocks[GAIN + i] as u64),
-        places: moved,
-    }
-}
-
-// Whether the block that is named, by its number and 1, is left out; where none is, by 0, it is not.
-fn is_left(name: u32, set: u32) -> bool
-{
-    if name == 0 {
-        return false;
-    }
-    (set >> (name - 1)) % 2 == 0
-}
-
-// Whether the parent of block i is left out, or a twin that is taken before it.
-fn is_barred(blocks: &[u32], i: usize, set: u32) -> bool
-{
-    is_left(blocks[PARENT + i], set) | is_left(blocks[AHEAD + i], set)
-}
-
-// Whether a twin that is taken after block i is taken.
-fn is_due(blocks: &[u32], i: usize, set: u32) -> bool
-{
-    let behind = blocks[BEHIND + i];
-    if behind == 0 {
-        return false;
-    }
-    (set >> (behind - 1)) % 2 == 1
-}
+use crate::twin::by_value::rivals::lookup::is_rivalled;
 
 // Every way to decide the blocks that are left, each first taken and then left out; of twins, the one that is taken before the other first. A block that
-// is out, or whose parent is left out, is only left out. Each branch has its own node by value, so nothing is released.
+// is out, or whose parent is left out, is only left out. A branch with a rival is not followed: the table has earlier ones, and none where it is empty. Each
+// branch has its own node by value, so nothing is released. A unit of fuel is spent between the two ways to decide a block; where none is left the second way
+// is not gone.
 pub fn explore(
     unit_prices: &[u32],
     gap: &[u32],
@@ -76,16 +25,16 @@ pub fn explore(
     prices: &[u32],
     quantities: &[u32],
     ends: &[u16],
+    table: &mut [u32],
     count: u32,
     left: u32,
     out: u32,
-    margin: u64,
     node: Node,
     best: Best,
 ) -> Best
 {
     crate::twin::count::node();
-    let limit = best.limit;
+    let limit = limit_at(best.limit, best.tie, node.tie);
     let judged = judge(
         unit_prices,
         gap,
@@ -112,10 +61,12 @@ pub fn explore(
             quantities,
             ends,
             count,
-            margin,
             node,
             best,
         );
+    }
+    if is_rivalled(blocks, table, count, left, node) {
+        return best;
     }
     let at = count - left;
     let after = left - 1;
@@ -131,16 +82,16 @@ pub fn explore(
             prices,
             quantities,
             ends,
+            table,
             count,
             after,
             still,
-            margin,
             without,
             best,
         );
     }
     let with = take(blocks, at, node);
-    let taken = explore(
+    let mut taken = explore(
         unit_prices,
         gap,
         hours,
@@ -149,16 +100,20 @@ pub fn explore(
         prices,
         quantities,
         ends,
+        table,
         count,
         after,
         still,
-        margin,
         with,
         best,
     );
+    if taken.fuel == 0 {
+        return taken;
+    }
     if is_due(blocks, at as usize, node.set) {
         return taken;
     }
+    taken.fuel = taken.fuel - 1;
     explore(
         unit_prices,
         gap,
@@ -168,10 +123,10 @@ pub fn explore(
         prices,
         quantities,
         ends,
+        table,
         count,
         after,
         still,
-        margin,
         without,
         taken,
     )

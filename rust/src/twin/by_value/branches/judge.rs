@@ -1,6 +1,6 @@
-// Written by `twin_source` from crates/search/src/judge.rt.
+// Written by `twin_source` from crates/branches/src/judge.rt.
 // A branch judged: whether it is dropped, and which of its undecided blocks are out.
-use crate::twin::by_value::search::Node;
+use crate::twin::by_value::branches::Node;
 use crate::twin::by_value::places::cells::counted_least_gaps;
 use crate::twin::by_value::places::cells::counted_prices;
 use crate::twin::by_value::places::cells::highs_at;
@@ -89,6 +89,23 @@ fn ruled_out(
     Ruled { out: r, gains }
 }
 
+// What the undecided blocks that are out would gain, those from number at on.
+fn out_gains(blocks: &[u32], count: usize, at: usize, out: u32) -> u64
+{
+    if out == 0 {
+        return 0;
+    }
+    let mut gains: u64 = 0;
+    let mut i = at;
+    while i < count {
+        let k = i - at;
+        let gain = choose(is_out(out, k), blocks[GAIN + i], 0);
+        gains = gains + (gain as u64);
+        i += 1;
+    }
+    gains
+}
+
 // Whether the other way to decide the block that was decided last loses the limit or more: then what a branch can reach is as it was before that block.
 fn is_forced(blocks: &[u32], at: usize, set: u32, loss: u64, limit: u64) -> bool
 {
@@ -141,10 +158,10 @@ pub struct Judged {
     pub out: u32,
 }
 
-// A branch is dropped where no completion can be lawful and lose less than the limit: where the decided blocks lose as much already, where an hour can no
-// longer balance, where the least gaps within reach come to as much, or where a taken block misses its limit at the best prices within reach. An undecided
-// block that misses its limit there is out, and so is a child of one that is out or left out; the branch is dropped too where what they would gain and the
-// least gaps come to as much.
+// A branch is dropped where no completion can be lawful and lose less than the limit: where the decided blocks and those that are out lose as much already,
+// where an hour can no longer balance, where the least gaps within reach come to as much, or where a taken block misses its limit at the best prices within
+// reach. An undecided block that misses its limit there is out, and so is a child of one that is out or left out; the branch is dropped too where what they
+// would gain and the least gaps come to as much.
 pub fn judge(
     unit_prices: &[u32],
     gap: &[u32],
@@ -161,19 +178,28 @@ pub fn judge(
         dropped: true,
         out: out,
     };
-    if limit <= node.loss {
+    let at = (count - left) as usize;
+    let charged = node.loss + out_gains(blocks, count as usize, at, out);
+    if limit <= charged {
         return drop;
     }
-    let at = (count - left) as usize;
-    if is_forced(blocks, at, node.set, node.loss, limit) {
+    if is_forced(blocks, at, node.set, charged, limit) {
         return Judged {
             dropped: false,
             out: out,
         };
     }
-    let loss = node.loss;
     let places = node.places;
-    let reach = reach_at(hours, blocks, count as usize, at, out, loss, limit, places);
+    let reach = reach_at(
+        hours,
+        blocks,
+        count as usize,
+        at,
+        out,
+        charged,
+        limit,
+        places,
+    );
     if !reach.balances {
         return drop;
     }
