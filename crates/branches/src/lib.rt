@@ -7,7 +7,7 @@ pub mod judge; // whether a branch is dropped
 pub mod next; // one more block decided
 
 // What is decided in a branch: its set, what that loses, what its left-out blocks come to by their ranks, and the hours' places.
-#[derive(Drop)]
+#[derive(Clone, Copy)]
 pub struct Node {
     pub set: u32,
     pub loss: u64,

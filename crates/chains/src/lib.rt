@@ -13,7 +13,7 @@ pub use uncounted::has_wrong_hours;
 pub use walks::{counts_by_portfolio, survey_of};
 
 // The chains of a book. One more chain is one more case here, in specs/Chains.antt and in src/walks.rt.
-#[derive(Drop)]
+#[derive(Clone, Copy)]
 pub enum Chain {
     Steps,
     Blocks,
@@ -21,7 +21,7 @@ pub enum Chain {
 }
 
 // What one walk along a chain finds out: causes 3 and 4 on it, and how many records it has.
-#[derive(Drop)]
+#[derive(Clone, Copy)]
 pub struct Surveyed {
     pub broken: bool,
     pub outside: bool,

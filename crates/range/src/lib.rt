@@ -27,7 +27,7 @@ pub enum PriceRange {
 }
 
 // An entry of a list. Price in cents per MWh, figures in tenths of a MW.
-#[derive(Drop)]
+#[derive(Clone, Copy)]
 struct Entry {
     side: u32,
     price: u32,

@@ -34,7 +34,7 @@ fn ends_of(count: usize, prices: [u32; MOST_BLOCKS]) -> Ends
 }
 
 // Between which prices those of each hour are kept.
-#[derive(Drop)]
+#[derive(Clone, Copy)]
 pub struct Bounds {
     pub least: [u32; HOURS],
     pub most: [u32; HOURS],

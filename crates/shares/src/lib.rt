@@ -14,7 +14,7 @@ use pricing::hour::totals_at;
 pub mod leftover;
 
 // What the buys at the price get together and what they hold, and the same of the sells.
-#[derive(Drop)]
+#[derive(Clone, Copy)]
 pub struct Amounts {
     pub buys: u64,
     pub demand: u64,

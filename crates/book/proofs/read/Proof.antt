@@ -6,36 +6,36 @@ use borrow.Author.Rules.{rules}
 use Rattle.book.proofs.read.Statement.{statement}
 use Rattle.book.proofs.read.Tie as tie
 
-has-wrong-size-requires : tie.Need-has-wrong-size-requires
+has-wrong-size-requires : tie.Need-has_wrong_size-requires
 has-wrong-size-requires c κs = search rules
 
-returns : tie.Need-returns
-returns c = reading-refused _ 1 (sym (refusal-size _ (sym c.before.has-wrong-size.ensures ∙ c.if1.true))) (λ e. omega arith)
+returns : tie.Need-returns-then-has_wrong_size
+returns c = reading-refused _ 1 (sym (refusal-size _ (sym c.has_wrong_size.ensures ∙ c.if-has_wrong_size.true))) (λ e. omega arith)
 
-survey-of-requires : tie.Need-survey-of-requires
+survey-of-requires : tie.Need-survey_of-steps-requires
 survey-of-requires c κs = search rules
 
-survey-of-requires-2 : tie.Need-survey-of-requires-2
+survey-of-requires-2 : tie.Need-survey_of-blocks-requires
 survey-of-requires-2 c κs = search rules
 
-survey-of-requires-3 : tie.Need-survey-of-requires-3
+survey-of-requires-3 : tie.Need-survey_of-links-requires
 survey-of-requires-3 c κs = search rules
 
-refusal-of-requires : tie.Need-refusal-of-requires
+refusal-of-requires : tie.Need-refusal_of-number-requires
 refusal-of-requires c κs =
-    let t = c.before in
-    let s = t.before in
-    let n = s.before in
-    (sym n.before.has-wrong-size.ensures ∙ n.if1.false, s.survey-of.ensures, t.survey-of2.ensures, c.survey-of3.ensures)
+    let t = c in
+    let s = t in
+    let n = s in
+    (sym n.has_wrong_size.ensures ∙ n.if-has_wrong_size.false, s.survey_of-steps.ensures, t.survey_of-blocks.ensures, c.survey_of-links.ensures)
 
-returns-2 : tie.Need-returns-2
-returns-2 c = reading-refused _ _ c.before.refusal-of.ensures c.if2.true
+returns-2 : tie.Need-returns-then-number-ne0
+returns-2 c = reading-refused _ _ c.refusal_of-number.ensures c.if-number-ne0.true
 
-returns-3 : tie.Need-returns-3
+returns-3 : tie.Need-returns
 returns-3 c =
-    let t = c.before.before.before in
-    reading-accepted _ _ _ (sym c.before.refusal-of.ensures ∙ c.if2.false) (steps-counted _ _ t.before.survey-of.ensures)
-    (blocks-counted _ _ t.survey-of2.ensures)
+    let t = c in
+    reading-accepted _ _ _ (sym c.refusal_of-number.ensures ∙ c.if-number-ne0.false) (steps-counted _ _ t.survey_of-steps.ensures)
+    (blocks-counted _ _ t.survey_of-blocks.ensures)
 
 pub read_spec : {M : Type 1} → statement M
 read_spec =

@@ -14,109 +14,109 @@ use Rattle.cash.proofs.put_outcome.Statement.{statement}
 use Rattle.cash.proofs.put_outcome.Tie as tie
 
 -- the rows that the result has, where the book is accepted
-rows_are : (k : tie.After-record-count) (rows : ℕ) → (k.record-count.result ≤ 2048 → rows ≡ k.record-count.result) →
-    record_count k.before.before.before.before.args.book.now ≤ 2048 → rows ≡ record_count k.before.before.before.before.args.book.now
-rows_are k rows told few = told (rw k.record-count.ensures few) ∙ k.record-count.ensures
+rows_are : (k : tie.After-record_count) (rows : ℕ) → (k.record_count.result ≤ 2048 → rows ≡ k.record_count.result) →
+    record_count k.args.book.now ≤ 2048 → rows ≡ record_count k.args.book.now
+rows_are k rows told few = told (rw k.record_count.ensures few) ∙ k.record_count.ensures
 
 -- the clearing tells the book's refusal
-number_is : (k : tie.After-refusal-of) → k.refusal-of.result ≡ refusal k.before.before.before.before.before.before.before.before.before.before.args.book.now
+number_is : (k : tie.After-refusal_of-number) → k.refusal_of-number.result ≡ refusal k.args.book.now
 number_is k =
-    let start = k.before.before.before.before.before.before.before.before.before.before in
-    let rows = k.before.before.before.before.before.rows_of_lem in
-    k.refusal-of.ensures
-    ∙ number-told start.args.book.now start.args.space.now rows.result rows.ensures.0 (rows_are k.before.before.before.before.before.before rows.result rows.ensures.1) start.requires.1 _ _
-    k.before.before.before.clear.ensures
+    let start = k in
+    let rows = k.rows_of in
+    k.refusal_of-number.ensures
+    ∙ number-told start.args.book.now start.args.space.now rows.result rows.ensures.0 (rows_are k rows.result rows.ensures.1) start.requires.1 _ _
+    k.clear.ensures
 
-accepted-is : (k : tie.After-refusal-of) → k.refusal-of.result ≡ 0 → Accepted k.before.before.before.before.before.before.before.before.before.before.args.book.now
+accepted-is : (k : tie.After-refusal_of-number) → k.refusal_of-number.result ≡ 0 → Accepted k.args.book.now
 accepted-is k none = accepted _ (sym (number_is k) ∙ none)
 
-rows-read : (k : tie.After-refusal-of) → (a : Accepted k.before.before.before.before.before.before.before.before.before.before.args.book.now) → k.before.before.before.before.before.rows_of_lem.result ≡ record_count k.before.before.before.before.before.before.before.before.before.before.args.book.now
-rows-read k a = rows_are k.before.before.before.before.before.before k.before.before.before.before.before.rows_of_lem.result k.before.before.before.before.before.rows_of_lem.ensures.1 (record-count _ a).1
+rows-read : (k : tie.After-refusal_of-number) → (a : Accepted k.args.book.now) → k.rows_of.result ≡ record_count k.args.book.now
+rows-read k a = rows_are k k.rows_of.result k.rows_of.ensures.1 (record-count _ a).1
 
-record-count-requires : tie.Need-record-count-requires
+record-count-requires : tie.Need-record_count-requires
 record-count-requires c κs = search rules
 
-rows-of-requires : tie.Need-rows-of-requires
+rows-of-requires : tie.Need-rows_of-requires
 rows-of-requires c κs = search rules
 
-mul-length : tie.Need-overflow-mul-length
+mul-length : tie.Need-overflow_mul-length
 mul-length c = search rules
 
-add-length : tie.Need-overflow-add-length
+add-length : tie.Need-overflow_add-length
 add-length c = search rules
 
-slice-relend-prefix-clear : tie.Need-slice-relend-prefix-clear
+slice-relend-prefix-clear : tie.Need-slice_bounds-clear-end
 slice-relend-prefix-clear c =
-    let start = c.before.before.before.before.before in
-    space-fits start.args.book.now start.args.space.now c.rows_of_lem.result c.rows_of_lem.ensures.0 (rows_are c.before c.rows_of_lem.result c.rows_of_lem.ensures.1) start.requires.1
+    let start = c in
+    space-fits start.args.book.now start.args.space.now c.rows_of.result c.rows_of.ensures.0 (rows_are c c.rows_of.result c.rows_of.ensures.1) start.requires.1
 
-slice-aggregate-clear : tie.Need-slice-aggregate-clear
+slice-aggregate-clear : tie.Need-slice_bounds-clear-end-2
 slice-aggregate-clear c =
-    let start = c.before.before.before.before.before.before in
-    let rows = c.before.rows_of_lem in
-    space-length start.args.book.now start.args.space.now rows.result rows.ensures.0 (rows_are c.before.before rows.result rows.ensures.1) start.requires.1
+    let start = c in
+    let rows = c.rows_of in
+    space-length start.args.book.now start.args.space.now rows.result rows.ensures.0 (rows_are c rows.result rows.ensures.1) start.requires.1
 
 clear-requires : tie.Need-clear-requires
 clear-requires c κs = search rules
 
-refusal-of-requires : tie.Need-refusal-of-requires
+refusal-of-requires : tie.Need-refusal_of-number-requires
 refusal-of-requires c κs = search rules
 
-slice-reshare-prefix-put-sheet : tie.Need-slice-reshare-prefix-put-sheet
+slice-reshare-prefix-put-sheet : tie.Need-slice_bounds-put_sheet-end
 slice-reshare-prefix-put-sheet c =
-    let k = c.before.before in
-    let start = k.before.before.before.before.before.before.before.before.before.before in
-    let a = accepted-is k c.before.if1.true in
-    again-fits _ start.args.space.now _ a (rows-read k a) start.requires.1 _ _ k.before.before.before.clear.ensures
+    let k = c in
+    let start = k in
+    let a = accepted-is k c.if-number-eq0.true in
+    again-fits _ start.args.space.now _ a (rows-read k a) start.requires.1 _ _ k.clear.ensures
 
-slice-aggregate-put-sheet : tie.Need-slice-aggregate-put-sheet
+slice-aggregate-put-sheet : tie.Need-slice_bounds-put_sheet-end-then-number-eq0
 slice-aggregate-put-sheet c =
-    let k = c.before.before.before in
-    let start = k.before.before.before.before.before.before.before.before.before.before in
-    let a = accepted-is k c.before.before.if1.true in
-    again-length _ start.args.space.now _ a (rows-read k a) start.requires.1 _ _ k.before.before.before.clear.ensures
+    let k = c in
+    let start = k in
+    let a = accepted-is k c.if-number-eq0.true in
+    again-length _ start.args.space.now _ a (rows-read k a) start.requires.1 _ _ k.clear.ensures
 
-put-sheet-requires : tie.Need-put-sheet-requires
+put-sheet-requires : tie.Need-put_sheet-requires
 put-sheet-requires c κs =
-    let k = c.before.before.before in
-    let start = k.before.before.before.before.before.before.before.before.before.before in
-    let a = accepted-is k c.before.before.if1.true in
-    ((a, front-is _ start.args.space.now _ a (rows-read k a) start.requires.1 _ _ k.before.before.before.clear.ensures), start.requires.0)
+    let k = c in
+    let start = k in
+    let a = accepted-is k c.if-number-eq0.true in
+    ((a, front-is _ start.args.space.now _ a (rows-read k a) start.requires.1 _ _ k.clear.ensures), start.requires.0)
 
-same_length : tie.Need-same-length
+same_length : tie.Need-shape_of-out-then-number-eq0
 same_length c = search rules
 
-same-length-2 : tie.Need-same-length-2
+same-length-2 : tie.Need-shape_of-space-then-number-eq0
 same-length-2 c = search rules
 
-returns : tie.Need-returns
+returns : tie.Need-returns-then-number-eq0
 returns c = search rules
 
 slice-aggregate-put-line : tie.Need-slice-aggregate-put-line
 slice-aggregate-put-line c = search rules
 
-cast-put-line : tie.Need-overflow-cast-put-line
+cast-put-line : tie.Need-overflow_cast-number
 cast-put-line c = search rules
 
-put-line-requires : tie.Need-put-line-requires
+put-line-requires : tie.Need-put_line-requires
 unfolding refused_line text
-put-line-requires c κs = refused-has-room c.before.before.before.refusal-of.result _ c.before.before.before.before.before.before.before.before.before.before.before.before.before.requires.0
+put-line-requires c κs = refused-has-room c.refusal_of-number.result _ c.requires.0
 
-same-length-3 : tie.Need-same-length-3
+same-length-3 : tie.Need-shape_of-out
 same-length-3 c = search rules
 
-same-length-4 : tie.Need-same-length-4
+same-length-4 : tie.Need-shape_of-space
 same-length-4 c = search rules
 
-returns-2 : tie.Need-returns-2
+returns-2 : tie.Need-returns
 unfolding refused_line text
 returns-2 c =
-    let k = c.before.before.before.before.before.before in
-    let line = refused_line k.refusal-of.result in
-    put_as _ _ line _ _ _ (text-refused _ _ (sym (number_is k)) c.before.before.before.before.before.if1.false) c.before.before.put-line.ensures
+    let k = c in
+    let line = refused_line k.refusal_of-number.result in
+    put_as _ _ line _ _ _ (text-refused _ _ (sym (number_is k)) c.if-number-eq0.false) c.put_line.ensures
 
-pub put-outcome-spec : {M : Type 1} → statement M
-put-outcome-spec =
+pub put_outcome_spec : {M : Type 1} → statement M
+put_outcome_spec =
     tie.close
     (tie.spec
     record-count-requires

@@ -10,53 +10,53 @@ use Rattle.clearing.proofs.clear.Statement.{statement}
 use Rattle.clearing.proofs.clear.Tie as tie
 
 -- the book behind the reader's accepting answer
-book-accepted : (k : tie.After-enum-told) → Accepted k.before.before.before.before.before.args.book.now
-book-accepted k = accepted _ (answer-accepted _ _ _ (sym k.before.before.read.ensures ∙ k.enum_told.given.1)).0
+book-accepted : (k : tie.In-Accepted) → Accepted k.args.book.now
+book-accepted k = accepted _ (answer-accepted _ _ _ (sym k.read-reading.ensures ∙ k.enum_told-1.given.1)).0
 
-read-requires : tie.Need-read-requires
+read-requires : tie.Need-read-reading-requires
 read-requires c κs = search rules
 
-enum-known-reading : tie.Need-enum-known-reading
+enum-known-reading : tie.Need-enum_known-reading
 enum-known-reading c = search rules
 
-enum_told : tie.Need-enum-told
+enum_told : tie.Need-enum_told-1
 enum_told c = search rules
 
-record-count-requires : tie.Need-record-count-requires
+record-count-requires : tie.Need-record_count-requires
 record-count-requires c κs = search rules
 
-cast-if1 : tie.Need-overflow-cast-if1
+cast-if1 : tie.Need-overflow_cast-record_count
 cast-if1 c = search rules
 
-mul-if1 : tie.Need-overflow-mul-if1
+mul-if1 : tie.Need-overflow_mul-record_count
 mul-if1 c = search rules
 
-add-if1 : tie.Need-overflow-add-if1
+add-if1 : tie.Need-overflow_add-record_count
 add-if1 c = search rules
 
-clear-accepted-requires : tie.Need-clear-accepted-requires
+clear-accepted-requires : tie.Need-clear_accepted-requires
 clear-accepted-requires c κs =
-    let t = c.before in
-    (book-accepted t.before.before, omega (arith, t.if1.true, t.before.record-count.ensures))
+    let t = c in
+    (book-accepted t, omega (arith, t.if-res-record_count.true, t.record_count.ensures))
 
-returns : tie.Need-returns
+returns : tie.Need-returns-in-Refused
 returns c =
-    let k = c.before in
-    let e = answer-refused _ _ (sym k.before.before.read.ensures ∙ k.reading.given.1) in
+    let k = c in
+    let e = answer-refused _ _ (sym k.read-reading.ensures ∙ k.reading-1.given.1) in
     promise-refused _ _ _ _ (refused-book _ _ _ e.0 e.1) e.1 refl
 
-same_length : tie.Need-same-length
+same_length : tie.Need-shape_of-res
 same_length c = search rules
 
-returns-2 : tie.Need-returns-2
+returns-2 : tie.Need-returns-then-res-record_count
 returns-2 c =
-    let t = c.before.before.before.before in
-    promise-published _ _ _ (book-accepted t.before.before) (omega (arith, t.if1.true, t.before.record-count.ensures)) c.before.before.clear-accepted.ensures
+    let t = c in
+    promise-published _ _ _ (book-accepted t) (omega (arith, t.if-res-record_count.true, t.record_count.ensures)) c.clear_accepted.ensures
 
-returns-3 : tie.Need-returns-3
+returns-3 : tie.Need-returns-else-res-record_count
 returns-3 c =
-    let n = c.before in
-    promise-refused _ _ _ 7 (refused-buffer _ _ (book-accepted n.before) (λ e. c.if1.false (omega (arith, e, n.record-count.ensures)))) (λ e. omega arith) refl
+    let n = c in
+    promise-refused _ _ _ 7 (refused-buffer _ _ (book-accepted n) (λ e. c.if-res-record_count.false (omega (arith, e, n.record_count.ensures)))) (λ e. omega arith) refl
 
 pub clear_spec : {M : Type 1} → statement M
 clear_spec =

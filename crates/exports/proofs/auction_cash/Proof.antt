@@ -5,32 +5,32 @@ use borrow.Author.Rules.{rules}
 use Rattle.exports.proofs.auction_cash.Statement.{statement}
 use Rattle.exports.proofs.auction_cash.Tie as tie
 
-cash-requires : tie.Need-cash-requires
+cash-requires : tie.Need-cash-length-requires
 cash-requires c κs = search rules
 
-array-share-prefix-bytes : tie.Need-array-share-prefix-bytes
-array-share-prefix-bytes c = (put-counts _ 0 _ _ _ c.before.cash.ensures.0 c.before.cash.ensures.1).0
+array-share-prefix-bytes : tie.Need-slice_bounds-bytes-end
+array-share-prefix-bytes c = (put-counts _ 0 _ _ _ c.cash-length.ensures.put c.cash-length.ensures.fits).0
 
-slice-aggregate-put-where-room : tie.Need-slice-aggregate-put-where-room
+slice-aggregate-put-where-room : tie.Need-slice_bounds-put_where_room-end
 slice-aggregate-put-where-room c =
-    (put-counts _ 0 _ _ _ c.before.before.cash.ensures.0 c.before.before.cash.ensures.1).1
+    (put-counts _ 0 _ _ _ c.cash-length.ensures.put c.cash-length.ensures.fits).1
 
-put-where-room-requires : tie.Need-put-where-room-requires
+put-where-room-requires : tie.Need-put_where_room-requires
 put-where-room-requires c κs =
-    let counts = put-counts _ 0 _ _ _ c.before.before.cash.ensures.0 c.before.before.cash.ensures.1 in
+    let counts = put-counts _ 0 _ _ _ c.cash-length.ensures.put c.cash-length.ensures.fits in
     omega (arith, counts.0, counts.1)
 
-same_length : tie.Need-same-length
+same_length : tie.Need-shape_of-out
 same_length c = search rules
 
 returns : tie.Need-returns
 returns c =
-    let same = put_front _ _ _ _ c.before.before.before.before.before.cash.ensures.0 in
-    let put = c.before.before.put-where-room.ensures in
-    (rw same at put.0, rw same at put.1)
+    let same = put_front _ _ _ _ c.cash-length.ensures.put in
+    let put = c.put_where_room.ensures in
+    record { answer = rw same at put.0; bytes = rw same at put.1 }
 
-pub auction-cash-spec : {M : Type 1} → statement M
-auction-cash-spec =
+pub auction_cash_spec : {M : Type 1} → statement M
+auction_cash_spec =
     tie.close
     (tie.spec
     cash-requires

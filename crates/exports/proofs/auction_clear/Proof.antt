@@ -6,41 +6,41 @@ use borrow.Author.Rules.{rules}
 use Rattle.exports.proofs.auction_clear.Statement.{statement}
 use Rattle.exports.proofs.auction_clear.Tie as tie
 
-clear-requires : tie.Need-clear-requires
+clear-requires : tie.Need-clear-answer-requires
 clear-requires c κs = search rules
 
-enum-known-answer : tie.Need-enum-known-answer
+enum-known-answer : tie.Need-enum_known-answer
 enum-known-answer c = search rules
 
-cast-result : tie.Need-overflow-cast-result
+cast-result : tie.Need-overflow_cast-result
 cast-result c = search rules
 
-enum_told : tie.Need-enum-told
+enum_told : tie.Need-enum_told-1
 enum_told c = search rules
 
-same_length : tie.Need-same-length
+same_length : tie.Need-shape_of-res-in-Refused
 same_length c = search rules
 
-returns : tie.Need-returns
+returns : tie.Need-returns-in-Refused
 returns c =
-    let k = c.before in
-    let p = k.before.before.before.before.clear.ensures in (
-      sym (ap number_of k.answer.given.1) ∙ ap number_of p.answers ∙ number-clearing _ _,
-      (p.bytes, λ none. absurd (refused-not-0 _ _ _ (sym k.answer.given.1 ∙ p.answers) none)),
+    let k = c in
+    let p = k.clear-answer.ensures in (
+      sym (ap number_of k.answer-1.given.1) ∙ ap number_of p.answers ∙ number-clearing _ _,
+      (p.bytes, λ none. absurd (refused-not-0 _ _ _ (sym k.answer-1.given.1 ∙ p.answers) none)),
     )
 
-same-length-2 : tie.Need-same-length-2
+same-length-2 : tie.Need-shape_of-res-in-Published
 same-length-2 c = search rules
 
-returns-2 : tie.Need-returns-2
+returns-2 : tie.Need-returns-in-Published
 returns-2 c =
-    let p = c.before.before.before.before.clear.ensures in (
-      sym (ap number_of c.enum_told.given.1) ∙ ap number_of p.answers ∙ number-clearing _ _,
-      (p.bytes, λ _. p.demands c.enum_told.given.1),
+    let p = c.clear-answer.ensures in (
+      sym (ap number_of c.enum_told-1.given.1) ∙ ap number_of p.answers ∙ number-clearing _ _,
+      (p.bytes, λ _. p.demands c.enum_told-1.given.1),
     )
 
-pub auction-clear-spec : {M : Type 1} → statement M
-auction-clear-spec =
+pub auction_clear_spec : {M : Type 1} → statement M
+auction_clear_spec =
     tie.close
     (tie.spec
     clear-requires

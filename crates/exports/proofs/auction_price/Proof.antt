@@ -6,79 +6,79 @@ use borrow.Author.Rules.{rules}
 use Rattle.exports.proofs.auction_price.Statement.{statement}
 use Rattle.exports.proofs.auction_price.Tie as tie
 
-price-requires : tie.Need-price-requires
+price-requires : tie.Need-price-answer-requires
 price-requires c κs = search rules
 
-enum-known-answer : tie.Need-enum-known-answer
+enum-known-answer : tie.Need-enum_known-answer
 enum-known-answer c = search rules
 
-cast-result : tie.Need-overflow-cast-result
+cast-result : tie.Need-overflow_cast-result
 cast-result c = search rules
 
-enum_told : tie.Need-enum-told
+enum_told : tie.Need-enum_told-1
 enum_told c = search rules
 
-enum-known-answer-2 : tie.Need-enum-known-answer-2
+enum-known-answer-2 : tie.Need-enum_known-answer-in-Cleared-1
 enum-known-answer-2 c = search rules
 
-returns : tie.Need-returns
+returns : tie.Need-returns-then-part-eq-ANSWER
 unfolding answer_part
 returns c =
-    let k = c.before.before in
-    let e = sym k.before.before.price.ensures ∙ k.answer.given.1 in
-    sym (rw (e, eq-eqb _ _ c.if1.true))
+    let k = c in
+    let e = sym k.price-answer.ensures ∙ k.answer-1.given.1 in
+    sym (rw (e, eq-eqb _ _ c.if-part-eq-ANSWER.true))
 
-returns-2 : tie.Need-returns-2
+returns-2 : tie.Need-returns-else-part-eq-ANSWER
 unfolding answer_part
 returns-2 c =
-    let k = c.before.before in
-    let e = sym k.before.before.price.ensures ∙ k.answer.given.1 in
-    sym (rw (e, ne_eqb _ _ c.if1.false))
+    let k = c in
+    let e = sym k.price-answer.ensures ∙ k.answer-1.given.1 in
+    sym (rw (e, ne_eqb _ _ c.if-part-eq-ANSWER.false))
 
-returns-3 : tie.Need-returns-3
+returns-3 : tie.Need-returns-then-part-eq-ANSWER-2
 unfolding answer_part
 returns-3 c =
-    let k = c.before in
-    let e = sym k.before.before.price.ensures ∙ k.enum_told.given.1 in
-    sym (rw (e, eq-eqb _ _ c.if2.true))
+    let k = c in
+    let e = sym k.price-answer.ensures ∙ k.enum_told-1.given.1 in
+    sym (rw (e, eq-eqb _ _ c.if-part-eq-ANSWER-2.true))
 
-returns-4 : tie.Need-returns-4
+returns-4 : tie.Need-returns-else-part-eq-ANSWER-2
 unfolding answer_part
 returns-4 c =
-    let k = c.before in
-    let e = sym k.before.before.price.ensures ∙ k.enum_told.given.1 in
-    sym (rw (e, ne_eqb _ _ c.if2.false))
+    let k = c in
+    let e = sym k.price-answer.ensures ∙ k.enum_told-1.given.1 in
+    sym (rw (e, ne_eqb _ _ c.if-part-eq-ANSWER-2.false))
 
-returns-5 : tie.Need-returns-5
+returns-5 : tie.Need-returns-then-part-eq-LOW
 unfolding answer_part
 returns-5 c =
-    let k = c.before.before in
-    let e = sym k.before.before.price.ensures ∙ k.answer2.given.1 in
-    sym (rw (e, eq-eqb _ _ c.if3.true))
+    let k = c in
+    let e = sym k.price-answer.ensures ∙ k.answer-in-Cleared-1.given.1 in
+    sym (rw (e, eq-eqb _ _ c.if-part-eq-LOW.true))
 
-returns-6 : tie.Need-returns-6
+returns-6 : tie.Need-returns-then-part-eq-HIGH
 unfolding answer_part
 returns-6 c =
-    let k = c.before.before.before in
-    let e = sym k.before.before.price.ensures ∙ k.answer2.given.1 in
-    sym (rw (e, ne_eqb _ _ c.before.if3.false, eq-eqb _ _ c.if4.true))
+    let k = c in
+    let e = sym k.price-answer.ensures ∙ k.answer-in-Cleared-1.given.1 in
+    sym (rw (e, ne_eqb _ _ c.if-part-eq-LOW.false, eq-eqb _ _ c.if-part-eq-HIGH.true))
 
-returns-7 : tie.Need-returns-7
+returns-7 : tie.Need-returns-then-part-eq-PRICE
 unfolding answer_part
 returns-7 c =
-    let k = c.before.before.before.before in
-    let e = sym k.before.before.price.ensures ∙ k.answer2.given.1 in
-    sym (rw (e, ne_eqb _ _ c.before.before.if3.false, ne_eqb _ _ c.before.if4.false, eq-eqb _ _ c.if5.true))
+    let k = c in
+    let e = sym k.price-answer.ensures ∙ k.answer-in-Cleared-1.given.1 in
+    sym (rw (e, ne_eqb _ _ c.if-part-eq-LOW.false, ne_eqb _ _ c.if-part-eq-HIGH.false, eq-eqb _ _ c.if-part-eq-PRICE.true))
 
-returns-8 : tie.Need-returns-8
+returns-8 : tie.Need-returns-else-part-eq-PRICE
 unfolding answer_part
 returns-8 c =
-    let k = c.before.before.before.before in
-    let e = sym k.before.before.price.ensures ∙ k.answer2.given.1 in
-    sym (rw (e, ne_eqb _ _ c.before.before.if3.false, ne_eqb _ _ c.before.if4.false, ne_eqb _ _ c.if5.false))
+    let k = c in
+    let e = sym k.price-answer.ensures ∙ k.answer-in-Cleared-1.given.1 in
+    sym (rw (e, ne_eqb _ _ c.if-part-eq-LOW.false, ne_eqb _ _ c.if-part-eq-HIGH.false, ne_eqb _ _ c.if-part-eq-PRICE.false))
 
-pub auction-price-spec : {M : Type 1} → statement M
-auction-price-spec =
+pub auction_price_spec : {M : Type 1} → statement M
+auction_price_spec =
     tie.close
     (tie.spec
     price-requires

@@ -6,55 +6,55 @@ use borrow.Author.Rules.{rules}
 use Rattle.exports.proofs.auction_range.Statement.{statement}
 use Rattle.exports.proofs.auction_range.Tie as tie
 
-price-range-requires : tie.Need-price-range-requires
+price-range-requires : tie.Need-price_range-found-requires
 price-range-requires c κs = search rules
 
-enum-known-found : tie.Need-enum-known-found
+enum-known-found : tie.Need-enum_known-found
 enum-known-found c = search rules
 
-cast-result : tie.Need-overflow-cast-result
+cast-result : tie.Need-overflow_cast-result
 cast-result c = search rules
 
-enum-known-found-2 : tie.Need-enum-known-found-2
+enum-known-found-2 : tie.Need-enum_known-found-in-Prices-1
 enum-known-found-2 c = search rules
 
-returns : tie.Need-returns
+returns : tie.Need-returns-then-part-eq-ANSWER
 unfolding range_part
 returns c =
-    let k = c.before.before in
-    let e = sym k.before.before.price-range.ensures ∙ k.found.given.1 in
-    sym (rw (e, eq-eqb _ _ c.if1.true))
+    let k = c in
+    let e = sym k.price_range-found.ensures ∙ k.found-1.given.1 in
+    sym (rw (e, eq-eqb _ _ c.if-part-eq-ANSWER.true))
 
-returns-2 : tie.Need-returns-2
+returns-2 : tie.Need-returns-else-part-eq-ANSWER
 unfolding range_part
 returns-2 c =
-    let k = c.before.before in
-    let e = sym k.before.before.price-range.ensures ∙ k.found.given.1 in
-    sym (rw (e, ne_eqb _ _ c.if1.false))
+    let k = c in
+    let e = sym k.price_range-found.ensures ∙ k.found-1.given.1 in
+    sym (rw (e, ne_eqb _ _ c.if-part-eq-ANSWER.false))
 
-returns-3 : tie.Need-returns-3
+returns-3 : tie.Need-returns-then-part-eq-LEAST
 unfolding range_part
 returns-3 c =
-    let k = c.before.before in
-    let e = sym k.before.before.price-range.ensures ∙ k.found2.given.1 in
-    sym (rw (e, eq-eqb _ _ c.if2.true))
+    let k = c in
+    let e = sym k.price_range-found.ensures ∙ k.found-in-Prices-1.given.1 in
+    sym (rw (e, eq-eqb _ _ c.if-part-eq-LEAST.true))
 
-returns-4 : tie.Need-returns-4
+returns-4 : tie.Need-returns-then-part-eq-GREATEST
 unfolding range_part
 returns-4 c =
-    let k = c.before.before.before in
-    let e = sym k.before.before.price-range.ensures ∙ k.found2.given.1 in
-    sym (rw (e, ne_eqb _ _ c.before.if2.false, eq-eqb _ _ c.if3.true))
+    let k = c in
+    let e = sym k.price_range-found.ensures ∙ k.found-in-Prices-1.given.1 in
+    sym (rw (e, ne_eqb _ _ c.if-part-eq-LEAST.false, eq-eqb _ _ c.if-part-eq-GREATEST.true))
 
-returns-5 : tie.Need-returns-5
+returns-5 : tie.Need-returns-else-part-eq-GREATEST
 unfolding range_part
 returns-5 c =
-    let k = c.before.before.before in
-    let e = sym k.before.before.price-range.ensures ∙ k.found2.given.1 in
-    sym (rw (e, ne_eqb _ _ c.before.if2.false, ne_eqb _ _ c.if3.false))
+    let k = c in
+    let e = sym k.price_range-found.ensures ∙ k.found-in-Prices-1.given.1 in
+    sym (rw (e, ne_eqb _ _ c.if-part-eq-LEAST.false, ne_eqb _ _ c.if-part-eq-GREATEST.false))
 
-pub auction-range-spec : {M : Type 1} → statement M
-auction-range-spec =
+pub auction_range_spec : {M : Type 1} → statement M
+auction_range_spec =
     tie.close
     (tie.spec
     price-range-requires

@@ -5,26 +5,26 @@ use borrow.Author.Rules.{rules}
 use Rattle.exports.proofs.auction_read.Statement.{statement}
 use Rattle.exports.proofs.auction_read.Tie as tie
 
-read-requires : tie.Need-read-requires
+read-requires : tie.Need-read-reading-requires
 read-requires c κs = search rules
 
-enum-known-reading : tie.Need-enum-known-reading
+enum-known-reading : tie.Need-enum_known-reading
 enum-known-reading c = search rules
 
-cast-result : tie.Need-overflow-cast-result
+cast-result : tie.Need-overflow_cast-result
 cast-result c = search rules
 
-enum_told : tie.Need-enum-told
+enum_told : tie.Need-enum_told-1
 enum_told c = search rules
 
-returns : tie.Need-returns
+returns : tie.Need-returns-in-Refused
 returns c =
-    let k = c.before in
-    sym (answer-refused _ _ (sym k.before.before.read.ensures ∙ k.reading.given.1)).0
+    let k = c in
+    sym (answer-refused _ _ (sym k.read-reading.ensures ∙ k.reading-1.given.1)).0
 
-returns-2 : tie.Need-returns-2
-returns-2 c = sym (answer-accepted _ _ _ (sym c.before.before.read.ensures ∙ c.enum_told.given.1)).0
+returns-2 : tie.Need-returns-in-Accepted
+returns-2 c = sym (answer-accepted _ _ _ (sym c.read-reading.ensures ∙ c.enum_told-1.given.1)).0
 
-pub auction-read-spec : {M : Type 1} → statement M
-auction-read-spec =
+pub auction_read_spec : {M : Type 1} → statement M
+auction_read_spec =
     tie.close (tie.spec read-requires enum-known-reading cast-result enum_told returns returns-2)

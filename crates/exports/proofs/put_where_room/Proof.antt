@@ -7,24 +7,24 @@ use borrow.Author.Rules.{rules}
 use Rattle.exports.proofs.put_where_room.Statement.{statement}
 use Rattle.exports.proofs.put_where_room.Tie as tie
 
-cast-result : tie.Need-overflow-cast-result
+cast-result : tie.Need-overflow_cast-result
 cast-result c = search rules
 
-returns : tie.Need-returns
-returns c = (refl, without-room _ _ (omega (arith, c.if1.true)))
+returns : tie.Need-returns-then-out-count
+returns c = record { answer = refl; bytes = without-room _ _ (omega (arith, c.if-out-count.true)) }
 
-put-text-requires : tie.Need-put-text-requires
-put-text-requires c κs = room-from _ 0 _ (omega (arith, c.before.if1.false))
+put-text-requires : tie.Need-put_text-requires
+put-text-requires c κs = room-from _ 0 _ (omega (arith, c.if-out-count.false))
 
-cast-result-2 : tie.Need-overflow-cast-result-2
+cast-result-2 : tie.Need-overflow_cast-result-2
 cast-result-2 c = search rules
 
-same_length : tie.Need-same-length
+same_length : tie.Need-shape_of-out
 same_length c = search rules
 
-returns-2 : tie.Need-returns-2
-returns-2 c = (refl, with-room _ _ _ (omega (arith, c.before.before.before.before.if1.false)) c.before.before.put-text.ensures.written)
+returns-2 : tie.Need-returns
+returns-2 c = record { answer = refl; bytes = with-room _ _ _ (omega (arith, c.if-out-count.false)) c.put_text.ensures.written }
 
-pub put-where-room-spec : {M : Type 1} → statement M
-put-where-room-spec =
+pub put_where_room_spec : {M : Type 1} → statement M
+put_where_room_spec =
     tie.close (tie.spec cast-result returns put-text-requires cast-result-2 same_length returns-2)

@@ -15,51 +15,51 @@ use Rattle.family_sheet.proofs.families.Statement.{statement}
 use Rattle.family_sheet.proofs.families.Tie as tie
 
 -- the number behind the reader's answer
-number_is : (k : tie.After-refusal-in) → k.refusal-in.result ≡ refusal k.before.before.before.args.book.now
-number_is k = k.refusal-in.ensures ∙ ap number_of k.before.read.ensures ∙ number-reading _
+number_is : (k : tie.After-refusal_in-number) → k.refusal_in-number.result ≡ refusal k.args.book.now
+number_is k = k.refusal_in-number.ensures ∙ ap number_of k.read.ensures ∙ number-reading _
 
 read-requires : tie.Need-read-requires
 read-requires c κs = search rules
 
-refusal-in-requires : tie.Need-refusal-in-requires
+refusal-in-requires : tie.Need-refusal_in-number-requires
 refusal-in-requires c κs = search rules
 
-slice-aggregate-put-outcome : tie.Need-slice-aggregate-put-outcome
+slice-aggregate-put-outcome : tie.Need-slice_bounds-put_outcome-end-then-number-eq0
 slice-aggregate-put-outcome c = search rules
 
-put-outcome-requires : tie.Need-put-outcome-requires
+put-outcome-requires : tie.Need-put_outcome-requires
 put-outcome-requires c κs =
-    let test = c.before.before in
-    let room : length c.before.before.before.before.before.before.args.out.now ≡ 587 = search rules in
-    (accepted _ (sym (number_is test.before) ∙ test.if1.true), omega arith, omega arith)
+    let test = c in
+    let room : length c.args.out.now ≡ 587 = search rules in
+    (accepted _ (sym (number_is test) ∙ test.if-number-eq0.true), omega arith, omega arith)
 
-returns : tie.Need-returns
+returns : tie.Need-returns-then-number-eq0
 returns c =
-    let put = c.before.put-outcome.ensures in
-    (put, put-short _ (λ i. omega (arith, c.before.before.before.before.before.before.before.shared-slice-known.given i)) _ _ _ put)
+    let put = c.put_outcome.ensures in
+    record { put = put; fits = put-short _ (λ i. omega (arith, c.shared_slice_known-1.given i)) _ _ _ put }
 
 slice-aggregate-put-line : tie.Need-slice-aggregate-put-line
 slice-aggregate-put-line c = search rules
 
-cast-put-line : tie.Need-overflow-cast-put-line
+cast-put-line : tie.Need-overflow_cast-number
 cast-put-line c = search rules
 
-put-line-requires : tie.Need-put-line-requires
+put-line-requires : tie.Need-put_line-requires
 unfolding refused_line text
 put-line-requires c κs =
-    let room : length c.before.before.before.before.before.before.args.out.now ≡ 587 = search rules in
-    refused-has-room c.before.before.before.refusal-in.result _ room
+    let room : length c.args.out.now ≡ 587 = search rules in
+    refused-has-room c.refusal_in-number.result _ room
 
-returns-2 : tie.Need-returns-2
+returns-2 : tie.Need-returns
 unfolding refused_line text
 returns-2 c =
-    let test = c.before.before.before in
-    let line = refused_line test.before.refusal-in.result in
-    let put = put_as _ _ line _ _ _ (text-refused _ _ (sym (number_is test.before)) test.if1.false) c.put-line.ensures in
-    (put, put-short _ (λ i. omega (arith, c.before.before.before.before.before.before.shared-slice-known.given i)) _ _ _ put)
+    let test = c in
+    let line = refused_line test.refusal_in-number.result in
+    let put = put_as _ _ line _ _ _ (text-refused _ _ (sym (number_is test)) test.if-number-eq0.false) c.put_line.ensures in
+    record { put = put; fits = put-short _ (λ i. omega (arith, c.shared_slice_known-1.given i)) _ _ _ put }
 
-pub families-spec : {M : Type 1} → statement M
-families-spec =
+pub families_spec : {M : Type 1} → statement M
+families_spec =
     tie.close
     (tie.spec
     read-requires

@@ -4,65 +4,65 @@ use borrow.Author.Rules.{rules}
 use Rattle.family_sheet.proofs.put_outcome.Statement.{statement}
 use Rattle.family_sheet.proofs.put_outcome.Tie as tie
 
-record-count-requires : tie.Need-record-count-requires
+record-count-requires : tie.Need-record_count-requires
 record-count-requires c κs = search rules
 
-cast-length : tie.Need-overflow-cast-length
+cast-length : tie.Need-overflow_cast-length
 cast-length c = search rules
 
-mul-length : tie.Need-overflow-mul-length
+mul-length : tie.Need-overflow_mul-length
 mul-length c = search rules
 
-add-length : tie.Need-overflow-add-length
+add-length : tie.Need-overflow_add-length
 add-length c = search rules
 
-slice-relend-prefix-clear : tie.Need-slice-relend-prefix-clear
+slice-relend-prefix-clear : tie.Need-slice_bounds-clear-end
 slice-relend-prefix-clear c =
-    let start = c.before.before.before.before in
-    let count = c.record-count in
+    let start = c in
+    let count = c.record_count in
     front_fits _ start.args.space.now _ start.requires.0 count.ensures start.requires.2
 
-slice-aggregate-clear : tie.Need-slice-aggregate-clear
+slice-aggregate-clear : tie.Need-slice_bounds-clear-end-2
 slice-aggregate-clear c =
-    let start = c.before.before.before.before.before in
-    let count = c.before.record-count in
+    let start = c in
+    let count = c.record_count in
     front_length _ start.args.space.now _ start.requires.0 count.ensures start.requires.2
 
 clear-requires : tie.Need-clear-requires
 clear-requires c κs = search rules
 
-slice-reshare-prefix-put-report : tie.Need-slice-reshare-prefix-put-report
+slice-reshare-prefix-put-report : tie.Need-slice_bounds-put_report-end
 slice-reshare-prefix-put-report c =
-    let start = c.before.before.before.before.before.before.before.before.before in
-    let count = c.before.before.before.before.before.record-count in
-    again-fits _ start.args.space.now _ start.requires.0 count.ensures start.requires.2 _ _ c.before.before.before.clear.ensures
+    let start = c in
+    let count = c.record_count in
+    again-fits _ start.args.space.now _ start.requires.0 count.ensures start.requires.2 _ _ c.clear.ensures
 
-slice-aggregate-put-report : tie.Need-slice-aggregate-put-report
+slice-aggregate-put-report : tie.Need-slice_bounds-put_report-end-2
 slice-aggregate-put-report c =
-    let after-record-count = c.before.before.before.before.before.before in
-    let start = after-record-count.before.before.before.before in
-    let count = after-record-count.record-count in
-    again-length _ start.args.space.now _ start.requires.0 count.ensures start.requires.2 _ _ c.before.before.before.before.clear.ensures
+    let after-record-count = c in
+    let start = after-record-count in
+    let count = after-record-count.record_count in
+    again-length _ start.args.space.now _ start.requires.0 count.ensures start.requires.2 _ _ c.clear.ensures
 
-put-report-requires : tie.Need-put-report-requires
+put-report-requires : tie.Need-put_report-requires
 put-report-requires c κs =
-    let after-record-count = c.before.before.before.before.before.before in
-    let start = after-record-count.before.before.before.before in
-    let count = after-record-count.record-count in
-    let is = front-is _ start.args.space.now _ start.requires.0 count.ensures start.requires.2 _ _ c.before.before.before.before.clear.ensures in
+    let after-record-count = c in
+    let start = after-record-count in
+    let count = after-record-count.record_count in
+    let is = front-is _ start.args.space.now _ start.requires.0 count.ensures start.requires.2 _ _ c.clear.ensures in
     ((start.requires.0, is), start.requires.1)
 
-same_length : tie.Need-same-length
+same_length : tie.Need-shape_of-out
 same_length c = search rules
 
-same-length-2 : tie.Need-same-length-2
+same-length-2 : tie.Need-shape_of-space
 same-length-2 c = search rules
 
 returns : tie.Need-returns
-returns c = c.before.before.put-report.ensures
+returns c = c.put_report.ensures
 
-pub put-outcome-spec : {M : Type 1} → statement M
-put-outcome-spec =
+pub put_outcome_spec : {M : Type 1} → statement M
+put_outcome_spec =
     tie.close
     (tie.spec
     record-count-requires

@@ -4,30 +4,30 @@ use borrow.Author.Rules.{rules}
 use Rattle.passes.proofs.find.Statement.{statement}
 use Rattle.passes.proofs.find.Tie as tie
 
-order-of-requires : tie.Need-order-of-requires
+order-of-requires : tie.Need-order_of-order-requires
 order-of-requires c κs = search rules
 
-reordered-requires : tie.Need-reordered-requires
+reordered-requires : tie.Need-reordered-other-requires
 reordered-requires c κs = search rules
 
-slice-aggregate-find-there : tie.Need-slice-aggregate-find-there
+slice-aggregate-find-there : tie.Need-slice_bounds-find_there-end
 slice-aggregate-find-there c = search rules
 
-find-there-requires : tie.Need-find-there-requires
+find-there-requires : tie.Need-find_there-best-requires
 find-there-requires c κs = search rules
 
-by-number-requires : tie.Need-by-number-requires
+by-number-requires : tie.Need-by_number-requires
 by-number-requires c κs =
-    let ordered = c.before.before.before.before.before in
-    (ordered.before.before.before.before.before.before.before.before.before.requires.0.few, ordered.order-of.ensures.place_in)
+    let ordered = c in
+    (ordered.requires.0.few, ordered.order_of-order.ensures.place_in)
 
 returns : tie.Need-returns
 returns c =
-    let there = c.before in
-    let columns = there.before.before in
-    let ordered = columns.before.before.before in
-    found_back there.find-there.result ordered.before.before.before.before.before.before.before.before.before.requires.0.few ordered.order-of.ensures columns.reordered.ensures.1
-    c.by_number.ensures there.find-there.ensures
+    let there = c in
+    let columns = there in
+    let ordered = columns in
+    found_back there.find_there-best.result ordered.requires.0.few ordered.order_of-order.ensures columns.reordered-other.ensures.1
+    c.by_number.ensures there.find_there-best.ensures
 
 pub find_spec : {M : Type 1} → statement M
 find_spec =

@@ -5,12 +5,12 @@ use Rattle.pricing.specs.Answers.{has_hour}
 use Rattle.pricing.proofs.has_hour.Statement.{statement}
 use Rattle.pricing.proofs.has_hour.Tie as tie
 
-is-counted-requires : tie.Need-is-counted-requires
+is-counted-requires : tie.Need-is_counted-requires
 is-counted-requires c κs = search rules
 
 returns : tie.Need-returns
 unfolding has_hour within
-returns c = rw c.is-counted.ensures
+returns c = rw c.is_counted.ensures
 
-pub has-hour-spec : {M : Type 1} → statement M
-has-hour-spec = tie.close (tie.spec is-counted-requires returns)
+pub has_hour_spec : {M : Type 1} → statement M
+has_hour_spec = tie.close (tie.spec is-counted-requires returns)

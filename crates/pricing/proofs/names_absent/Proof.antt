@@ -6,14 +6,14 @@ use borrow.Author.Rules.{rules}
 use Rattle.pricing.proofs.names_absent.Statement.{statement}
 use Rattle.pricing.proofs.names_absent.Tie as tie
 
-shr-result : tie.Need-overflow-shr-result
+shr-result : tie.Need-overflow_shr-result
 shr-result c = search rules
 
-returns : tie.Need-returns
-returns c = λ k. absent-named c.before.args.set c.before.args.count
+returns : tie.Need-returns-then-count-lt-SET_BITS
+returns c = λ k. absent-named c.args.set c.args.count
 
-returns-2 : tie.Need-returns-2
-returns-2 c = λ k. sym (bits-enough c.before.args.set c.before.args.count (omega arith) c.if1.false)
+returns-2 : tie.Need-returns-else-count-lt-SET_BITS
+returns-2 c = λ k. sym (bits-enough c.args.set c.args.count (omega arith) c.if-count-lt-SET_BITS.false)
 
-pub names-absent-spec : {M : Type 1} → statement M
-names-absent-spec = tie.close (tie.spec shr-result returns returns-2)
+pub names_absent_spec : {M : Type 1} → statement M
+names_absent_spec = tie.close (tie.spec shr-result returns returns-2)

@@ -13,79 +13,79 @@ use Rattle.pricing.proofs.CallLaws.{call-refused, call-wrong, call-answered, hou
 use Rattle.pricing.proofs.price.Statement.{statement}
 use Rattle.pricing.proofs.price.Tie as tie
 
-read-requires : tie.Need-read-requires
+read-requires : tie.Need-read-reading-requires
 read-requires c κs = search rules
 
-enum-known-reading : tie.Need-enum-known-reading
+enum-known-reading : tie.Need-enum_known-reading
 enum-known-reading c = search rules
 
-enum-known-reading-2 : tie.Need-enum-known-reading-2
+enum-known-reading-2 : tie.Need-enum_known-reading-in-Accepted-1
 enum-known-reading-2 c = search rules
 
-day-hours-requires : tie.Need-day-hours-requires
+day-hours-requires : tie.Need-day_hours-requires
 day-hours-requires c κs = search rules
 
-has-hour-requires : tie.Need-has-hour-requires
+has-hour-requires : tie.Need-has_hour-requires
 has-hour-requires c κs = search rules
 
-cast-names-absent : tie.Need-overflow-cast-names-absent
+cast-names-absent : tie.Need-overflow_cast-blocks
 cast-names-absent c =
-    let k = c.before.before.before in
-    let e = answer-accepted _ _ _ (sym k.before.before.read.ensures ∙ k.reading2.given.1) in
+    let k = c in
+    let e = answer-accepted _ _ _ (sym k.read-reading.ensures ∙ k.reading-in-Accepted-1.given.1) in
     omega (arith, e.2, blocks-few _ (accepted _ e.0))
 
-names-absent-requires : tie.Need-names-absent-requires
+names-absent-requires : tie.Need-names_absent-requires
 names-absent-requires c κs = search rules
 
 -- what the reader's answer says on the accepting side
-book-accepted : (k : tie.After-reading2) → Accepted k.before.before.before.before.args.book.now
-book-accepted k = accepted _ (answer-accepted _ _ _ (sym k.before.before.read.ensures ∙ k.reading2.given.1)).0
+book-accepted : (k : tie.In-Accepted-2) → Accepted k.args.book.now
+book-accepted k = accepted _ (answer-accepted _ _ _ (sym k.read-reading.ensures ∙ k.reading-in-Accepted-1.given.1)).0
 
 -- the reader's answer, on the way to the test
-abbrev reading-of : tie.After-names-absent → tie.After-reading2
-reading-of n = n.before.before.before.before
+abbrev reading-of : tie.After-names_absent → tie.In-Accepted-2
+reading-of n = n
 
 -- the test for 8
-tested : (n : tie.After-names-absent) → (not n.before.has-hour.result || n.names-absent.result)
-    ≡ wrong_call (reading-of n).before.before.before.before.args.book.now (reading-of n).before.before.before.before.args.set
-    (reading-of n).before.before.before.before.args.hour
+tested : (n : tie.After-names_absent) → (not n.has_hour.result || n.names_absent.result)
+    ≡ wrong_call (reading-of n).args.book.now (reading-of n).args.set
+    (reading-of n).args.hour
 tested n =
     let k = reading-of n in
     let a = book-accepted k in
-    let e = answer-accepted _ _ _ (sym k.before.before.read.ensures ∙ k.reading2.given.1) in
-    let start = k.before.before.before.before in
+    let e = answer-accepted _ _ _ (sym k.read-reading.ensures ∙ k.reading-in-Accepted-1.given.1) in
+    let start = k in
     wrong-is _ a start.args.set start.args.hour _ _
-    (n.before.has-hour.ensures ∙ ap (λ day. has_hour day start.args.hour) n.before.before.day-hours.ensures)
-    (n.names-absent.ensures (omega (arith, e.2, blocks-few _ a)) ∙ ap (λ m. leb (2 ^ m) start.args.set) e.2)
+    (n.has_hour.ensures ∙ ap (λ day. has_hour day start.args.hour) n.day_hours.ensures)
+    (n.names_absent.ensures (omega (arith, e.2, blocks-few _ a)) ∙ ap (λ m. leb (2 ^ m) start.args.set) e.2)
 
-net-in-requires : tie.Need-net-in-requires
+net-in-requires : tie.Need-net_in-requires
 net-in-requires c κs =
-    let n = c.before in
+    let n = c in
     let a = book-accepted (reading-of n) in
-    let e = call-bounds _ a _ _ (sym (tested n) ∙ c.if1.false) in (a, e.0, e.1)
+    let e = call-bounds _ a _ _ (sym (tested n) ∙ c.if-has_hour-names_absent.false) in (a, e.0, e.1)
 
-answer-in-requires : tie.Need-answer-in-requires
-answer-in-requires c κs = let r = net-in-requires c.before κs in (r.0, omega (arith, r.1), omega (arith, r.2))
+answer-in-requires : tie.Need-answer_in-requires
+answer-in-requires c κs = let r = net-in-requires c κs in (r.0, omega (arith, r.1), omega (arith, r.2))
 
-returns : tie.Need-returns
+returns : tie.Need-returns-in-Refused
 returns c =
-    let k = c.before in
-    let e = answer-refused _ _ (sym k.before.before.read.ensures ∙ k.reading.given.1) in
+    let k = c in
+    let e = answer-refused _ _ (sym k.read-reading.ensures ∙ k.reading-1.given.1) in
     sym (call-refused _ _ _ _ e.0 e.1)
 
-returns-2 : tie.Need-returns-2
+returns-2 : tie.Need-returns-then-has_hour-names_absent
 returns-2 c =
-    let n = c.before in
-    sym (call-wrong _ (book-accepted (reading-of n)) _ _ (sym (tested n) ∙ c.if1.true))
+    let n = c in
+    sym (call-wrong _ (book-accepted (reading-of n)) _ _ (sym (tested n) ∙ c.if-has_hour-names_absent.true))
 
-returns-3 : tie.Need-returns-3
+returns-3 : tie.Need-returns-else-has_hour-names_absent
 returns-3 c =
-    let n = c.before.before.before in
-    let wrong = sym (tested n) ∙ c.before.before.if1.false in
-    c.answer-in.ensures ∙ hour-answered _ _ _ _ c.before.net-in.ensures ∙ sym (call-answered _ (book-accepted (reading-of n)) _ _ wrong)
+    let n = c in
+    let wrong = sym (tested n) ∙ c.if-has_hour-names_absent.false in
+    c.answer_in.ensures ∙ hour-answered _ _ _ _ c.net_in.ensures ∙ sym (call-answered _ (book-accepted (reading-of n)) _ _ wrong)
 
-pub price-spec : {M : Type 1} → statement M
-price-spec =
+pub price_spec : {M : Type 1} → statement M
+price_spec =
     tie.close
     (tie.spec
     read-requires

@@ -8,54 +8,54 @@ use borrow.Author.Rules.{rules}
 use Rattle.result.proofs.block_values.Statement.{statement}
 use Rattle.result.proofs.block_values.Tie as tie
 
-abbrev invariant-loop : tie.invariant-loop
+abbrev invariant-loop : tie.invariant-loop-i
 invariant-loop count quantities set values₀ i₀ values i = (i ≤ count) × Valued quantities set values i
 
-abbrev decreases-loop : tie.decreases-loop
+abbrev decreases-loop : tie.decreases-loop-i
 decreases-loop count quantities set values₀ i₀ values i = count - i
 
-loop-holds : tie.Need-loop-init invariant-loop decreases-loop
+loop-holds : tie.Need-loop-i-init invariant-loop decreases-loop
 loop-holds c = (search rules, valued-start _ _)
 
-cast-if1 : tie.Need-overflow-cast-if1 invariant-loop decreases-loop
+cast-if1 : tie.Need-overflow_cast-i invariant-loop decreases-loop
 cast-if1 c = search rules
 
-shr-if1 : tie.Need-overflow-shr-if1 invariant-loop decreases-loop
+shr-if1 : tie.Need-overflow_shr-set invariant-loop decreases-loop
 shr-if1 c = search rules
 
-mul-values : tie.Need-overflow-mul-values invariant-loop decreases-loop
+mul-values : tie.Need-offset_bounds-quantities-i invariant-loop decreases-loop
 mul-values c = search rules
 
-shared-slice-read-values : tie.Need-shared-slice-read-values invariant-loop decreases-loop
+shared-slice-read-values : tie.Need-bounds-quantities-i invariant-loop decreases-loop
 shared-slice-read-values c = search rules
 
-mul-values-2 : tie.Need-overflow-mul-values-2 invariant-loop decreases-loop
+mul-values-2 : tie.Need-offset_bounds-values-i invariant-loop decreases-loop
 mul-values-2 c = search rules
 
-array-write-values : tie.Need-array-write-values invariant-loop decreases-loop
+array-write-values : tie.Need-bounds-values-i invariant-loop decreases-loop
 array-write-values c = search rules
 
-add-i : tie.Need-overflow-add-i invariant-loop decreases-loop
+add-i : tie.Need-overflow_add-i invariant-loop decreases-loop
 add-i c = search rules
 
-loop-less : tie.Need-loop-smaller invariant-loop decreases-loop
+loop-less : tie.Need-loop-i-smaller invariant-loop decreases-loop
 loop-less c = search rules
 
-loop-again : tie.Need-loop-preserved invariant-loop decreases-loop
+loop-again : tie.Need-loop-i-preserved invariant-loop decreases-loop
 loop-again c =
-    let loop = c.before.before.loop in (
+    let loop = c.loop-i in (
       search rules,
       ⊎_elim (λ w. rw w.2 (valued-taken _ _ _ _ loop.invariant.1 (search rules) w.0.taken)) (λ w. rw w.1 (valued-passed _ _ _ _ loop.invariant.1 w.0.left))
-          c.if1.branch,
+          c.if-set-i-eq1.branch,
     )
 
 returns : tie.Need-returns invariant-loop decreases-loop
 returns c =
-    let all : c.before.loop.i ≡ c.before.before.args.count = omega arith in
-    λ i h. c.before.loop.invariant.1.done i (omega arith)
+    let all : c.loop-i.i ≡ c.args.count = omega arith in
+    λ i h. c.loop-i.invariant.1.done i (omega arith)
 
-pub block-values-spec : {M : Type 1} → statement M
-block-values-spec =
+pub block_values_spec : {M : Type 1} → statement M
+block_values_spec =
     tie.close
     (tie.spec
     invariant-loop

@@ -10,63 +10,63 @@ use borrow.Author.Rules.{rules}
 use Rattle.result.proofs.put_hours.Statement.{statement}
 use Rattle.result.proofs.put_hours.Tie as tie
 
-abbrev invariant-loop : tie.invariant-loop
+abbrev invariant-loop : tie.invariant-loop-h
 invariant-loop result₀ prices quantities h₀ result h = (h ≤ 24) × (length result ≡ length result₀) × (result ≡ splice result₀ 8 (hour_rows (take h prices) (take h quantities)))
 
-abbrev decreases-loop : tie.decreases-loop
+abbrev decreases-loop : tie.decreases-loop-h
 decreases-loop result₀ prices quantities h₀ result h = 24 - h
 
-loop-holds : tie.Need-loop-init invariant-loop decreases-loop
+loop-holds : tie.Need-loop-h-init invariant-loop decreases-loop
 unfolding hour_rows
 loop-holds c = (search rules, search rules, splice-none _ _)
 
-mul-put32 : tie.Need-overflow-mul-put32 invariant-loop decreases-loop
+mul-put32 : tie.Need-overflow_mul-h invariant-loop decreases-loop
 mul-put32 c = search rules
 
-add-put32 : tie.Need-overflow-add-put32 invariant-loop decreases-loop
+add-put32 : tie.Need-overflow_add-h invariant-loop decreases-loop
 add-put32 c = search rules
 
-mul-put32-2 : tie.Need-overflow-mul-put32-2 invariant-loop decreases-loop
+mul-put32-2 : tie.Need-offset_bounds-prices-h invariant-loop decreases-loop
 mul-put32-2 c = search rules
 
-array-read-put32 : tie.Need-array-read-put32 invariant-loop decreases-loop
+array-read-put32 : tie.Need-bounds-prices-h invariant-loop decreases-loop
 array-read-put32 c = search rules
 
 put32-requires : tie.Need-put32-requires invariant-loop decreases-loop
 put32-requires c κs = search rules
 
-mul-put32-3 : tie.Need-overflow-mul-put32-3 invariant-loop decreases-loop
+mul-put32-3 : tie.Need-overflow_mul-h-in-loop-h invariant-loop decreases-loop
 mul-put32-3 c = search rules
 
-add-put32-2 : tie.Need-overflow-add-put32-2 invariant-loop decreases-loop
+add-put32-2 : tie.Need-overflow_add-h-in-loop-h invariant-loop decreases-loop
 add-put32-2 c = search rules
 
-add-put32-3 : tie.Need-overflow-add-put32-3 invariant-loop decreases-loop
+add-put32-3 : tie.Need-overflow_add-h-in-loop-h-2 invariant-loop decreases-loop
 add-put32-3 c = search rules
 
-mul-put32-4 : tie.Need-overflow-mul-put32-4 invariant-loop decreases-loop
+mul-put32-4 : tie.Need-offset_bounds-quantities-h invariant-loop decreases-loop
 mul-put32-4 c = search rules
 
-array-read-put32-2 : tie.Need-array-read-put32-2 invariant-loop decreases-loop
+array-read-put32-2 : tie.Need-bounds-quantities-h invariant-loop decreases-loop
 array-read-put32-2 c = search rules
 
-put32-requires-2 : tie.Need-put32-requires-2 invariant-loop decreases-loop
+put32-requires-2 : tie.Need-put32-requires-in-loop-h invariant-loop decreases-loop
 put32-requires-2 c κs = search rules
 
-add-h : tie.Need-overflow-add-h invariant-loop decreases-loop
+add-h : tie.Need-overflow_add-h-in-loop-h-3 invariant-loop decreases-loop
 add-h c = search rules
 
-loop-less : tie.Need-loop-smaller invariant-loop decreases-loop
+loop-less : tie.Need-loop-h-smaller invariant-loop decreases-loop
 loop-less c = search rules
 
-loop-again : tie.Need-loop-preserved invariant-loop decreases-loop
+loop-again : tie.Need-loop-h-preserved invariant-loop decreases-loop
 loop-again c =
-    let after-put32 = c.before.before.before.before.before.before in
-    let after-loop = after-put32.before.before.before in
-    let start = after-loop.before.before in
-    let loop = after-loop.loop in
+    let after-put32 = c in
+    let after-loop = after-put32 in
+    let start = after-loop in
+    let loop = after-loop.loop-h in
     let price = after-put32.put32 in
-    let quantity = c.before.before.put322 in
+    let quantity = c.put32-in-loop-h in
     let lp : length start.args.t2 ≡ 24 = search rules in
     let lq : length start.args.t3 ≡ 24 = search rules in (
       search rules,
@@ -74,18 +74,18 @@ loop-again c =
       hour-turn _ _ _ start.requires lp lq _ _ _ loop.h (search rules) loop.invariant.2 price.ensures quantity.ensures,
     )
 
-same_length : tie.Need-same-length invariant-loop decreases-loop
+same_length : tie.Need-shape_of-res invariant-loop decreases-loop
 same_length c = search rules
 
 returns : tie.Need-returns invariant-loop decreases-loop
 returns c =
-    let start = c.before.before.before in
+    let start = c in
     let lp : length start.args.t2 ≡ 24 = search rules in
     let lq : length start.args.t3 ≡ 24 = search rules in
-    hours-done _ _ _ start.requires lp lq _ c.before.loop.h c.loop-test.false c.before.loop.invariant.2
+    hours-done _ _ _ start.requires lp lq _ c.loop-h.h c.loop-h-test.false c.loop-h.invariant.2
 
-pub put-hours-spec : {M : Type 1} → statement M
-put-hours-spec =
+pub put_hours_spec : {M : Type 1} → statement M
+put_hours_spec =
     tie.close
     (tie.spec
     invariant-loop

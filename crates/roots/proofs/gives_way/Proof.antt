@@ -8,5 +8,5 @@ returns : tie.Need-returns
 unfolding gives_way
 returns c = refl
 
-pub gives-way-spec : {M : Type 1} → statement M
-gives-way-spec = tie.close (tie.spec returns)
+pub gives_way_spec : {M : Type 1} → statement M
+gives_way_spec = tie.close (tie.spec returns)

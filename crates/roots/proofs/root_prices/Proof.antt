@@ -20,110 +20,110 @@ use Rattle.roots.proofs.losses.gains_at.Reads as gains-at-reads
 use Rattle.roots.proofs.losses.gaps_from.Reads as gaps-from-reads
 use Rattle.roots.proofs.moves.moved_on.Reads as moved-on-reads
 
-abbrev invariant-loop : tie.invariant-loop
+abbrev invariant-loop : tie.invariant-loop-n
 invariant-loop edition day unit_prices off count sides hours quantities often limits bounds best₀ firstGains least₀ trail₀ n₀ best least trail n =
     (1 ≤ n) × (n ≤ all_moves + round_moves) × Small max_price best × Small max_price trail.prices × Small (n * last_place) trail.sum
     × (often ≤ 2) × Small most_limit limits × Small max_price bounds.least × Small max_price bounds.most
 
-abbrev decreases-loop : tie.decreases-loop
+abbrev decreases-loop : tie.decreases-loop-n
 decreases-loop edition day unit_prices off count sides hours quantities often limits bounds best₀ firstGains least₀ trail₀ n₀ best least trail n =
     all_moves + round_moves - n
 
-change-weight-requires : tie.Need-change-weight-requires invariant-loop decreases-loop
+change-weight-requires : tie.Need-change_weight-often-requires invariant-loop decreases-loop
 change-weight-requires c κs = search rules
 
-limits-of-requires : tie.Need-limits-of-requires invariant-loop decreases-loop
+limits-of-requires : tie.Need-limits_of-limits-requires invariant-loop decreases-loop
 limits-of-requires c κs =
-    let p = c.before.before.requires in
-    (p.0, (p.1.1.0, p.1.1.1))
+    let p = c.requires in
+    record { day = p.0; blocks = (p.1.1.0, p.1.1.1) }
 
-gives-way-requires : tie.Need-gives-way-requires invariant-loop decreases-loop
+gives-way-requires : tie.Need-gives_way-requires invariant-loop decreases-loop
 gives-way-requires c κs = search rules
 
-bounds-of-requires : tie.Need-bounds-of-requires invariant-loop decreases-loop
+bounds-of-requires : tie.Need-bounds_of-bounds-requires invariant-loop decreases-loop
 bounds-of-requires c κs =
-    let p = c.before.before.before.before.requires.1 in
-    (p.0, (p.1.0, p.1.1))
+    let p = c.requires.tables in
+    record { tables = p.0; blocks = (p.1.0, p.1.1) }
 
-prices-at-requires : tie.Need-prices-at-requires invariant-loop decreases-loop
+prices-at-requires : tie.Need-prices_at-requires invariant-loop decreases-loop
 prices-at-requires c κs = search rules
 
-held-requires : tie.Need-held-requires invariant-loop decreases-loop
+held-requires : tie.Need-held-best-requires invariant-loop decreases-loop
 held-requires c κs =
-    let bounds = c.before.bounds_of.ensures in
-    (c.prices-at.ensures.small, bounds.0, bounds.1)
+    let bounds = c.bounds_of-bounds.ensures in
+    (c.prices_at.ensures.small, bounds.0, bounds.1)
 
-gains-at-requires : tie.Need-gains-at-requires invariant-loop decreases-loop
+gains-at-requires : tie.Need-gains_at-first_gains-requires invariant-loop decreases-loop
 gains-at-requires c κs =
-    let l = c.before.before.before.before in
-    let s = l.before.before.before in
+    let l = c in
+    let s = l in
     let p = s.requires in
-    let few : l.before.change-weight.result ≤ 2 = omega (arith, l.before.change-weight.ensures, weight-small s.args.day change_hour p.0) in
-    ((p.1.1.0, p.1.1.2), (l.Limits-of.ensures, c.held.ensures, few))
+    let few : l.change_weight-often.result ≤ 2 = omega (arith, l.change_weight-often.ensures, weight-small s.args.day change_hour p.0) in
+    record { blocks = (p.1.1.0, p.1.1.2); prices = (l.Limits-of.ensures, c.held-best.ensures, few) }
 
-gaps-from-requires : tie.Need-gaps-from-requires invariant-loop decreases-loop
+gaps-from-requires : tie.Need-gaps_from-requires invariant-loop decreases-loop
 gaps-from-requires c κs =
-    let w = c.before.before.before.before.before.before in
-    let s = w.before.before in
-    let few : w.change-weight.result ≤ 2 = omega (arith, w.change-weight.ensures, weight-small s.args.day change_hour s.requires.0) in
-    (s.requires.1.0, (c.before.held.ensures, few))
+    let w = c in
+    let s = w in
+    let few : w.change_weight-often.result ≤ 2 = omega (arith, w.change_weight-often.ensures, weight-small s.args.day change_hour s.requires.day) in
+    record { tables = s.requires.tables.0; prices = (c.held-best.ensures, few) }
 
-add-least : tie.Need-overflow-add-least invariant-loop decreases-loop
+add-least : tie.Need-overflow_add-least invariant-loop decreases-loop
 add-least c = search rules
 
-loop-holds : tie.Need-loop-init invariant-loop decreases-loop
+loop-holds : tie.Need-loop-n-init invariant-loop decreases-loop
 loop-holds c =
-    let a = c.before.before in
-    let root = a.held.ensures in
-    let b = a.before.before in
-    let l = b.before.before in
-    let w = l.before in
-    let s = w.before.before in
-    let p = s.requires.1.0 in
-    let few : w.change-weight.result ≤ 2 = omega (arith, w.change-weight.ensures, weight-small s.args.day change_hour s.requires.0) in
-    (omega arith, omega arith, root, root, λ i. omega (arith, p.0.1, p.2 i), few, l.Limits-of.ensures, b.bounds_of.ensures.0, b.bounds_of.ensures.1)
+    let a = c in
+    let root = a.held-best.ensures in
+    let b = a in
+    let l = b in
+    let w = l in
+    let s = w in
+    let p = s.requires.tables.0 in
+    let few : w.change_weight-often.result ≤ 2 = omega (arith, w.change_weight-often.ensures, weight-small s.args.day change_hour s.requires.day) in
+    (omega arith, omega arith, root, root, λ i. omega (arith, p.0.1, p.2 i), few, l.Limits-of.ensures, b.bounds_of-bounds.ensures.0, b.bounds_of-bounds.ensures.1)
 
-moved-on-requires : tie.Need-moved-on-requires invariant-loop decreases-loop
+moved-on-requires : tie.Need-moved_on-next-requires invariant-loop decreases-loop
 moved-on-requires c κs =
-    let v = c.before.loop in
-    let p = c.before.before.before.before.before.before.before.before.before.before.before.requires.1 in (
+    let v = c.loop-n in
+    let p = c.requires.tables in (
       (p.0.0, p.0.1),
-      ((p.1.0, p.1.2), ((v.invariant.0, omega (arith, c.loop-test.true), v.invariant.3, v.invariant.4), (v.invariant.5, (v.invariant.7, v.invariant.8)))),
+      ((p.1.0, p.1.2), ((v.invariant.0, omega (arith, c.loop-n-test.true), v.invariant.3, v.invariant.4), (v.invariant.5, (v.invariant.7, v.invariant.8)))),
     )
 
-gains-at-requires-2 : tie.Need-gains-at-requires-2 invariant-loop decreases-loop
+gains-at-requires-2 : tie.Need-gains_at-gains-requires invariant-loop decreases-loop
 gains-at-requires-2 c κs =
-    let m = c.before in
-    let v = m.before.before.loop in
-    let p = m.before.before.before.before.before.before.before.before.before.before.before.before.requires.1.1 in
-    ((p.0, p.2), (v.invariant.6, m.moved_on.ensures.0, v.invariant.5))
+    let m = c in
+    let v = m.loop-n in
+    let p = m.requires.tables.1 in
+    record { blocks = (p.0, p.2); prices = (v.invariant.6, m.moved_on-next.ensures.0, v.invariant.5) }
 
-gaps-from-requires-2 : tie.Need-gaps-from-requires-2 invariant-loop decreases-loop
+gaps-from-requires-2 : tie.Need-gaps_from-requires-in-loop-n invariant-loop decreases-loop
 gaps-from-requires-2 c κs =
-    let m = c.before.before in
-    let v = m.before.before.loop in
-    let p = m.before.before.before.before.before.before.before.before.before.before.before.before.requires.1.0 in
-    (p, (m.moved_on.ensures.0, v.invariant.5))
+    let m = c in
+    let v = m.loop-n in
+    let p = m.requires.tables.0 in
+    record { tables = p; prices = (m.moved_on-next.ensures.0, v.invariant.5) }
 
-add-loss : tie.Need-overflow-add-loss invariant-loop decreases-loop
+add-loss : tie.Need-overflow_add-loss invariant-loop decreases-loop
 add-loss c = search rules
 
-add-n : tie.Need-overflow-add-n invariant-loop decreases-loop
+add-n : tie.Need-overflow_add-n invariant-loop decreases-loop
 add-n c = search rules
 
-loop-less : tie.Need-loop-smaller invariant-loop decreases-loop
+loop-less : tie.Need-loop-n-smaller invariant-loop decreases-loop
 loop-less c = search rules
 
-loop-again : tie.Need-loop-preserved invariant-loop decreases-loop
+loop-again : tie.Need-loop-n-preserved invariant-loop decreases-loop
 loop-again c =
-    let m = c.before.before.before.before in
-    let v = m.before.before.loop in
-    let k = m.before.loop-test.true in (
+    let m = c in
+    let v = m.loop-n in
+    let k = m.loop-n-test.true in (
       omega arith,
       omega (arith, k),
-      ⊎_elim (λ w. rw w.1 m.moved_on.ensures.0) (λ w. rw w.1 v.invariant.2) c.if1.branch,
-      m.moved_on.ensures.0,
-      m.moved_on.ensures.1,
+      ⊎_elim (λ w. rw w.1 m.moved_on-next.ensures.0) (λ w. rw w.1 v.invariant.2) c.if-loss-least.branch,
+      m.moved_on-next.ensures.0,
+      m.moved_on-next.ensures.1,
       v.invariant.5,
       v.invariant.6,
       v.invariant.7,
@@ -131,10 +131,10 @@ loop-again c =
     )
 
 returns : tie.Need-returns invariant-loop decreases-loop
-returns c = c.before.loop.invariant.2
+returns c = c.loop-n.invariant.2
 
-pub root-prices-spec : {M : Type 1} → statement M
-root-prices-spec =
+pub root_prices_spec : {M : Type 1} → statement M
+root_prices_spec =
     tie.close
     (tie.spec
     invariant-loop

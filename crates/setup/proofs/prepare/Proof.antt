@@ -17,168 +17,168 @@ use Rattle.setup.proofs.prepare.Statement.{statement}
 use Rattle.setup.proofs.prepare.Tie as tie
 
 -- the start of the call, seen from after the first count of trades and from after the price tables
-abbrev opened : tie.After-traded-by-hour → tie.Start
-opened t = t.before.before.before.before.before.before.before.before.before.before
+abbrev opened : tie.After-traded_by_hour-off → tie.Start
+opened t = t
 
-abbrev begun : tie.After-fill-tables → tie.Start
-begun f = f.before.before.before.before.before.before.before.before.before.before.before.before.before
+abbrev begun : tie.After-fill_tables → tie.Start
+begun f = f
 
-abbrev unit_prices_of : tie.After-fill-tables → List ℕ
-unit_prices_of f = f.fill-tables.new.1.1.1.1.1.1.0
+abbrev unit_prices_of : tie.After-fill_tables → List ℕ
+unit_prices_of f = f.fill_tables.new.1.1.1.1.1.1.0
 
-prices-size : (f : tie.After-fill-tables) → length (unit_prices_of f) ≡ length (begun f).args.unit-prices.now
-prices-size f = f.fill-tables.auto.1.1.1.1.1.1.0
+prices-size : (f : tie.After-fill_tables) → length (unit_prices_of f) ≡ length (begun f).args.unit-prices.now
+prices-size f = f.fill_tables.auto.1.1.1.1.1.1.0
 
-prices-fit : (f : tie.After-fill-tables) → Small max_price (unit_prices_of f)
-prices-fit f = f.fill-tables.ensures.1
+prices-fit : (f : tie.After-fill_tables) → Small max_price (unit_prices_of f)
+prices-fit f = f.fill_tables.ensures.small
 
 -- the places that the blocks reach have room in the rows
-fits : (m : tie.After-traded-by-hour2) → RowsFit (row_width (opened m.before).args.unit-prices.now) m.traded-by-hour2.result
-fits m = rows_fit _ _ _ _ _ _ m.traded-by-hour2.ensures (opened m.before).requires.1.1.1.1.1
+fits : (m : tie.After-traded_by_hour-most) → RowsFit (row_width (opened m).args.unit-prices.now) m.traded_by_hour-most.result
+fits m = rows_fit _ _ _ _ _ _ m.traded_by_hour-most.ensures (opened m).requires.steps.1.1.1.1
 
-within : (m : tie.After-traded-by-hour2) → (h : ℕ) → h < hour_places →
-    get_or m.before.traded-by-hour.result h 0 ≤ get_or m.traded-by-hour2.result h 0
-within m = bought-within _ _ _ _ _ _ m.before.traded-by-hour.ensures m.traded-by-hour2.ensures
+within : (m : tie.After-traded_by_hour-most) → (h : ℕ) → h < hour_places →
+    get_or m.traded_by_hour-off.result h 0 ≤ get_or m.traded_by_hour-most.result h 0
+within m = bought-within _ _ _ _ _ _ m.traded_by_hour-off.ensures m.traded_by_hour-most.ensures
 
-off-size : (o : tie.After-traded-by-hour) → length o.traded-by-hour.result ≡ hour_places
+off-size : (o : tie.After-traded_by_hour-off) → length o.traded_by_hour-off.result ≡ hour_places
 off-size o = search rules
 
-traded-by-hour-requires : tie.Need-traded-by-hour-requires
+traded-by-hour-requires : tie.Need-traded_by_hour-off-requires
 traded-by-hour-requires c κs = search rules
 
-traded-by-hour-requires-2 : tie.Need-traded-by-hour-requires-2
+traded-by-hour-requires-2 : tie.Need-traded_by_hour-most-requires
 traded-by-hour-requires-2 c κs = search rules
 
-fill-tables-requires : tie.Need-fill-tables-requires
+fill-tables-requires : tie.Need-fill_tables-requires
 fill-tables-requires c κs =
-    let most = c.before in
-    let off = most.before in
+    let most = c in
+    let off = most in
     let s = opened off in
     let t = s.pre.1.1.1.1.0 in
-    ((s.pre.1.0, off.traded-by-hour.ensures.small, most.traded-by-hour2.ensures.small), (t.0, fits most, t.2))
+    record { steps = (s.pre.1.0, off.traded_by_hour-off.ensures.small, most.traded_by_hour-most.ensures.small); table = (t.0, fits most, t.2) }
 
-root-prices-requires : tie.Need-root-prices-requires
+root-prices-requires : tie.Need-root_prices-root-requires
 root-prices-requires c κs =
-    let f = c.before.before.before in
-    let after-traded-by-hour = f.before.before.before in
+    let f = c in
+    let after-traded-by-hour = f in
     let start = begun f in
     let held = start.pre.1.1.0 in
-    let m = f.before.before in
+    let m = f in
     let rows = rw (← (prices-size f)) at start.pre.1.1.1.1.0.0 in
     let fit = rw (← (prices-size f)) at (fits m) in
-    let off = off-fits (unit_prices_of f) after-traded-by-hour.traded-by-hour.result m.traded-by-hour2.result (off-size after-traded-by-hour) (within m) fit in
+    let off = off-fits (unit_prices_of f) after-traded-by-hour.traded_by_hour-off.result m.traded_by_hour-most.result (off-size after-traded-by-hour) (within m) fit in
     (start.pre.0, ((rows, prices-fit f, off), (held.few, held.prices_fit, held.quantities_fit)))
 
-fill-ranges-requires : tie.Need-fill-ranges-requires
+fill-ranges-requires : tie.Need-fill_ranges-ranges-requires
 fill-ranges-requires c κs =
-    let f = c.before.before.before.before.before.before in
-    let m = f.before.before in
+    let f = c in
+    let m = f in
     let s = begun f in
     let t = s.pre.1.1.1.1.0 in
     let same = sym t.1 in (
-      (s.pre.1.0, m.traded-by-hour2.ensures.small, c.before.before.root-prices.ensures, rw same at t.0, rw same at (fits m)),
-      (within m, (prices-size f ∙ same, rw same at f.fill-tables.ensures.0)),
+      (s.pre.1.0, m.traded_by_hour-most.ensures.small, c.root_prices-root.ensures, rw same at t.0, rw same at (fits m)),
+      (within m, (prices-size f ∙ same, rw same at f.fill_tables.ensures.rows)),
     )
 
 -- how often hour 3 counts, behind the ranges, and these behind the root prices
-abbrev ranged : tie.After-change-weight → tie.After-fill-ranges
-ranged c = c.before.before.before
+abbrev ranged : tie.After-change_weight-often → tie.After-fill_ranges-ranges
+ranged c = c
 
-abbrev rooted : tie.After-fill-ranges → tie.After-root-prices
-rooted c = c.before.before.before
+abbrev rooted : tie.After-fill_ranges-ranges → tie.After-root_prices-root
+rooted c = c
 
-abbrev filled : tie.After-root-prices → tie.After-fill-tables
-filled c = c.before.before.before.before
+abbrev filled : tie.After-root_prices-root → tie.After-fill_tables
+filled c = c
 
 -- an array of 24
-root-size : (r : tie.After-root-prices) → length r.root-prices.result ≡ hour_places
+root-size : (r : tie.After-root_prices-root) → length r.root_prices-root.result ≡ hour_places
 root-size r = search rules
 
-often-few : (c : tie.After-change-weight) → c.change-weight.result ≤ 2
-often-few c = rw c.change-weight.ensures (weight-small _ change_hour (begun (filled (rooted (ranged c)))).requires.0)
+often-few : (c : tie.After-change_weight-often) → c.change_weight-often.result ≤ 2
+often-few c = rw c.change_weight-often.ensures (weight-small _ change_hour (begun (filled (rooted (ranged c)))).requires.day)
 
-change-weight-requires : tie.Need-change-weight-requires
+change-weight-requires : tie.Need-change_weight-often-requires
 change-weight-requires c κs = search rules
 
-counted-prices-requires : tie.Need-counted-prices-requires
-counted-prices-requires c κs = ((rooted (ranged c)).root-prices.ensures, often-few c)
+counted-prices-requires : tie.Need-counted_prices-counted-requires
+counted-prices-requires c κs = ((rooted (ranged c)).root_prices-root.ensures, often-few c)
 
-block-columns-requires : tie.Need-block-columns-requires
+block-columns-requires : tie.Need-block_columns-columns-requires
 block-columns-requires c κs =
-    let s = begun (filled (rooted (ranged c.before))) in
-    (s.pre.1.1.0, c.counted-prices.ensures.1, s.pre.0)
+    let s = begun (filled (rooted (ranged c))) in
+    (s.pre.1.1.0, c.counted_prices-counted.ensures.1, s.pre.0)
 
 -- the start behind the blocks' columns
-abbrev weighed : tie.After-block-columns → tie.After-change-weight
-weighed c = c.before.before
+abbrev weighed : tie.After-block_columns-columns → tie.After-change_weight-often
+weighed c = c
 
-abbrev started : tie.After-block-columns → tie.Start
+abbrev started : tie.After-block_columns-columns → tie.Start
 started c = begun (filled (rooted (ranged (weighed c))))
 
-widened-requires : tie.Need-widened-requires
+widened-requires : tie.Need-widened-wide-requires
 widened-requires c κs = search rules
 
-with-parents-requires : tie.Need-with-parents-requires
+with-parents-requires : tie.Need-with_parents-linked-requires
 with-parents-requires c κs = search rules
 
-with-rows-requires : tie.Need-with-rows-requires
+with-rows-requires : tie.Need-with_rows-traded-requires
 with-rows-requires c κs =
-    let w = c.before in
-    let columns = w.before.before.before.before in
-    ((started columns).requires.1.1.0.few, rows_empty _ _ _ _ w.widened.ensures c.with-parents.ensures columns.block-columns.ensures.0)
+    let w = c in
+    let columns = w in
+    ((started columns).requires.steps.1.0.few, rows_empty _ _ _ _ w.widened-wide.ensures c.with_parents-linked.ensures columns.block_columns-columns.ensures.small)
 
 joined-requires : tie.Need-joined-requires
 joined-requires c κs = search rules
 
-with-twins-requires : tie.Need-with-twins-requires
+with-twins-requires : tie.Need-with_twins-requires
 with-twins-requires c κs =
-    let rows = c.before in
-    let links = rows.before in
-    let columns = links.before.before.before.before.before in
+    let rows = c in
+    let links = rows in
+    let columns = links in
     let s = started columns in (
       s.pre.1.1.0.few,
-      twins-empty _ _ _ _ links.before.widened.ensures links.with-parents.ensures _ _ rows.with_rows.ensures,
-      parents-before _ _ _ _ links.before.widened.ensures links.with-parents.ensures _ _ rows.with_rows.ensures s.pre.1.1.1.0,
+      twins-empty _ _ _ _ links.widened-wide.ensures links.with_parents-linked.ensures _ _ rows.with_rows-traded.ensures,
+      parents-before _ _ _ _ links.widened-wide.ensures links.with_parents-linked.ensures _ _ rows.with_rows-traded.ensures s.pre.1.1.1.0,
     )
 
-same_length : tie.Need-same-length
-same_length c = prices-size (filled (rooted (ranged (weighed c.before.before.before.before.before.before.before.before))))
+same_length : tie.Need-shape_of-unit_prices
+same_length c = prices-size (filled (rooted (ranged (weighed c))))
 
-same-length-2 : tie.Need-same-length-2
-same-length-2 c = (ranged (weighed c.before.before.before.before.before.before.before.before)).fill-ranges.auto.1.1.1.1.1.1.1.1.0
+same-length-2 : tie.Need-shape_of-gap
+same-length-2 c = (ranged (weighed c)).fill_ranges-ranges.auto.1.1.1.1.1.1.1.1.0
 
 returns : tie.Need-returns
 returns c =
-    let j = c.before in
-    let after-block-columns = j.before.before.before.before.before.before.before in
+    let j = c in
+    let after-block-columns = j in
     let g = ranged (weighed after-block-columns) in
     let after-root-prices = rooted g in
     let f = filled after-root-prices in
-    let after-traded-by-hour2 = f.before.before in
-    let after-traded-by-hour = after-traded-by-hour2.before in
+    let after-traded-by-hour2 = f in
+    let after-traded-by-hour = after-traded-by-hour2 in
     let s = begun f in
-    let wide = j.before.before.before.widened.ensures in
-    let links = j.before.before.with-parents.ensures in
-    let rows = j.before.with_rows.ensures in
+    let wide = j.widened-wide.ensures in
+    let links = j.with_parents-linked.ensures in
+    let rows = j.with_rows-traded.ensures in
     let held = s.pre.1.1.1.0 in
-    let twins = c.with-twins.ensures in
+    let twins = c.with_twins.ensures in
     let few = s.pre.1.1.0.few in
     let sized = blocks-sized _ _ _ _ _ _ _ few held wide links rows twins in
-    let weight_is = (weighed after-block-columns).change-weight.ensures in
-    let all = completed _ _ _ _ _ _ _ few held wide links rows twins _ _ _ _ _ _ after-block-columns.block-columns.ensures.1 in
-    let gapSize = g.fill-ranges.kept.1.1.1.1.1.1.1.1.0 ∙ s.pre.1.1.1.1.0.1 ∙ sym (prices-size f) in
-    let t = g.fill-ranges.ensures.0 in
+    let weight_is = (weighed after-block-columns).change_weight-often.ensures in
+    let all = completed _ _ _ _ _ _ _ few held wide links rows twins _ _ _ _ _ _ after-block-columns.block_columns-columns.ensures.blocks in
+    let gapSize = g.fill_ranges-ranges.kept.1.1.1.1.1.1.1.1.0 ∙ s.pre.1.1.1.1.0.1 ∙ sym (prices-size f) in
+    let t = g.fill_ranges-ranges.ensures.small in
     let same = s.pre.1.1.1.1.0.1 ∙ sym (prices-size f) in
     rw (j.joined.ensures.0, j.joined.ensures.1, j.joined.ensures.2, j.joined.ensures.3, j.joined.ensures.4) (
       set-up _ (rw (← (prices-size f)) at s.pre.1.1.1.1.0.0) gapSize t.0 t.1 (rw same at t.3) (prices-fit f) sized (often-few (weighed after-block-columns)) few,
-      ready _ _ _ _ _ _ _ _ _ _ _ _ _ after-traded-by-hour.traded-by-hour.result after-traded-by-hour2.traded-by-hour2.result
-          after-root-prices.root-prices.result (unit_prices_of f) _ _ _ _ _ _ _ gapSize (root-size after-root-prices) (rw (← (prices-size f)) at (fits after-traded-by-hour2)) after-traded-by-hour.traded-by-hour.ensures
-          after-traded-by-hour2.traded-by-hour2.ensures (rw (← (prices-size f)) at f.fill-tables.ensures.0) (rw same at g.fill-ranges.ensures.1)
-          weight_is refl (rw after-block-columns.before.counted-prices.ensures.0 at all),
+      ready _ _ _ _ _ _ _ _ _ _ _ _ _ after-traded-by-hour.traded_by_hour-off.result after-traded-by-hour2.traded_by_hour-most.result
+          after-root-prices.root_prices-root.result (unit_prices_of f) _ _ _ _ _ _ _ gapSize (root-size after-root-prices) (rw (← (prices-size f)) at (fits after-traded-by-hour2)) after-traded-by-hour.traded_by_hour-off.ensures
+          after-traded-by-hour2.traded_by_hour-most.ensures (rw (← (prices-size f)) at f.fill_tables.ensures.rows) (rw same at g.fill_ranges-ranges.ensures.ranges)
+          weight_is refl (rw after-block-columns.counted_prices-counted.ensures.0 at all),
     )
 
-pub prepare-spec : {M : Type 1} → statement M
-prepare-spec =
+pub prepare_spec : {M : Type 1} → statement M
+prepare_spec =
     tie.close
     (tie.spec
     traded-by-hour-requires

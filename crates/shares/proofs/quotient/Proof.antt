@@ -5,23 +5,23 @@ use borrow.Author.Rules.{rules}
 use Rattle.shares.proofs.quotient.Statement.{statement}
 use Rattle.shares.proofs.quotient.Tie as tie
 
-returns : tie.Need-returns
+returns : tie.Need-returns-then-total-eq0
 returns c =
-    let a = c.before.args in
-    nothing-held a.own_val a.amount a.total c.if1.true c.before.requires.0
+    let a = c.args in
+    nothing-held a.own_val a.amount a.total c.if-total-eq0.true c.requires.0
 
-mul-result : tie.Need-overflow-mul-result
-mul-result c = omega (arith, product-fits c.before.args.own_val c.before.args.amount (omega arith) (omega arith))
+mul-result : tie.Need-overflow_mul-result
+mul-result c = omega (arith, product-fits c.args.own_val c.args.amount (omega arith) (omega arith))
 
-div-result : tie.Need-nonzero-div-result
+div-result : tie.Need-nonzero_div-result
 div-result c = search rules
 
-cast-result : tie.Need-overflow-cast-result
+cast-result : tie.Need-overflow_cast-result-2
 cast-result c =
-    omega (arith, quotient_fits c.before.args.own_val c.before.args.amount c.before.args.total (omega arith) (omega arith) (omega arith))
+    omega (arith, quotient_fits c.args.own_val c.args.amount c.args.total (omega arith) (omega arith) (omega arith))
 
-returns-2 : tie.Need-returns-2
+returns-2 : tie.Need-returns
 returns-2 c = search rules
 
-pub quotient-spec : {M : Type 1} → statement M
-quotient-spec = tie.close (tie.spec returns mul-result div-result cast-result returns-2)
+pub quotient_spec : {M : Type 1} → statement M
+quotient_spec = tie.close (tie.spec returns mul-result div-result cast-result returns-2)

@@ -13,7 +13,7 @@ use borrow.Author.Rules.{rules}
 use Rattle.shares.proofs.round_down.Statement.{statement}
 use Rattle.shares.proofs.round_down.Tie as tie
 
-abbrev invariant-loop : tie.invariant-loop
+abbrev invariant-loop : tie.invariant-loop-i
 invariant-loop sides prices quantities price amounts out₀ left₀ i₀ out left i =
     (length out ≡ length out₀)
     × Filled (first_share price amounts.buys amounts.demand amounts.sells amounts.offer) sides prices quantities out i
@@ -22,88 +22,88 @@ invariant-loop sides prices quantities price amounts out₀ left₀ i₀ out lef
     × (amounts.sells - total (sell_floor price amounts.sells amounts.offer) (steps_from 0 sides prices quantities)
     ≡ left.sells - total (sell_floor price amounts.sells amounts.offer) (rest_of 0 sides prices quantities i))
 
-abbrev decreases-loop : tie.decreases-loop
+abbrev decreases-loop : tie.decreases-loop-i
 decreases-loop sides prices quantities price amounts out₀ left₀ i₀ out left i = length sides - i
 
-loop-holds : tie.Need-loop-init invariant-loop decreases-loop
+loop-holds : tie.Need-loop-i-init invariant-loop decreases-loop
 loop-holds c =
-    let t = c.before.before.before.before in
+    let t = c in
     (refl, filled_none _ _ _ _ _ t.requires.1, refl, refl)
 
-shared-slice-read-first : tie.Need-shared-slice-read-first invariant-loop decreases-loop
+shared-slice-read-first : tie.Need-bounds-sides-i invariant-loop decreases-loop
 shared-slice-read-first c = search rules
 
-mul-first : tie.Need-overflow-mul-first invariant-loop decreases-loop
+mul-first : tie.Need-offset_bounds-prices-i invariant-loop decreases-loop
 mul-first c = search rules
 
-shared-slice-read-first-2 : tie.Need-shared-slice-read-first-2 invariant-loop decreases-loop
+shared-slice-read-first-2 : tie.Need-bounds-prices-i invariant-loop decreases-loop
 shared-slice-read-first-2 c = search rules
 
-mul-first-2 : tie.Need-overflow-mul-first-2 invariant-loop decreases-loop
+mul-first-2 : tie.Need-offset_bounds-quantities-i invariant-loop decreases-loop
 mul-first-2 c = search rules
 
-shared-slice-read-first-3 : tie.Need-shared-slice-read-first-3 invariant-loop decreases-loop
+shared-slice-read-first-3 : tie.Need-bounds-quantities-i invariant-loop decreases-loop
 shared-slice-read-first-3 c = search rules
 
-first-requires : tie.Need-first-requires invariant-loop decreases-loop
+first-requires : tie.Need-first-got-requires invariant-loop decreases-loop
 first-requires c κs = search rules
 
-mul-out : tie.Need-overflow-mul-out invariant-loop decreases-loop
+mul-out : tie.Need-offset_bounds-out-i invariant-loop decreases-loop
 mul-out c = search rules
 
-slice-write-out : tie.Need-slice-write-out invariant-loop decreases-loop
+slice-write-out : tie.Need-bounds-out-i invariant-loop decreases-loop
 slice-write-out c = search rules
 
-shared-slice-read-after : tie.Need-shared-slice-read-after invariant-loop decreases-loop
+shared-slice-read-after : tie.Need-bounds-sides-i-in-loop-i invariant-loop decreases-loop
 shared-slice-read-after c = search rules
 
-mul-after : tie.Need-overflow-mul-after invariant-loop decreases-loop
+mul-after : tie.Need-offset_bounds-prices-i-in-loop-i invariant-loop decreases-loop
 mul-after c = search rules
 
-shared-slice-read-after-2 : tie.Need-shared-slice-read-after-2 invariant-loop decreases-loop
+shared-slice-read-after-2 : tie.Need-bounds-prices-i-in-loop-i invariant-loop decreases-loop
 shared-slice-read-after-2 c = search rules
 
-after-requires : tie.Need-after-requires invariant-loop decreases-loop
+after-requires : tie.Need-after-left-requires invariant-loop decreases-loop
 after-requires c κs = search rules
 
-add-i : tie.Need-overflow-add-i invariant-loop decreases-loop
+add-i : tie.Need-overflow_add-i invariant-loop decreases-loop
 add-i c = search rules
 
-loop-less : tie.Need-loop-smaller invariant-loop decreases-loop
+loop-less : tie.Need-loop-i-smaller invariant-loop decreases-loop
 loop-less c = search rules
 
-loop-again : tie.Need-loop-preserved invariant-loop decreases-loop
+loop-again : tie.Need-loop-i-preserved invariant-loop decreases-loop
 loop-again c =
-    let v = c.before.before.before.before.before.before.before.before in
-    let t = v.before.before.before.before.before in
+    let v = c in
+    let t = v in
     let m = t.args.amounts in
-    let got = c.before.before.before.first in
-    let inside = c.before.before.before.before.before.before.before.loop-test.true in
-    let taken = taken_is t.args.price (get_or t.args.prices.now v.loop.i 0) (get_or t.args.quantities.now v.loop.i 0) m.buys m.demand m.sells
-    m.offer got.result (side_for (get_or t.args.sides.now v.loop.i 0)) got.ensures in (
-      rw length-set v.loop.invariant.0,
-      filled_more _ _ _ _ t.requires.0 _ _ _ v.loop.invariant.1 inside got.ensures,
-      rw c.after.ensures.0 (left-more (buy_floor t.args.price m.buys m.demand) _ _ _ t.requires.0 _ _ _ _ inside v.loop.invariant.2 taken.0),
-      rw c.after.ensures.1 (left-more (sell_floor t.args.price m.sells m.offer) _ _ _ t.requires.0 _ _ _ _ inside v.loop.invariant.3 taken.1),
+    let got = c.first-got in
+    let inside = c.loop-i-test.true in
+    let taken = taken_is t.args.price (get_or t.args.prices.now v.loop-i.i 0) (get_or t.args.quantities.now v.loop-i.i 0) m.buys m.demand m.sells
+    m.offer got.result (side_for (get_or t.args.sides.now v.loop-i.i 0)) got.ensures in (
+      rw length-set v.loop-i.invariant.0,
+      filled_more _ _ _ _ t.requires.0 _ _ _ v.loop-i.invariant.1 inside got.ensures,
+      rw c.after-left.ensures.0 (left-more (buy_floor t.args.price m.buys m.demand) _ _ _ t.requires.0 _ _ _ _ inside v.loop-i.invariant.2 taken.0),
+      rw c.after-left.ensures.1 (left-more (sell_floor t.args.price m.sells m.offer) _ _ _ t.requires.0 _ _ _ _ inside v.loop-i.invariant.3 taken.1),
     )
 
-same_length : tie.Need-same-length invariant-loop decreases-loop
+same_length : tie.Need-shape_of-out invariant-loop decreases-loop
 same_length c = search rules
 
 returns : tie.Need-returns invariant-loop decreases-loop
 returns c =
-    let t = c.before.before.before.before.before.before in
+    let t = c in
     let a = t.args in
-    let l = c.before.loop in (
-      filled-all _ _ _ _ _ _ l.invariant.1 c.loop-test.false,
+    let l = c.loop-i in (
+      filled-all _ _ _ _ _ _ l.invariant.1 c.loop-i-test.false,
       (
-        left-all (buy_floor a.price a.amounts.buys a.amounts.demand) _ _ _ _ _ _ c.loop-test.false l.invariant.2,
-        left-all (sell_floor a.price a.amounts.sells a.amounts.offer) _ _ _ _ _ _ c.loop-test.false l.invariant.3,
+        left-all (buy_floor a.price a.amounts.buys a.amounts.demand) _ _ _ _ _ _ c.loop-i-test.false l.invariant.2,
+        left-all (sell_floor a.price a.amounts.sells a.amounts.offer) _ _ _ _ _ _ c.loop-i-test.false l.invariant.3,
       ),
     )
 
-pub round-down-spec : {M : Type 1} → statement M
-round-down-spec =
+pub round_down_spec : {M : Type 1} → statement M
+round_down_spec =
     tie.close
     (tie.spec
     invariant-loop

@@ -5,15 +5,15 @@ use borrow.Author.Rules.{rules}
 use Rattle.shares.proofs.share_out.Statement.{statement}
 use Rattle.shares.proofs.share_out.Tie as tie
 
-round-down-requires : tie.Need-round-down-requires
+round-down-requires : tie.Need-round_down-left-requires
 round-down-requires c κs =
-    let t = c.before.before.before.before.before.before in
+    let t = c in
     (t.requires.0, t.requires.2, amounts-fit _ _ _ _ _ _ _ _ t.requires.0 t.requires.4 t.requires.1)
 
-give-leftover-requires : tie.Need-give-leftover-requires
+give-leftover-requires : tie.Need-give_leftover-requires
 give-leftover-requires c κs =
-    let t = c.before.before.before.before.before.before.before.before.before.before.before in
-    let down = c.before.before.before.before.round-down in (
+    let t = c in
+    let down = c.round_down-left in (
       t.requires.0,
       omega (arith, t.requires.2, down.auto.1.1.1.1.1.0),
       t.requires.3,
@@ -21,11 +21,11 @@ give-leftover-requires c κs =
       first-room _ _ _ _ _ _ _ _ t.requires.0 t.requires.4 t.requires.1 _ down.ensures.0,
     )
 
-give-leftover-requires-2 : tie.Need-give-leftover-requires-2
+give-leftover-requires-2 : tie.Need-give_leftover-requires-2
 give-leftover-requires-2 c κs =
-    let t = c.before.before.before.before.before.before.before.before.before.before.before.before.before.before.before.before.before.before in
-    let down = c.before.before.before.before.before.before.before.before.before.before.before.round-down in
-    let first = c.before.before.before.before.before.before.give-leftover in (
+    let t = c in
+    let down = c.round_down-left in
+    let first = c.give_leftover in (
       t.requires.0,
       omega (arith, t.requires.2, down.auto.1.1.1.1.1.0, first.auto.1.1.1.1.1.1.1.1.0),
       omega (arith, t.requires.3, first.auto.1.1.1.1.1.1.1.1.1.0),
@@ -33,21 +33,21 @@ give-leftover-requires-2 c κs =
       second-room _ _ _ _ _ _ _ _ t.requires.0 t.requires.4 t.requires.1 _ _ _ down.ensures.0 first.ensures,
     )
 
-same_length : tie.Need-same-length
+same_length : tie.Need-shape_of-out
 same_length c = search rules
 
-same-length-2 : tie.Need-same-length-2
+same-length-2 : tie.Need-shape_of-rests
 same-length-2 c = search rules
 
 returns : tie.Need-returns
 returns c =
-    let t = c.before.before.before.before.before.before.before.before.before.before.before.before.before.before.before.before.before.before.before.before.before.before.before in
-    let down = c.before.before.before.before.before.before.before.before.before.before.before.before.before.before.before.before.round-down in
+    let t = c in
+    let down = c.round_down-left in
     shared-out _ _ _ _ _ _ _ _ t.requires.0 t.requires.4 _ _ _ _ _ down.ensures.0 down.ensures.1.0 down.ensures.1.1
-    c.before.before.before.before.before.before.before.before.before.before.before.give-leftover.ensures c.before.before.before.before.give-leftover2.ensures
+    c.give_leftover.ensures c.give_leftover-2.ensures
 
-pub share-out-spec : {M : Type 1} → statement M
-share-out-spec =
+pub share_out_spec : {M : Type 1} → statement M
+share_out_spec =
     tie.close
     (tie.spec
     round-down-requires

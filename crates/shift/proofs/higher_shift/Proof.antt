@@ -7,35 +7,35 @@ use borrow.Author.Rules.{rules}
 use Rattle.shift.proofs.higher_shift.Statement.{statement}
 use Rattle.shift.proofs.higher_shift.Tie as tie
 
-side-kept-at-requires : tie.Need-side-kept-at-requires
+side-kept-at-requires : tie.Need-side_kept_at-requires
 side-kept-at-requires c κs = search rules
 
-returns : tie.Need-returns
-returns c = no-sells-way _ _ _ _ _ _ (sym c.before.side-kept-at.ensures ∙ not-true _ c.if1.true)
+returns : tie.Need-returns-then-not-side_kept_at
+returns c = no-sells-way _ _ _ _ _ _ (sym c.side_kept_at.ensures ∙ not-true _ c.if-not-side_kept_at.true)
 
-last-before-requires : tie.Need-last-before-requires
+last-before-requires : tie.Need-last_before-t-requires
 last-before-requires c κs =
-    let s = c.before.before.before.before in
-    ((s.requires.0, omega arith, omega arith), (s.requires.1, sym c.before.side-kept-at.ensures ∙ not-false _ c.if1.false))
+    let s = c in
+    ((s.requires.shift_sized, omega arith, omega arith), (s.requires.middle_shift_value, sym c.side_kept_at.ensures ∙ not-false _ c.if-not-side_kept_at.false))
 
-add-t : tie.Need-overflow-add-t
+add-t : tie.Need-overflow_add-t
 add-t c = search rules
 
-side-kept-at-requires-2 : tie.Need-side-kept-at-requires-2
+side-kept-at-requires-2 : tie.Need-side_kept_at-requires-2
 side-kept-at-requires-2 c κs = search rules
 
-returns-2 : tie.Need-returns-2
+returns-2 : tie.Need-returns-then-not-side_kept_at-2
 returns-2 c =
-    let turns = c.before.before.last-before in
-    apart_above _ _ _ _ _ _ turns.result turns.ensures.here (sym c.before.side-kept-at2.ensures ∙ not-true _ c.if2.true)
+    let turns = c.last_before-t in
+    apart_above _ _ _ _ _ _ turns.result turns.ensures.here (sym c.side_kept_at-2.ensures ∙ not-true _ c.if-not-side_kept_at-2.true)
 
-returns-3 : tie.Need-returns-3
+returns-3 : tie.Need-returns
 returns-3 c =
-    let turns = c.before.before.last-before in
-    higher-way _ _ _ _ _ _ turns.result turns.ensures (sym c.before.side-kept-at2.ensures ∙ not-false _ c.if2.false)
+    let turns = c.last_before-t in
+    higher-way _ _ _ _ _ _ turns.result turns.ensures (sym c.side_kept_at-2.ensures ∙ not-false _ c.if-not-side_kept_at-2.false)
 
-pub higher-shift-spec : {M : Type 1} → statement M
-higher-shift-spec =
+pub higher_shift_spec : {M : Type 1} → statement M
+higher_shift_spec =
     tie.close
     (tie.spec
     side-kept-at-requires

@@ -12,99 +12,99 @@ use borrow.Author.Rules.{rules}
 use Rattle.shift.proofs.side_keeps.Statement.{statement}
 use Rattle.shift.proofs.side_keeps.Tie as tie
 
-abbrev invariant-loop : tie.invariant-loop
+abbrev invariant-loop : tie.invariant-loop-i
 invariant-loop sells blocks count set prices i₀ i = (i ≤ most_blocks) × (side_keeps sells blocks set prices count ≡ side_keeps sells blocks set prices i)
 
-abbrev decreases-loop : tie.decreases-loop
+abbrev decreases-loop : tie.decreases-loop-i
 decreases-loop sells blocks count set prices i₀ i = i
 
 -- whether a block is held and of the side
-held_of : (m : tie.After-is-of-side invariant-loop decreases-loop) (answer : Bool) → let l = m.before.before.before in let a = l.before.before.before.args in
-    (eqb (a.set / 2 ^ (l.loop.i - 1) % 2) 1 && m.is-of-side.result) ≡ answer → held_of_side a.sells a.blocks.now a.set (l.loop.i - 1) ≡ answer
+held_of : (m : tie.After-is_of_side-meant invariant-loop decreases-loop) (answer : Bool) → let l = m in let a = l.args in
+    (eqb (a.set / 2 ^ (l.loop-i.i - 1) % 2) 1 && m.is_of_side-meant.result) ≡ answer → held_of_side a.sells a.blocks.now a.set (l.loop-i.i - 1) ≡ answer
 held_of m answer e =
-    let l = m.before.before.before in
-    let a = l.before.before.before.args in
-    held-is a.sells a.blocks.now a.set a.prices.now (l.loop.i - 1) m.is-of-side.result answer m.is-of-side.ensures e
+    let l = m in
+    let a = l.args in
+    held-is a.sells a.blocks.now a.set a.prices.now (l.loop-i.i - 1) m.is_of_side-meant.result answer m.is_of_side-meant.ensures e
 
-loop-holds : tie.Need-loop-init invariant-loop decreases-loop
-loop-holds c = (c.before.before.requires.1, refl)
+loop-holds : tie.Need-loop-i-init invariant-loop decreases-loop
+loop-holds c = (c.requires.1, refl)
 
-sub-i : tie.Need-overflow-sub-i invariant-loop decreases-loop
+sub-i : tie.Need-overflow_sub-i invariant-loop decreases-loop
 sub-i c = search rules
 
-add-side : tie.Need-overflow-add-side invariant-loop decreases-loop
+add-side : tie.Need-overflow_add-side invariant-loop decreases-loop
 add-side c = search rules
 
-mul-side : tie.Need-overflow-mul-side invariant-loop decreases-loop
+mul-side : tie.Need-offset_bounds-blocks-i invariant-loop decreases-loop
 mul-side c = search rules
 
-shared-slice-read-side : tie.Need-shared-slice-read-side invariant-loop decreases-loop
+shared-slice-read-side : tie.Need-bounds-blocks-i invariant-loop decreases-loop
 shared-slice-read-side c = search rules
 
-cast-chosen : tie.Need-overflow-cast-chosen invariant-loop decreases-loop
+cast-chosen : tie.Need-overflow_cast-chosen invariant-loop decreases-loop
 cast-chosen c = search rules
 
-shr-chosen : tie.Need-overflow-shr-chosen invariant-loop decreases-loop
-shr-chosen c = omega (arith, c.before.before.loop.invariant.0)
+shr-chosen : tie.Need-overflow_shr-chosen invariant-loop decreases-loop
+shr-chosen c = omega (arith, c.loop-i.invariant.0)
 
-is-of-side-requires : tie.Need-is-of-side-requires invariant-loop decreases-loop
+is-of-side-requires : tie.Need-is_of_side-meant-requires invariant-loop decreases-loop
 is-of-side-requires c κs = search rules
 
-add-keeps-limit : tie.Need-overflow-add-keeps-limit invariant-loop decreases-loop
+add-keeps-limit : tie.Need-overflow_add-i invariant-loop decreases-loop
 add-keeps-limit c = search rules
 
-mul-keeps-limit : tie.Need-overflow-mul-keeps-limit invariant-loop decreases-loop
+mul-keeps-limit : tie.Need-offset_bounds-blocks-i-then-chosen-meant invariant-loop decreases-loop
 mul-keeps-limit c = search rules
 
-shared-slice-read-keeps-limit : tie.Need-shared-slice-read-keeps-limit invariant-loop decreases-loop
+shared-slice-read-keeps-limit : tie.Need-bounds-blocks-i-then-chosen-meant invariant-loop decreases-loop
 shared-slice-read-keeps-limit c = search rules
 
-add-keeps-limit-2 : tie.Need-overflow-add-keeps-limit-2 invariant-loop decreases-loop
+add-keeps-limit-2 : tie.Need-overflow_add-i-then-chosen-meant invariant-loop decreases-loop
 add-keeps-limit-2 c = search rules
 
-mul-keeps-limit-2 : tie.Need-overflow-mul-keeps-limit-2 invariant-loop decreases-loop
+mul-keeps-limit-2 : tie.Need-offset_bounds-blocks-i-then-chosen-meant-2 invariant-loop decreases-loop
 mul-keeps-limit-2 c = search rules
 
-shared-slice-read-keeps-limit-2 : tie.Need-shared-slice-read-keeps-limit-2 invariant-loop decreases-loop
+shared-slice-read-keeps-limit-2 : tie.Need-bounds-blocks-i-then-chosen-meant-2 invariant-loop decreases-loop
 shared-slice-read-keeps-limit-2 c = search rules
 
-keeps-limit-requires : tie.Need-keeps-limit-requires invariant-loop decreases-loop
+keeps-limit-requires : tie.Need-keeps_limit-requires invariant-loop decreases-loop
 keeps-limit-requires c κs = search rules
 
-returns : tie.Need-returns invariant-loop decreases-loop
+returns : tie.Need-returns-then-not-keeps_limit invariant-loop decreases-loop
 returns c =
-    let one = c.before.before.before.before in
-    let v = one.before.before.before in
-    sym (v.before.loop.invariant.1 ∙ side-fails _ _ _ _ _ v.loop-test.true (held_of one.before true one.if1.true)
-    (sym c.before.keeps-limit.ensures ∙ not-true _ c.if2.true))
+    let one = c in
+    let v = one in
+    sym (v.loop-i.invariant.1 ∙ side-fails _ _ _ _ _ v.loop-i-test.true (held_of one true one.if-chosen-meant.true)
+    (sym c.keeps_limit.ensures ∙ not-true _ c.if-not-keeps_limit.true))
 
-loop-less : tie.Need-loop-smaller invariant-loop decreases-loop
+loop-less : tie.Need-loop-i-smaller-else-not-keeps_limit invariant-loop decreases-loop
 loop-less c = search rules
 
-loop-again : tie.Need-loop-preserved invariant-loop decreases-loop
+loop-again : tie.Need-loop-i-preserved-else-not-keeps_limit invariant-loop decreases-loop
 loop-again c =
-    let one = c.before.before.before.before in
-    let v = one.before.before.before in (
-      omega (arith, v.before.loop.invariant.0),
-      v.before.loop.invariant.1 ∙ side-passes _ _ _ _ _ v.loop-test.true (held_of one.before true one.if1.true)
-          (sym c.before.keeps-limit.ensures ∙ not-false _ c.if2.false),
+    let one = c in
+    let v = one in (
+      omega (arith, v.loop-i.invariant.0),
+      v.loop-i.invariant.1 ∙ side-passes _ _ _ _ _ v.loop-i-test.true (held_of one true one.if-chosen-meant.true)
+          (sym c.keeps_limit.ensures ∙ not-false _ c.if-not-keeps_limit.false),
     )
 
-loop-less-2 : tie.Need-loop-smaller-2 invariant-loop decreases-loop
+loop-less-2 : tie.Need-loop-i-smaller invariant-loop decreases-loop
 loop-less-2 c = search rules
 
-loop-again-2 : tie.Need-loop-preserved-2 invariant-loop decreases-loop
+loop-again-2 : tie.Need-loop-i-preserved invariant-loop decreases-loop
 loop-again-2 c =
-    let v = c.before.before.before in (
-      omega (arith, v.before.loop.invariant.0),
-      v.before.loop.invariant.1 ∙ side-skips _ _ _ _ _ v.loop-test.true (held_of c.before false c.if1.false),
+    let v = c in (
+      omega (arith, v.loop-i.invariant.0),
+      v.loop-i.invariant.1 ∙ side-skips _ _ _ _ _ v.loop-i-test.true (held_of c false c.if-chosen-meant.false),
     )
 
-returns-2 : tie.Need-returns-2 invariant-loop decreases-loop
-returns-2 c = sym (c.before.loop.invariant.1 ∙ side-none _ _ _ _ _ c.loop-test.false)
+returns-2 : tie.Need-returns invariant-loop decreases-loop
+returns-2 c = sym (c.loop-i.invariant.1 ∙ side-none _ _ _ _ _ c.loop-i-test.false)
 
-pub side-keeps-spec : {M : Type 1} → statement M
-side-keeps-spec =
+pub side_keeps_spec : {M : Type 1} → statement M
+side_keeps_spec =
     tie.close
     (tie.spec
     invariant-loop

@@ -4,17 +4,17 @@ use Rattle.book.specs.Passes.{next_found}
 use Rattle.book.proofs.causes.next_found.Statement.{statement}
 use Rattle.book.proofs.causes.next_found.Tie as tie
 
-returns : tie.Need-returns
+returns : tie.Need-returns-then-before-ne0
 unfolding next_found
-returns c = rw (ne_eqb _ _ c.if1.true)
+returns c = rw (ne_eqb _ _ c.if-before-ne0.true)
 
-returns-2 : tie.Need-returns-2
+returns-2 : tie.Need-returns-then-holds
 unfolding next_found
-returns-2 c = rw (eq-eqb _ _ c.before.if1.false, c.if2.true)
+returns-2 c = rw (eq-eqb _ _ c.if-before-ne0.false, c.if-holds.true)
 
-returns-3 : tie.Need-returns-3
+returns-3 : tie.Need-returns-else-holds
 unfolding next_found
-returns-3 c = rw (eq-eqb _ _ c.before.if1.false, c.if2.false)
+returns-3 c = rw (eq-eqb _ _ c.if-before-ne0.false, c.if-holds.false)
 
-pub next-found-spec : {M : Type 1} → statement M
-next-found-spec = tie.close (tie.spec returns returns-2 returns-3)
+pub next_found_spec : {M : Type 1} → statement M
+next_found_spec = tie.close (tie.spec returns returns-2 returns-3)

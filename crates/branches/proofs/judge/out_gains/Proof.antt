@@ -9,71 +9,71 @@ use borrow.Author.Rules.{rules}
 use Rattle.branches.proofs.judge.out_gains.Statement.{statement}
 use Rattle.branches.proofs.judge.out_gains.Tie as tie
 
-abbrev invariant-loop : tie.invariant-loop
+abbrev invariant-loop : tie.invariant-loop-i
 invariant-loop blocks count at out gains₀ i₀ gains i = GainsTo blocks count at out i gains
 
-abbrev decreases-loop : tie.decreases-loop
+abbrev decreases-loop : tie.decreases-loop-i
 decreases-loop blocks count at out gains₀ i₀ gains i = count - i
 
 -- THE STATES on the way: the loop and the start behind the choice of the gain
-abbrev at-loop : tie.After-choose invariant-loop decreases-loop → tie.At-loop invariant-loop decreases-loop
-at-loop c = c.before.before.before.before
+abbrev at-loop : tie.After-choose-gain invariant-loop decreases-loop → tie.At-loop invariant-loop decreases-loop
+at-loop c = c
 
-abbrev start : tie.After-choose invariant-loop decreases-loop → tie.Start invariant-loop decreases-loop
+abbrev start : tie.After-choose-gain invariant-loop decreases-loop → tie.Start invariant-loop decreases-loop
 start c = (at-loop c).before.before.before
 
 -- the block's gain is a number of 32 bits
-gain-small : (c : tie.After-choose invariant-loop decreases-loop) → gain_at (start c).args.blocks.now (at-loop c).loop.i < 2 ^ 32
-gain-small c = omega (arith, (at-loop c).before.before.shared-slice-known.given (gain_column + (at-loop c).loop.i))
+gain-small : (c : tie.After-choose-gain invariant-loop decreases-loop) → gain_at (start c).args.blocks.now (at-loop c).loop-i.i < 2 ^ 32
+gain-small c = omega (arith, (at-loop c).shared_slice_known-1.given (gain_column + (at-loop c).loop-i.i))
 
-returns : tie.Need-returns invariant-loop decreases-loop
-returns c = (sym (gains-none _ _ _ _ c.if1.true), omega arith)
+returns : tie.Need-returns-then-out-eq0 invariant-loop decreases-loop
+returns c = (sym (gains-none _ _ _ _ c.if-out-eq0.true), omega arith)
 
-loop-holds : tie.Need-loop-init invariant-loop decreases-loop
-loop-holds c = gains-start _ _ _ _ c.before.before.requires.2
+loop-holds : tie.Need-loop-i-init invariant-loop decreases-loop
+loop-holds c = gains-start _ _ _ _ c.requires.2
 
-sub-k : tie.Need-overflow-sub-k invariant-loop decreases-loop
+sub-k : tie.Need-overflow_sub-k invariant-loop decreases-loop
 sub-k c = search rules
 
-is-out-requires : tie.Need-is-out-requires invariant-loop decreases-loop
+is-out-requires : tie.Need-is_out-requires invariant-loop decreases-loop
 is-out-requires c κs = search rules
 
-add-choose : tie.Need-overflow-add-choose invariant-loop decreases-loop
+add-choose : tie.Need-overflow_add-i invariant-loop decreases-loop
 add-choose c = search rules
 
-mul-choose : tie.Need-overflow-mul-choose invariant-loop decreases-loop
+mul-choose : tie.Need-offset_bounds-blocks-i invariant-loop decreases-loop
 mul-choose c = search rules
 
-shared-slice-read-choose : tie.Need-shared-slice-read-choose invariant-loop decreases-loop
+shared-slice-read-choose : tie.Need-bounds-blocks-i invariant-loop decreases-loop
 shared-slice-read-choose c = search rules
 
-choose-requires : tie.Need-choose-requires invariant-loop decreases-loop
+choose-requires : tie.Need-choose-gain-requires invariant-loop decreases-loop
 choose-requires c κs = search rules
 
-cast-gains : tie.Need-overflow-cast-gains invariant-loop decreases-loop
+cast-gains : tie.Need-overflow_cast-gains invariant-loop decreases-loop
 cast-gains c = search rules
 
-add-gains : tie.Need-overflow-add-gains invariant-loop decreases-loop
+add-gains : tie.Need-overflow_add-gains invariant-loop decreases-loop
 add-gains c =
-    let v = (at-loop c).loop.invariant in
+    let v = (at-loop c).loop-i.invariant in
     omega (arith, c.choose.type-inv, v.gains_fit, v.to, (start c).requires.1)
 
-add-i : tie.Need-overflow-add-i invariant-loop decreases-loop
+add-i : tie.Need-overflow_add-i-in-loop-i invariant-loop decreases-loop
 add-i c = search rules
 
-loop-less : tie.Need-loop-smaller invariant-loop decreases-loop
+loop-less : tie.Need-loop-i-smaller invariant-loop decreases-loop
 loop-less c = search rules
 
-loop-again : tie.Need-loop-preserved invariant-loop decreases-loop
+loop-again : tie.Need-loop-i-preserved invariant-loop decreases-loop
 loop-again c =
-    gains-next _ _ _ _ _ _ _ _ _ (at-loop c).loop.invariant c.before.before.before.loop-test.true (λ _ _. refl) (sym c.before.before.is-out.ensures)
-    c.choose.ensures (gain-small c)
+    gains-next _ _ _ _ _ _ _ _ _ (at-loop c).loop-i.invariant c.loop-i-test.true (λ _ _. refl) (sym c.is_out.ensures)
+    c.choose-gain.ensures (gain-small c)
 
-returns-2 : tie.Need-returns-2 invariant-loop decreases-loop
-returns-2 c = gains-all _ _ _ c.before.before.before.before.requires.1 _ _ _ c.before.loop.invariant c.loop-test.false
+returns-2 : tie.Need-returns invariant-loop decreases-loop
+returns-2 c = gains-all _ _ _ c.requires.1 _ _ _ c.loop-i.invariant c.loop-i-test.false
 
-pub out-gains-spec : {M : Type 1} → statement M
-out-gains-spec =
+pub out_gains_spec : {M : Type 1} → statement M
+out_gains_spec =
     tie.close
     (tie.spec
     invariant-loop

@@ -11,117 +11,114 @@ use borrow.Author.Rules.{rules}
 use Rattle.branches.proofs.judge.ruled_out.Statement.{statement}
 use Rattle.branches.proofs.judge.ruled_out.Tie as tie
 
-abbrev invariant-loop : tie.invariant-loop
+abbrev invariant-loop : tie.invariant-loop-i
 invariant-loop blocks count at set out high low r₀ gains₀ i₀ r gains i = RuledTo blocks count at set out high low i r gains
 
-abbrev decreases-loop : tie.decreases-loop
+abbrev decreases-loop : tie.decreases-loop-i
 decreases-loop blocks count at set out high low r₀ gains₀ i₀ r gains i = count - i
 
 -- THE STATES on the way: the loop and the start behind the choice of the bit, that choice behind the choice of the gain
-abbrev at-loop : tie.After-choose invariant-loop decreases-loop → tie.At-loop invariant-loop decreases-loop
-at-loop c = c.before.before.before.before.before.before.before
+abbrev at-loop : tie.After-choose-r invariant-loop decreases-loop → tie.At-loop invariant-loop decreases-loop
+at-loop c = c
 
-abbrev start : tie.After-choose invariant-loop decreases-loop → tie.Start invariant-loop decreases-loop
+abbrev start : tie.After-choose-r invariant-loop decreases-loop → tie.Start invariant-loop decreases-loop
 start c = (at-loop c).before.before.before.before
 
-abbrev chosen : tie.After-choose2 invariant-loop decreases-loop → tie.After-choose invariant-loop decreases-loop
-chosen c = c.before.before
+abbrev chosen : tie.After-choose invariant-loop decreases-loop → tie.After-choose-r invariant-loop decreases-loop
+chosen c = c
 
 -- what is added is the block's bit where it is out
-added : (c : tie.After-choose invariant-loop decreases-loop) → c.choose.result ≡ cond c.before.before.is-ruled-out.result (2 ^ ((at-loop c).loop.i - (start c).args.at)) 0
-added c = rw c.before.bit.ensures at c.choose.ensures
+added : (c : tie.After-choose-r invariant-loop decreases-loop) → c.choose-r.result ≡ cond c.is_ruled_out-test.result (2 ^ ((at-loop c).loop-i.i - (start c).args.at)) 0
+added c = rw c.bit.ensures at c.choose-r.ensures
 
-inside : (c : tie.After-choose invariant-loop decreases-loop) → (at-loop c).loop.i < (start c).args.count
-inside c = c.before.before.before.before.before.before.loop-test.true
+inside : (c : tie.After-choose-r invariant-loop decreases-loop) → (at-loop c).loop-i.i < (start c).args.count
+inside c = c.loop-i-test.true
 
 -- the block's gain is a number of 32 bits
-gain-small : (c : tie.After-choose2 invariant-loop decreases-loop) → gain_at (start (chosen c)).args.blocks.now (at-loop (chosen c)).loop.i < 2 ^ 32
-gain-small c = omega (arith, (at-loop (chosen c)).before.before.before.shared-slice-known.given (gain_column + (at-loop (chosen c)).loop.i))
+gain-small : (c : tie.After-choose invariant-loop decreases-loop) → gain_at (start (chosen c)).args.blocks.now (at-loop (chosen c)).loop-i.i < 2 ^ 32
+gain-small c = omega (arith, (at-loop (chosen c)).shared_slice_known-1.given (gain_column + (at-loop (chosen c)).loop-i.i))
 
-loop-holds : tie.Need-loop-init invariant-loop decreases-loop
-loop-holds c = ruled-start _ _ _ _ _ _ _ c.before.before.before.requires.2
+loop-holds : tie.Need-loop-i-init invariant-loop decreases-loop
+loop-holds c = ruled-start _ _ _ _ _ _ _ c.requires.2
 
-sub-k : tie.Need-overflow-sub-k invariant-loop decreases-loop
+sub-k : tie.Need-overflow_sub-k invariant-loop decreases-loop
 sub-k c = search rules
 
-add-is-gone : tie.Need-overflow-add-is-gone invariant-loop decreases-loop
+add-is-gone : tie.Need-overflow_add-i invariant-loop decreases-loop
 add-is-gone c = search rules
 
-mul-is-gone : tie.Need-overflow-mul-is-gone invariant-loop decreases-loop
+mul-is-gone : tie.Need-offset_bounds-blocks-i invariant-loop decreases-loop
 mul-is-gone c = search rules
 
-shared-slice-read-is-gone : tie.Need-shared-slice-read-is-gone invariant-loop decreases-loop
+shared-slice-read-is-gone : tie.Need-bounds-blocks-i invariant-loop decreases-loop
 shared-slice-read-is-gone c = search rules
 
-is-gone-requires : tie.Need-is-gone-requires invariant-loop decreases-loop
+is-gone-requires : tie.Need-is_gone-gone-requires invariant-loop decreases-loop
 is-gone-requires c κs =
-    let i = c.before.before.loop.i in
-    let p = c.before.before.before.before.before.before.requires in
-    let inside = c.before.loop-test.true in
+    let i = c.loop-i.i in
+    let p = c.requires in
+    let inside = c.loop-i-test.true in
     omega (arith, p.1, p.0.parents_fit i (omega arith))
 
-is-out-requires : tie.Need-is-out-requires invariant-loop decreases-loop
+is-out-requires : tie.Need-is_out-requires invariant-loop decreases-loop
 is-out-requires c κs = search rules
 
-is-ruled-out-requires : tie.Need-is-ruled-out-requires invariant-loop decreases-loop
+is-ruled-out-requires : tie.Need-is_ruled_out-test-requires invariant-loop decreases-loop
 is-ruled-out-requires c κs = search rules
 
-cast-bit : tie.Need-overflow-cast-bit invariant-loop decreases-loop
+cast-bit : tie.Need-overflow_cast-k invariant-loop decreases-loop
 cast-bit c = search rules
 
 bit-requires : tie.Need-bit-requires invariant-loop decreases-loop
 bit-requires c κs = search rules
 
-choose-requires : tie.Need-choose-requires invariant-loop decreases-loop
+choose-requires : tie.Need-choose-r-requires invariant-loop decreases-loop
 choose-requires c κs = search rules
 
-add_r : tie.Need-overflow-add-r invariant-loop decreases-loop
+add_r : tie.Need-overflow_add-r invariant-loop decreases-loop
 add_r c =
-    omega (arith, ruled-room _ _ _ _ _ _ _ (start c).requires.1 _ _ _ _ c.before.before.is-ruled-out.result (at-loop c).loop.invariant (inside c) (added c))
+    omega (arith, ruled-room _ _ _ _ _ _ _ (start c).requires.1 _ _ _ _ c.is_ruled_out-test.result (at-loop c).loop-i.invariant (inside c) (added c))
 
-add-choose : tie.Need-overflow-add-choose invariant-loop decreases-loop
+add-choose : tie.Need-overflow_add-i-in-loop-i invariant-loop decreases-loop
 add-choose c = search rules
 
-mul-choose : tie.Need-overflow-mul-choose invariant-loop decreases-loop
+mul-choose : tie.Need-offset_bounds-blocks-i-in-loop-i invariant-loop decreases-loop
 mul-choose c = search rules
 
-shared-slice-read-choose : tie.Need-shared-slice-read-choose invariant-loop decreases-loop
+shared-slice-read-choose : tie.Need-bounds-blocks-i-in-loop-i invariant-loop decreases-loop
 shared-slice-read-choose c = search rules
 
-choose-requires-2 : tie.Need-choose-requires-2 invariant-loop decreases-loop
+choose-requires-2 : tie.Need-choose-requires invariant-loop decreases-loop
 choose-requires-2 c κs = search rules
 
-cast-gains : tie.Need-overflow-cast-gains invariant-loop decreases-loop
+cast-gains : tie.Need-overflow_cast-gains invariant-loop decreases-loop
 cast-gains c = search rules
 
-add-gains : tie.Need-overflow-add-gains invariant-loop decreases-loop
+add-gains : tie.Need-overflow_add-gains invariant-loop decreases-loop
 add-gains c =
     let k = inside (chosen c) in
-    let v = (at-loop (chosen c)).loop.inv.gained in
+    let v = (at-loop (chosen c)).loop-i.inv.gained in
     omega (arith, c.choose2.type-inv, v.gains_fit, v.to, (start (chosen c)).pre.1)
 
-add-i : tie.Need-overflow-add-i invariant-loop decreases-loop
+add-i : tie.Need-overflow_add-i-in-loop-i-2 invariant-loop decreases-loop
 add-i c = search rules
 
-loop-less : tie.Need-loop-smaller invariant-loop decreases-loop
+loop-less : tie.Need-loop-i-smaller invariant-loop decreases-loop
 loop-less c = search rules
 
-loop-again : tie.Need-loop-preserved invariant-loop decreases-loop
+loop-again : tie.Need-loop-i-preserved invariant-loop decreases-loop
 loop-again c =
     let b = chosen c in
-    ruled-next _ _ _ _ _ _ _ (start b).pre.0.parents_fit (start b).pre.1 _ _ _ _ _ _ _ _ (at-loop b).loop.inv (inside b)
-    b.before.before.before.is-out.ensures b.before.before.before.before.is-gone.ensures b.before.before.is-ruled-out.ensures (added b)
-    c.choose2.ensures (gain-small c)
+    ruled-next _ _ _ _ _ _ _ (start b).pre.0.parents_fit (start b).pre.1 _ _ _ _ _ _ _ _ (at-loop b).loop-i.inv (inside b)
+    b.is_out.ensures b.is_gone-gone.ensures b.is_ruled_out-test.ensures (added b)
+    c.choose.ensures (gain-small c)
 
 returns : tie.Need-returns invariant-loop decreases-loop
 returns c =
-    let v = c.before.loop.invariant in (
-      ruled-all _ _ _ _ _ _ _ _ _ _ v c.loop-test.false,
-      gains-all _ _ _ c.before.before.before.before.before.requires.1 _ _ _ v.gained c.loop-test.false,
-    )
+    let v = c.loop-i.invariant in record { out = ruled-all _ _ _ _ _ _ _ _ _ _ v c.loop-i-test.false; gains = gains-all _ _ _ c.requires.1 _ _ _ v.gained c.loop-i-test.false }
 
-pub ruled-out-spec : {M : Type 1} → statement M
-ruled-out-spec =
+pub ruled_out_spec : {M : Type 1} → statement M
+ruled_out_spec =
     tie.close
     (tie.spec
     invariant-loop

@@ -7,59 +7,59 @@ use borrow.Author.Rules.{rules}
 use Rattle.branches.proofs.next.leave.Statement.{statement}
 use Rattle.branches.proofs.next.leave.Tie as tie
 
-add-moved-where : tie.Need-overflow-add-moved-where
+add-moved-where : tie.Need-overflow_add-i
 add-moved-where c = search rules
 
-mul-moved-where : tie.Need-overflow-mul-moved-where
+mul-moved-where : tie.Need-offset_bounds-blocks-i
 mul-moved-where c = search rules
 
-shared-slice-read-moved-where : tie.Need-shared-slice-read-moved-where
+shared-slice-read-moved-where : tie.Need-bounds-blocks-i
 shared-slice-read-moved-where c = search rules
 
-moved-where-requires : tie.Need-moved-where-requires
+moved-where-requires : tie.Need-moved_where-moved-requires
 moved-where-requires c κs =
-    let a = c.before.before.before in
+    let a = c in
     (a.requires.0, a.requires.1, λ i. omega (arith, a.requires.1, a.requires.2.places_fit i))
 
-add-t7 : tie.Need-overflow-add-t7
+add-t7 : tie.Need-overflow_add-result
 add-t7 c = search rules
 
-mul-t8 : tie.Need-overflow-mul-t8
+mul-t8 : tie.Need-offset_bounds-blocks-i-2
 mul-t8 c = search rules
 
-shared-slice-read-t10 : tie.Need-shared-slice-read-t10
+shared-slice-read-t10 : tie.Need-bounds-blocks-i-2
 shared-slice-read-t10 c = search rules
 
-cast-t13 : tie.Need-overflow-cast-t13
-cast-t13 c = omega (arith, c.shared-slice-known3.given (gain_column + c.before.before.before.before.before.args.at))
+cast-t13 : tie.Need-overflow_cast-result
+cast-t13 c = omega (arith, c.shared_slice_known-3-1.given (gain_column + c.args.at))
 
-add-t14 : tie.Need-overflow-add-t14
+add-t14 : tie.Need-overflow_add-result-2
 add-t14 c =
-    let a = c.before.before.before.before.before.before in
-    omega (arith, c.before.shared-slice-known3.given (gain_column + a.args.at), a.requires.2.loss_fits, a.requires.1)
+    let a = c in
+    omega (arith, c.shared_slice_known-3-1.given (gain_column + a.args.at), a.requires.2.loss_fits, a.requires.1)
 
-add-t15 : tie.Need-overflow-add-t15
+add-t15 : tie.Need-overflow_add-result-3
 add-t15 c = search rules
 
-mul-t16 : tie.Need-overflow-mul-t16
+mul-t16 : tie.Need-offset_bounds-blocks-i-3
 mul-t16 c = search rules
 
-shared-slice-read-t18 : tie.Need-shared-slice-read-t18
+shared-slice-read-t18 : tie.Need-bounds-blocks-i-3
 shared-slice-read-t18 c = search rules
 
-cast-t19 : tie.Need-overflow-cast-t19
-cast-t19 c = omega (arith, c.shared-slice-known4.given (rank_column + c.before.before.before.before.before.before.before.args.at))
+cast-t19 : tie.Need-overflow_cast-result-2
+cast-t19 c = omega (arith, c.shared_slice_known-4-1.given (rank_column + c.args.at))
 
-add-t20 : tie.Need-overflow-add-t20
+add-t20 : tie.Need-overflow_add-result-4
 add-t20 c =
-    let a = c.before.before.before.before.before.before.before.before in
-    omega (arith, c.before.shared-slice-known4.given (rank_column + a.args.at), a.requires.2.tie_fits, a.requires.1)
+    let a = c in
+    omega (arith, c.shared_slice_known-4-1.given (rank_column + a.args.at), a.requires.2.tie_fits, a.requires.1)
 
 returns : tie.Need-returns
 returns c =
-    let a = c.before.before.before.before.before.before.before.before in
-    let m = c.before.before.before.before.moved-where.ensures in
-    let words = c.before.shared-slice-known4.given in
+    let a = c in
+    let m = c.moved_where-moved.ensures in
+    let words = c.shared_slice_known-4-1.given in
     node-left _ _ _ _ a.requires.0 a.requires.2 m.0 (omega (arith, words (gain_column + a.args.at))) (omega (arith, words (rank_column + a.args.at))) m.1
 
 pub leave_spec : {M : Type 1} → statement M

@@ -7,51 +7,51 @@ use borrow.Author.Rules.{rules}
 use Rattle.branches.proofs.next.take.Statement.{statement}
 use Rattle.branches.proofs.next.take.Tie as tie
 
-add-moved-where : tie.Need-overflow-add-moved-where
+add-moved-where : tie.Need-overflow_add-i
 add-moved-where c = search rules
 
-mul-moved-where : tie.Need-overflow-mul-moved-where
+mul-moved-where : tie.Need-offset_bounds-blocks-i
 mul-moved-where c = search rules
 
-shared-slice-read-moved-where : tie.Need-shared-slice-read-moved-where
+shared-slice-read-moved-where : tie.Need-bounds-blocks-i
 shared-slice-read-moved-where c = search rules
 
-moved-where-requires : tie.Need-moved-where-requires
+moved-where-requires : tie.Need-moved_where-moved-requires
 moved-where-requires c κs =
-    let a = c.before.before.before in
+    let a = c in
     (a.requires.0, a.requires.1, λ i. omega (arith, a.requires.1, a.requires.2.places_fit i))
 
 bit-requires : tie.Need-bit-requires
 bit-requires c κs = search rules
 
-add-t12 : tie.Need-overflow-add-t12
+add-t12 : tie.Need-overflow_add-result
 add-t12 c =
-    let a = c.before.before.before.before.before.before in
-    record { fits = set_room a.args.at _ _ a.requires.1 a.requires.2.set_fits c.before.bit.ensures }
+    let a = c in
+    record { fits = set_room a.args.at _ _ a.requires.1 a.requires.2.set_fits c.bit.ensures }
 
-add-t7 : tie.Need-overflow-add-t7
+add-t7 : tie.Need-overflow_add-result-2
 add-t7 c = search rules
 
-mul-t8 : tie.Need-overflow-mul-t8
+mul-t8 : tie.Need-offset_bounds-blocks-i-2
 mul-t8 c = search rules
 
-shared-slice-read-t14 : tie.Need-shared-slice-read-t14
+shared-slice-read-t14 : tie.Need-bounds-blocks-i-2
 shared-slice-read-t14 c = search rules
 
-cast-t15 : tie.Need-overflow-cast-t15
-cast-t15 c = omega (arith, c.shared-slice-known3.given (against_column + c.before.before.before.before.before.before.before.args.at))
+cast-t15 : tie.Need-overflow_cast-result
+cast-t15 c = omega (arith, c.shared_slice_known-3-1.given (against_column + c.args.at))
 
-add-t16 : tie.Need-overflow-add-t16
+add-t16 : tie.Need-overflow_add-result-3
 add-t16 c =
-    let a = c.before.before.before.before.before.before.before.before in
-    omega (arith, c.before.shared-slice-known3.given (against_column + a.args.at), a.requires.2.loss_fits, a.requires.1)
+    let a = c in
+    omega (arith, c.shared_slice_known-3-1.given (against_column + a.args.at), a.requires.2.loss_fits, a.requires.1)
 
 returns : tie.Need-returns
 returns c =
-    let a = c.before.before.before.before.before.before.before.before in
-    let m = c.before.before.before.before.moved-where.ensures in
-    node-taken _ _ _ _ a.requires.0 a.requires.2 m.0 _ c.before.before.before.bit.ensures
-    (omega (arith, c.before.shared-slice-known3.given (against_column + a.args.at))) m.1
+    let a = c in
+    let m = c.moved_where-moved.ensures in
+    node-taken _ _ _ _ a.requires.0 a.requires.2 m.0 _ c.bit.ensures
+    (omega (arith, c.shared_slice_known-3-1.given (against_column + a.args.at))) m.1
 
 pub take_spec : {M : Type 1} → statement M
 take_spec =

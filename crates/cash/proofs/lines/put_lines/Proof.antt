@@ -8,47 +8,47 @@ use Rattle.cash.proofs.lines.put_lines.Tie as tie
 slice-aggregate-put-text : tie.Need-slice-aggregate-put-text
 slice-aggregate-put-text c = search rules
 
-put-text-requires : tie.Need-put-text-requires
+put-text-requires : tie.Need-put_text-lines_at-requires
 unfolding text
 put-text-requires c κs =
-    let start = c.before.before.before.before in
+    let start = c in
     room-title start.args.accounts.now _ start.requires.1
 
-put-portfolios-requires : tie.Need-put-portfolios-requires
+put-portfolios-requires : tie.Need-put_portfolios-totals_at-requires
 unfolding text
 put-portfolios-requires c κs =
-    let start = c.before.before.before.before.before.before.before.before in
-    (start.requires.0, room-lines start.args.accounts.now _ start.requires.1 _ _ c.before.before.before.put-text.ensures)
+    let start = c in
+    (start.requires.0, room-lines start.args.accounts.now _ start.requires.1 _ _ c.put_text-lines_at.ensures)
 
 slice-aggregate-put-text-2 : tie.Need-slice-aggregate-put-text-2
 slice-aggregate-put-text-2 c = search rules
 
-put-text-requires-2 : tie.Need-put-text-requires-2
+put-text-requires-2 : tie.Need-put_text-behind_word-requires
 unfolding text
 put-text-requires-2 c κs =
-    let start = c.before.before.before.before.before.before.before.before.before.before.before.before.before in
-    room_word start.args.accounts.now _ start.requires.1 _ _ c.before.before.before.before.before.before.before.before.put-text.ensures _ _ c.before.before.before.before.put-portfolios.ensures
+    let start = c in
+    room_word start.args.accounts.now _ start.requires.1 _ _ c.put_text-lines_at.ensures _ _ c.put_portfolios-totals_at.ensures
 
-put-cash-requires : tie.Need-put-cash-requires
+put-cash-requires : tie.Need-put_cash-requires
 unfolding text
 put-cash-requires c κs =
-    let start = c.before.before.before.before.before.before.before.before.before.before.before.before.before.before.before.before.before in (
+    let start = c in (
       start.requires.0,
-      room-totals start.args.accounts.now _ start.requires.1 _ _ c.before.before.before.before.before.before.before.before.before.before.before.before.put-text.ensures _ _ c.before.before.before.before.before.before.before.before.put-portfolios.ensures _ _ c.before.before.before.put-text2.ensures,
+      room-totals start.args.accounts.now _ start.requires.1 _ _ c.put_text-lines_at.ensures _ _ c.put_portfolios-totals_at.ensures _ _ c.put_text-behind_word.ensures,
     )
 
-same_length : tie.Need-same-length
+same_length : tie.Need-shape_of-out
 same_length c = search rules
 
 returns : tie.Need-returns
 unfolding text
 returns c =
-    let start = c.before.before.before.before.before.before.before.before.before.before.before.before.before.before.before.before.before.before.before.before in
-    put_all start.args.accounts.now _ start.requires.1 _ _ c.before.before.before.before.before.before.before.before.before.before.before.before.before.before.before.put-text.ensures _ _ c.before.before.before.before.before.before.before.before.before.before.before.put-portfolios.ensures _ _ c.before.before.before.before.before.before.put-text2.ensures _ _
-    c.before.before.put-cash.ensures
+    let start = c in
+    put_all start.args.accounts.now _ start.requires.1 _ _ c.put_text-lines_at.ensures _ _ c.put_portfolios-totals_at.ensures _ _ c.put_text-behind_word.ensures _ _
+    c.put_cash.ensures
 
-pub put-lines-spec : {M : Type 1} → statement M
-put-lines-spec =
+pub put_lines_spec : {M : Type 1} → statement M
+put_lines_spec =
     tie.close
     (tie.spec
     slice-aggregate-put-text

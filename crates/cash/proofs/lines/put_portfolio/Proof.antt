@@ -5,38 +5,38 @@ use borrow.Author.Rules.{rules}
 use Rattle.cash.proofs.lines.put_portfolio.Statement.{statement}
 use Rattle.cash.proofs.lines.put_portfolio.Tie as tie
 
-number-in-requires : tie.Need-number-in-requires
+number-in-requires : tie.Need-number_in-requires
 number-in-requires c κs = search rules
 
-returns : tie.Need-returns
+returns : tie.Need-returns-then-number_in-eq0
 returns c =
-    let start = c.before.before.before.before in
-    let none = sym c.before.number_in.ensures ∙ c.if1.true in
+    let start = c in
+    let none = sym c.number_in.ensures ∙ c.if-number_in-eq0.true in
     rw (line-none start.args.accounts.now start.args.p none) (put-none _ _)
 
-put-field-requires : tie.Need-put-field-requires
+put-field-requires : tie.Need-put_field-behind_number-requires
 put-field-requires c κs =
-    let start = c.before.before.before.before.before in
-    let some = rw c.before.before.number_in.ensures at c.before.if1.false in
+    let start = c in
+    let some = rw c.number_in.ensures at c.if-number_in-eq0.false in
     room-number start.args.accounts.now start.args.p some _ _ start.requires.1
 
-put-cash-requires : tie.Need-put-cash-requires
+put-cash-requires : tie.Need-put_cash-requires
 put-cash-requires c κs =
-    let start = c.before.before.before.before.before.before.before.before.before in
-    let some = rw c.before.before.before.before.before.before.number_in.ensures at c.before.before.before.before.before.if1.false in
-    (start.requires.0, room-cash start.args.accounts.now start.args.p some _ _ start.requires.1 _ _ c.before.before.before.put-field.ensures)
+    let start = c in
+    let some = rw c.number_in.ensures at c.if-number_in-eq0.false in
+    (start.requires.0, room-cash start.args.accounts.now start.args.p some _ _ start.requires.1 _ _ c.put_field-behind_number.ensures)
 
-same_length : tie.Need-same-length
+same_length : tie.Need-shape_of-out
 same_length c = search rules
 
-returns-2 : tie.Need-returns-2
+returns-2 : tie.Need-returns
 returns-2 c =
-    let start = c.before.before.before.before.before.before.before.before.before.before.before.before in
-    let some = rw c.before.before.before.before.before.before.before.before.before.number_in.ensures at c.before.before.before.before.before.before.before.before.if1.false in
-    put-line start.args.accounts.now start.args.p some _ _ start.requires.1 _ _ c.before.before.before.before.before.before.put-field.ensures _ _ c.before.before.put-cash.ensures
+    let start = c in
+    let some = rw c.number_in.ensures at c.if-number_in-eq0.false in
+    put-line start.args.accounts.now start.args.p some _ _ start.requires.1 _ _ c.put_field-behind_number.ensures _ _ c.put_cash.ensures
 
-pub put-portfolio-spec : {M : Type 1} → statement M
-put-portfolio-spec =
+pub put_portfolio_spec : {M : Type 1} → statement M
+put_portfolio_spec =
     tie.close
     (tie.spec
     number-in-requires

@@ -9,70 +9,70 @@ use borrow.Author.Rules.{rules}
 use Rattle.chains.proofs.links.has_block.Statement.{statement}
 use Rattle.chains.proofs.links.has_block.Tie as tie
 
-abbrev invariant-loop : tie.invariant-loop
+abbrev invariant-loop : tie.invariant-loop-left
 invariant-loop book number left₀ i₀ left i = some_in (chain book i₀) (is_number book number) ≡ some_in (chain_from left book i) (is_number book number)
 
-abbrev decreases-loop : tie.decreases-loop
+abbrev decreases-loop : tie.decreases-loop-left
 decreases-loop book number left₀ i₀ left i = left
 
-record-count-requires : tie.Need-record-count-requires invariant-loop decreases-loop
+record-count-requires : tie.Need-record_count-left-requires invariant-loop decreases-loop
 record-count-requires c κs = search rules
 
-first-block-requires : tie.Need-first-block-requires invariant-loop decreases-loop
+first-block-requires : tie.Need-first_block-i-requires invariant-loop decreases-loop
 first-block-requires c κs = search rules
 
-loop-holds : tie.Need-loop-init invariant-loop decreases-loop
-loop-holds c = rw c.before.record-count.ensures
+loop-holds : tie.Need-loop-left-init invariant-loop decreases-loop
+loop-holds c = rw c.record_count-left.ensures
 
-returns : tie.Need-returns invariant-loop decreases-loop
+returns : tie.Need-returns-then-i-eq0 invariant-loop decreases-loop
 unfolding has_block block_order some_in
 returns c =
-    let v = c.before.before in
-    sym (rw (chain-end _ _ _ c.if1.true, v.before.First-Block.ensures) at v.loop.invariant)
+    let v = c in
+    sym (rw (chain-end _ _ _ c.if-i-eq0.true, v.before.First-Block.ensures) at v.loop-left.invariant)
 
-number-of-requires : tie.Need-number-of-requires invariant-loop decreases-loop
+number-of-requires : tie.Need-number_of-requires invariant-loop decreases-loop
 number-of-requires c κs = search rules
 
-returns-2 : tie.Need-returns-2 invariant-loop decreases-loop
+returns-2 : tie.Need-returns-then-number_of-number invariant-loop decreases-loop
 unfolding has_block block_order is_number some_in
 returns-2 c =
-    let u = c.before in
-    let v = u.before.before.before in
+    let u = c in
+    let v = u in
     sym (rw (
-      chain_more _ _ _ u.before.before.loop-test.true u.before.if1.false,
+      chain_more _ _ _ u.loop-left-test.true u.if-i-eq0.false,
       v.before.First-Block.ensures,
-      ← u.number_of_lem.ensures,
-      eq-eqb _ _ c.if2.true,
-    ) at v.loop.invariant)
+      ← u.number_of.ensures,
+      eq-eqb _ _ c.if-number_of-number.true,
+    ) at v.loop-left.invariant)
 
-next-of-requires : tie.Need-next-of-requires invariant-loop decreases-loop
+next-of-requires : tie.Need-next_of-i-requires invariant-loop decreases-loop
 next-of-requires c κs = search rules
 
-sub-left : tie.Need-overflow-sub-left invariant-loop decreases-loop
+sub-left : tie.Need-overflow_sub-left invariant-loop decreases-loop
 sub-left c = search rules
 
-loop-less : tie.Need-loop-smaller invariant-loop decreases-loop
+loop-less : tie.Need-loop-left-smaller invariant-loop decreases-loop
 loop-less c = search rules
 
-loop-again : tie.Need-loop-preserved invariant-loop decreases-loop
+loop-again : tie.Need-loop-left-preserved invariant-loop decreases-loop
 unfolding is_number some_in
 loop-again c =
-    let u = c.before.before in
-    let v = u.before.before.before in
-    v.loop.invariant
+    let u = c in
+    let v = u in
+    v.loop-left.invariant
     ∙ rw (
-      chain_more _ _ _ u.before.before.loop-test.true u.before.if1.false,
-      ← u.number_of_lem.ensures,
-      ne_eqb _ _ c.before.if2.false,
-      c.next_of.ensures,
+      chain_more _ _ _ u.loop-left-test.true u.if-i-eq0.false,
+      ← u.number_of.ensures,
+      ne_eqb _ _ c.if-number_of-number.false,
+      c.next_of-i.ensures,
     )
 
-returns-3 : tie.Need-returns-3 invariant-loop decreases-loop
+returns-3 : tie.Need-returns invariant-loop decreases-loop
 unfolding has_block block_order some_in
-returns-3 c = let v = c.before in sym (rw (chain-none _ _ _ c.loop-test.false, v.before.First-Block.ensures) at v.loop.invariant)
+returns-3 c = let v = c in sym (rw (chain-none _ _ _ c.loop-left-test.false, v.before.First-Block.ensures) at v.loop-left.invariant)
 
-pub has-block-spec : {M : Type 1} → statement M
-has-block-spec =
+pub has_block_spec : {M : Type 1} → statement M
+has_block_spec =
     tie.close
     (tie.spec
     invariant-loop

@@ -9,103 +9,103 @@ use borrow.Author.Rules.{rules}
 use Rattle.chains.proofs.steps.has_more_steps.Statement.{statement}
 use Rattle.chains.proofs.steps.has_more_steps.Tie as tie
 
-abbrev invariant-loop : tie.invariant-loop
+abbrev invariant-loop : tie.invariant-loop-left
 invariant-loop book counts₀ left₀ i₀ counts left i = Counted book counts left i
 
-abbrev decreases-loop : tie.decreases-loop
+abbrev decreases-loop : tie.decreases-loop-left
 decreases-loop book counts₀ left₀ i₀ counts left i = left
 
-record-count-requires : tie.Need-record-count-requires invariant-loop decreases-loop
+record-count-requires : tie.Need-record_count-left-requires invariant-loop decreases-loop
 record-count-requires c κs = search rules
 
-first-step-requires : tie.Need-first-step-requires invariant-loop decreases-loop
+first-step-requires : tie.Need-first_step-i-requires invariant-loop decreases-loop
 first-step-requires c κs = search rules
 
-loop-holds : tie.Need-loop-init invariant-loop decreases-loop
-loop-holds c = counting-starts _ _ _ c.before.record-count.ensures c.first_step.ensures
+loop-holds : tie.Need-loop-left-init invariant-loop decreases-loop
+loop-holds c = counting-starts _ _ _ c.record_count-left.ensures c.first_step-i.ensures
 
-returns : tie.Need-returns invariant-loop decreases-loop
-returns c = let v = c.before.before in sym (counting-ends _ _ _ _ v.loop.invariant (chain-end _ _ _ c.if1.true))
+returns : tie.Need-returns-then-i-eq0 invariant-loop decreases-loop
+returns c = let v = c in sym (counting-ends _ _ _ _ v.loop-left.invariant (chain-end _ _ _ c.if-i-eq0.true))
 
-hour-byte-requires : tie.Need-hour-byte-requires invariant-loop decreases-loop
+hour-byte-requires : tie.Need-hour_byte-hour-requires invariant-loop decreases-loop
 hour-byte-requires c κs = search rules
 
-cast-hour : tie.Need-overflow-cast-hour invariant-loop decreases-loop
+cast-hour : tie.Need-overflow_cast-hour invariant-loop decreases-loop
 cast-hour c = search rules
 
-mul_at : tie.Need-overflow-mul-at invariant-loop decreases-loop
+mul_at : tie.Need-overflow_mul-at invariant-loop decreases-loop
 mul_at c = search rules
 
-portfolio-of-requires : tie.Need-portfolio-of-requires invariant-loop decreases-loop
+portfolio-of-requires : tie.Need-portfolio_of-requires invariant-loop decreases-loop
 portfolio-of-requires c κs = search rules
 
-cast-at : tie.Need-overflow-cast-at invariant-loop decreases-loop
+cast-at : tie.Need-overflow_cast-at invariant-loop decreases-loop
 cast-at c = search rules
 
-add_at : tie.Need-overflow-add-at invariant-loop decreases-loop
+add_at : tie.Need-overflow_add-at invariant-loop decreases-loop
 add_at c = search rules
 
-mul-if3 : tie.Need-overflow-mul-if3 invariant-loop decreases-loop
+mul-if3 : tie.Need-offset_bounds-counts-at invariant-loop decreases-loop
 mul-if3 c = search rules
 
-array-read-if3 : tie.Need-array-read-if3 invariant-loop decreases-loop
+array-read-if3 : tie.Need-bounds-counts-at invariant-loop decreases-loop
 array-read-if3 c = search rules
 
-returns-2 : tie.Need-returns-2 invariant-loop decreases-loop
+returns-2 : tie.Need-returns-then-counts-at-ge-MOST_STEPS_IN_HOUR invariant-loop decreases-loop
 returns-2 c =
-    let owner = c.before in
-    let row = owner.before in
-    let hour = row.before in
-    let more = hour.before in
-    let test = more.before in
-    let v = test.before.loop in
-    sym (counting-over _ v.counts v.left v.i hour.hour-byte.result owner.portfolio-of.result v.invariant test.loop-test.true more.if1.false
-    hour.hour-byte.ensures owner.portfolio-of.ensures row.if2.true (search rules) (omega (arith, c.if3.true)))
+    let owner = c in
+    let row = owner in
+    let hour = row in
+    let more = hour in
+    let test = more in
+    let v = test.loop-left in
+    sym (counting-over _ v.counts v.left v.i hour.hour_byte-hour.result owner.portfolio_of.result v.invariant test.loop-left-test.true more.if-i-eq0.false
+    hour.hour_byte-hour.ensures owner.portfolio_of.ensures row.if-hour-lt-HOUR_NUMBERS.true (search rules) (omega (arith, c.if-counts-at-ge-MOST_STEPS_IN_HOUR.true)))
 
-mul-counts : tie.Need-overflow-mul-counts invariant-loop decreases-loop
+mul-counts : tie.Need-offset_bounds-counts-at-then-hour-lt-HOUR_NUMBERS invariant-loop decreases-loop
 mul-counts c = search rules
 
-array-read-counts : tie.Need-array-read-counts invariant-loop decreases-loop
+array-read-counts : tie.Need-bounds-counts-at-then-hour-lt-HOUR_NUMBERS invariant-loop decreases-loop
 array-read-counts c = search rules
 
-add-counts : tie.Need-overflow-add-counts invariant-loop decreases-loop
+add-counts : tie.Need-overflow_add-counts invariant-loop decreases-loop
 add-counts c =
-    let owner = c.before in
-    let hour = owner.before.before in
-    let v = hour.before.before.before.loop in
-    record { fits = omega (arith, v.invariant.within hour.hour-byte.result owner.portfolio-of.result owner.before.if2.true (search rules)) }
+    let owner = c in
+    let hour = owner in
+    let v = hour.loop-left in
+    record { fits = omega (arith, v.invariant.within hour.hour_byte-hour.result owner.portfolio_of.result owner.if-hour-lt-HOUR_NUMBERS.true (search rules)) }
 
-array-write-counts : tie.Need-array-write-counts invariant-loop decreases-loop
+array-write-counts : tie.Need-bounds-counts-at-then-hour-lt-HOUR_NUMBERS-2 invariant-loop decreases-loop
 array-write-counts c = search rules
 
-next-of-requires : tie.Need-next-of-requires invariant-loop decreases-loop
+next-of-requires : tie.Need-next_of-i-requires invariant-loop decreases-loop
 next-of-requires c κs = search rules
 
-sub-left : tie.Need-overflow-sub-left invariant-loop decreases-loop
+sub-left : tie.Need-overflow_sub-left invariant-loop decreases-loop
 sub-left c = search rules
 
-loop-less : tie.Need-loop-smaller invariant-loop decreases-loop
+loop-less : tie.Need-loop-left-smaller invariant-loop decreases-loop
 loop-less c = search rules
 
-loop-again : tie.Need-loop-preserved invariant-loop decreases-loop
+loop-again : tie.Need-loop-left-preserved invariant-loop decreases-loop
 loop-again c =
-    let j = c.before in
-    let hour = j.before in
-    let more = hour.before in
-    let test = more.before in
-    let v = test.before.loop in
+    let j = c in
+    let hour = j in
+    let more = hour in
+    let test = more in
+    let v = test.loop-left in
     ⊎_elim
-    (λ w. rw w.3 (counting_more _ v.counts v.left v.i _ _ _ v.invariant test.loop-test.true more.if1.false
-    hour.hour-byte.ensures w.1.ensures w.0.taken (search rules) w.2.left c.next_of.ensures))
-    (λ w. rw w.1 (counting-passes _ v.counts v.left v.i _ _ v.invariant test.loop-test.true more.if1.false
-    hour.hour-byte.ensures w.0.left c.next_of.ensures))
-    j.if2.branch
+    (λ w. rw w.3 (counting_more _ v.counts v.left v.i _ _ _ v.invariant test.loop-left-test.true more.if-i-eq0.false
+    hour.hour_byte-hour.ensures w.1.ensures w.0.taken (search rules) w.2.left c.next_of-i.ensures))
+    (λ w. rw w.1 (counting-passes _ v.counts v.left v.i _ _ v.invariant test.loop-left-test.true more.if-i-eq0.false
+    hour.hour_byte-hour.ensures w.0.left c.next_of-i.ensures))
+    j.if-hour-lt-HOUR_NUMBERS.branch
 
-returns-3 : tie.Need-returns-3 invariant-loop decreases-loop
-returns-3 c = let v = c.before in sym (counting-ends _ _ _ _ v.loop.invariant (chain-none _ _ _ c.loop-test.false))
+returns-3 : tie.Need-returns invariant-loop decreases-loop
+returns-3 c = let v = c in sym (counting-ends _ _ _ _ v.loop-left.invariant (chain-none _ _ _ c.loop-left-test.false))
 
-pub has-more-steps-spec : {M : Type 1} → statement M
-has-more-steps-spec =
+pub has_more_steps_spec : {M : Type 1} → statement M
+has_more_steps_spec =
     tie.close
     (tie.spec
     invariant-loop

@@ -23,46 +23,46 @@ other b (record_of.Block s) h = absurd (⊎_elim (λ e. omega arith) (λ e. omeg
 other b (record_of.Link l) h = refl
 other b record_of.Other h = refl
 
-day-hours-requires : tie.Need-day-hours-requires
+day-hours-requires : tie.Need-day_hours-day-requires
 day-hours-requires c κs = search rules
 
-record-at-requires : tie.Need-record-at-requires
+record-at-requires : tie.Need-record_at-found-requires
 record-at-requires c κs = search rules
 
-enum-known-found : tie.Need-enum-known-found
+enum-known-found : tie.Need-enum_known-found
 enum-known-found c = search rules
 
-cast-is-counted : tie.Need-overflow-cast-is-counted
+cast-is-counted : tie.Need-overflow_cast-step
 cast-is-counted c = search rules
 
-is-counted-requires : tie.Need-is-counted-requires
+is-counted-requires : tie.Need-is_counted-requires
 is-counted-requires c κs = search rules
 
-enum-known-found-2 : tie.Need-enum-known-found-2
+enum-known-found-2 : tie.Need-enum_known-found-in-Block-1
 enum-known-found-2 c = search rules
 
-counted-hours-requires : tie.Need-counted-hours-requires
+counted-hours-requires : tie.Need-counted_hours-requires
 counted-hours-requires c κs = search rules
 
-returns : tie.Need-returns
+returns : tie.Need-returns-in-Step
 unfolding uncounted
 returns c =
-    let arm = c.before.before.before in
-    let record-read = arm.before.before in
-    rw (sym record-read.record-at.ensures ∙ arm.found.given.1, c.is-counted.ensures, record-read.before.day-hours.ensures)
+    let arm = c in
+    let record-read = arm in
+    rw (sym record-read.record_at-found.ensures ∙ arm.found-1.given.1, c.is_counted.ensures, record-read.day_hours-day.ensures)
 
-returns-2 : tie.Need-returns-2
+returns-2 : tie.Need-returns-in-Block
 unfolding uncounted
 returns-2 c =
-    let arm = c.before.before in
-    let record-read = arm.before.before in
-    rw (sym record-read.record-at.ensures ∙ arm.found2.given.1, c.counted-hours.ensures, record-read.before.day-hours.ensures)
+    let arm = c in
+    let record-read = arm in
+    rw (sym record-read.record_at-found.ensures ∙ arm.found-in-Block-1.given.1, c.counted_hours.ensures, record-read.day_hours-day.ensures)
 
-returns-3 : tie.Need-returns-3
-returns-3 c = rw (← c.before.record-at.ensures) (other _ c.before.record-at.result c.match.keys3)
+returns-3 : tie.Need-returns-in-Link
+returns-3 c = rw (← c.record_at-found.ensures) (other _ c.record_at-found.result c.match.keys3)
 
-pub is-uncounted-spec : {M : Type 1} → statement M
-is-uncounted-spec =
+pub is_uncounted_spec : {M : Type 1} → statement M
+is_uncounted_spec =
     tie.close
     (tie.spec
     day-hours-requires

@@ -3,34 +3,34 @@ use borrow.Author.Rules.{rules}
 use Rattle.chains.proofs.walks.first_on.Statement.{statement}
 use Rattle.chains.proofs.walks.first_on.Tie as tie
 
-enum_told : tie.Need-enum-told
+enum_told : tie.Need-enum_told-1
 enum_told c = search rules
 
-first-step-requires : tie.Need-first-step-requires
+first-step-requires : tie.Need-first_step-requires
 first-step-requires c κs = search rules
 
-enum-told-2 : tie.Need-enum-told-2
+enum-told-2 : tie.Need-enum_told-in-Blocks
 enum-told-2 c = search rules
 
-first-block-requires : tie.Need-first-block-requires
+first-block-requires : tie.Need-first_block-requires
 first-block-requires c κs = search rules
 
-enum-told-3 : tie.Need-enum-told-3
+enum-told-3 : tie.Need-enum_told-in-Links
 enum-told-3 c = search rules
 
-first-link-requires : tie.Need-first-link-requires
+first-link-requires : tie.Need-first_link-requires
 first-link-requires c κs = search rules
 
-returns : tie.Need-returns
-returns c = rw c.before.enum_told.given.1 c.first_step.ensures
+returns : tie.Need-returns-in-Steps
+returns c = rw c.enum_told-1.given.1 c.first_step.ensures
 
-returns-2 : tie.Need-returns-2
-returns-2 c = rw c.before.enum-told2.given.1 c.First-Block.ensures
+returns-2 : tie.Need-returns-in-Blocks
+returns-2 c = rw c.enum_told-in-Blocks-1.given.1 c.First-Block.ensures
 
-returns-3 : tie.Need-returns-3
-returns-3 c = rw c.before.enum-told3.given.1 c.first-link.ensures
+returns-3 : tie.Need-returns-in-Links
+returns-3 c = rw c.enum_told-in-Links-1.given.1 c.first_link.ensures
 
-pub first-on-spec : {M : Type 1} → statement M
-first-on-spec =
+pub first_on_spec : {M : Type 1} → statement M
+first_on_spec =
     tie.close
     (tie.spec enum_told first-step-requires enum-told-2 first-block-requires enum-told-3 first-link-requires returns returns-2 returns-3)

@@ -3,23 +3,23 @@ use borrow.Author.Rules.{rules}
 use Rattle.chains.proofs.walks.is_numbered.Statement.{statement}
 use Rattle.chains.proofs.walks.is_numbered.Tie as tie
 
-enum_told : tie.Need-enum-told
+enum_told : tie.Need-enum_told-1
 enum_told c = search rules
 
-enum-told-2 : tie.Need-enum-told-2
+enum-told-2 : tie.Need-enum_told-in-Blocks
 enum-told-2 c = search rules
 
-enum-told-3 : tie.Need-enum-told-3
+enum-told-3 : tie.Need-enum_told-in-Links
 enum-told-3 c = search rules
 
-returns : tie.Need-returns
-returns c = rw c.enum_told.given.1
+returns : tie.Need-returns-in-Steps
+returns c = rw c.enum_told-1.given.1
 
-returns-2 : tie.Need-returns-2
-returns-2 c = rw c.enum-told2.given.1
+returns-2 : tie.Need-returns-in-Blocks
+returns-2 c = rw c.enum_told-in-Blocks-1.given.1
 
-returns-3 : tie.Need-returns-3
-returns-3 c = rw c.enum-told3.given.1
+returns-3 : tie.Need-returns-in-Links
+returns-3 c = rw c.enum_told-in-Links-1.given.1
 
-pub is-numbered-spec : {M : Type 1} → statement M
-is-numbered-spec = tie.close (tie.spec enum_told enum-told-2 enum-told-3 returns returns-2 returns-3)
+pub is_numbered_spec : {M : Type 1} → statement M
+is_numbered_spec = tie.close (tie.spec enum_told enum-told-2 enum-told-3 returns returns-2 returns-3)

@@ -5,36 +5,36 @@ use borrow.Author.Rules.{rules}
 use Rattle.clearing.proofs.publish.block_worth.Statement.{statement}
 use Rattle.clearing.proofs.publish.block_worth.Tie as tie
 
-counted-hours-requires : tie.Need-counted-hours-requires
+counted-hours-requires : tie.Need-counted_hours-requires
 counted-hours-requires c κs = search rules
 
-mul-limit : tie.Need-overflow-mul-limit
+mul-limit : tie.Need-overflow_mul-limit
 mul-limit c =
-    let s = c.before.before in
-    record { fits = omega (arith, (worth-fits s.args.day s.args.price s.args.quantity s.args.hours s.requires.0 s.requires.1 s.requires.2 _ c.counted-hours.ensures).0) }
+    let s = c in
+    record { fits = omega (arith, (worth-fits s.args.day s.args.price s.args.quantity s.args.hours s.requires.0 s.requires.1 s.requires.2 _ c.counted_hours.ensures).0) }
 
-mul-result : tie.Need-overflow-mul-result
+mul-result : tie.Need-overflow_mul-result
 mul-result c =
-    let s = c.before.before in
-    record { fits = omega (arith, (worth-fits s.args.day s.args.price s.args.quantity s.args.hours s.requires.0 s.requires.1 s.requires.2 _ c.counted-hours.ensures).1) }
+    let s = c in
+    record { fits = omega (arith, (worth-fits s.args.day s.args.price s.args.quantity s.args.hours s.requires.0 s.requires.1 s.requires.2 _ c.counted_hours.ensures).1) }
 
-cast-result : tie.Need-overflow-cast-result
+cast-result : tie.Need-overflow_cast-result
 cast-result c =
-    let s = c.before.before in
-    record { fits = omega (arith, (worth-fits s.args.day s.args.price s.args.quantity s.args.hours s.requires.0 s.requires.1 s.requires.2 _ c.counted-hours.ensures).1) }
+    let s = c in
+    record { fits = omega (arith, (worth-fits s.args.day s.args.price s.args.quantity s.args.hours s.requires.0 s.requires.1 s.requires.2 _ c.counted_hours.ensures).1) }
 
-returns : tie.Need-returns
+returns : tie.Need-returns-then-chosen-eq1
 returns c =
-    let s = c.before.before in (
-      worth-chosen s.args.day s.args.price s.args.quantity s.args.hours s.requires.0 s.requires.1 s.requires.2 _ _ c.counted-hours.ensures c.before.if1.true,
-      (worth-fits s.args.day s.args.price s.args.quantity s.args.hours s.requires.0 s.requires.1 s.requires.2 _ c.counted-hours.ensures).1,
+    let s = c in (
+      worth-chosen s.args.day s.args.price s.args.quantity s.args.hours s.requires.0 s.requires.1 s.requires.2 _ _ c.counted_hours.ensures c.if-chosen-eq1.true,
+      (worth-fits s.args.day s.args.price s.args.quantity s.args.hours s.requires.0 s.requires.1 s.requires.2 _ c.counted_hours.ensures).1,
     )
 
-returns-2 : tie.Need-returns-2
+returns-2 : tie.Need-returns
 returns-2 c =
-    let s = c.before in
-    (worth-not s.args.day s.args.price s.args.quantity s.args.hours s.requires.0 s.requires.1 s.requires.2 _ c.if1.false, omega arith)
+    let s = c in
+    (worth-not s.args.day s.args.price s.args.quantity s.args.hours s.requires.0 s.requires.1 s.requires.2 _ c.if-chosen-eq1.false, omega arith)
 
-pub block-worth-spec : {M : Type 1} → statement M
-block-worth-spec =
+pub block_worth_spec : {M : Type 1} → statement M
+block_worth_spec =
     tie.close (tie.spec counted-hours-requires mul-limit mul-result cast-result returns returns-2)

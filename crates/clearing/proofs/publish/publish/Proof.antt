@@ -10,8 +10,8 @@ use Rattle.clearing.proofs.publish.publish.Statement.{statement}
 use Rattle.clearing.proofs.publish.publish.Tie as tie
 
 -- the start behind the blocks' arrays
-abbrev start : tie.After-bquantities → tie.Start
-start c = c.before.before.before.before.before.before
+abbrev start : tie.After-bquantities-1 → tie.Start
+start c = c
 
 -- the arrays have room for the blocks
 fronts : (s : tie.Start) →
@@ -33,39 +33,39 @@ fronts s =
       in_quantities = omega (arith, few);
     }
 
-array-share-prefix-brecords : tie.Need-array-share-prefix-brecords
+array-share-prefix-brecords : tie.Need-slice_bounds-brecords-end
 array-share-prefix-brecords c = (fronts (start c)).in_records
 
-slice-aggregate-publish-columns : tie.Need-slice-aggregate-publish-columns
-slice-aggregate-publish-columns c = sym (length-take-le _ _ (fronts (start c.before)).in_records)
+slice-aggregate-publish-columns : tie.Need-slice_bounds-publish_columns-end
+slice-aggregate-publish-columns c = sym (length-take-le _ _ (fronts (start c)).in_records)
 
-array-share-prefix-bsides : tie.Need-array-share-prefix-bsides
-array-share-prefix-bsides c = (fronts (start c.before)).in_sides
+array-share-prefix-bsides : tie.Need-slice_bounds-bsides-end
+array-share-prefix-bsides c = (fronts (start c)).in_sides
 
-slice-aggregate-publish-columns-2 : tie.Need-slice-aggregate-publish-columns-2
-slice-aggregate-publish-columns-2 c = sym (length-take-le _ _ (fronts (start c.before.before)).in_sides)
+slice-aggregate-publish-columns-2 : tie.Need-slice_bounds-publish_columns-end-2
+slice-aggregate-publish-columns-2 c = sym (length-take-le _ _ (fronts (start c)).in_sides)
 
-array-share-prefix-bhours : tie.Need-array-share-prefix-bhours
-array-share-prefix-bhours c = (fronts (start c.before.before)).in_hours
+array-share-prefix-bhours : tie.Need-slice_bounds-bhours-end
+array-share-prefix-bhours c = (fronts (start c)).in_hours
 
-slice-aggregate-publish-columns-3 : tie.Need-slice-aggregate-publish-columns-3
-slice-aggregate-publish-columns-3 c = sym (length-take-le _ _ (fronts (start c.before.before.before)).in_hours)
+slice-aggregate-publish-columns-3 : tie.Need-slice_bounds-publish_columns-end-3
+slice-aggregate-publish-columns-3 c = sym (length-take-le _ _ (fronts (start c)).in_hours)
 
-array-share-prefix-bprices : tie.Need-array-share-prefix-bprices
-array-share-prefix-bprices c = (fronts (start c.before.before.before)).in_prices
+array-share-prefix-bprices : tie.Need-slice_bounds-bprices-end
+array-share-prefix-bprices c = (fronts (start c)).in_prices
 
-slice-aggregate-publish-columns-4 : tie.Need-slice-aggregate-publish-columns-4
-slice-aggregate-publish-columns-4 c = sym (length-take-le _ _ (fronts (start c.before.before.before.before)).in_prices)
+slice-aggregate-publish-columns-4 : tie.Need-slice_bounds-publish_columns-end-4
+slice-aggregate-publish-columns-4 c = sym (length-take-le _ _ (fronts (start c)).in_prices)
 
-array-share-prefix-bquantities : tie.Need-array-share-prefix-bquantities
-array-share-prefix-bquantities c = (fronts (start c.before.before.before.before)).in_quantities
+array-share-prefix-bquantities : tie.Need-slice_bounds-bquantities-end
+array-share-prefix-bquantities c = (fronts (start c)).in_quantities
 
-slice-aggregate-publish-columns-5 : tie.Need-slice-aggregate-publish-columns-5
-slice-aggregate-publish-columns-5 c = sym (length-take-le _ _ (fronts (start c.before.before.before.before.before)).in_quantities)
+slice-aggregate-publish-columns-5 : tie.Need-slice_bounds-publish_columns-end-5
+slice-aggregate-publish-columns-5 c = sym (length-take-le _ _ (fronts (start c)).in_quantities)
 
-publish-columns-requires : tie.Need-publish-columns-requires
+publish-columns-requires : tie.Need-publish_columns-requires
 publish-columns-requires c κs =
-    let s = start c.before.before.before.before.before.before in
+    let s = start c in
     let f = fronts s in (
       s.pre.short,
       s.pre.steps_fit,
@@ -78,18 +78,18 @@ publish-columns-requires c κs =
       s.pre.buffer,
     )
 
-same_length : tie.Need-same-length
+same_length : tie.Need-shape_of-res
 same_length c = search rules
 
 returns : tie.Need-returns
 returns c =
-    let call = c.before.before in
-    let f = fronts (start call.before.before.before.before.before.before.before) in
+    let call = c in
+    let f = fronts (start call) in
     λ b a hours steps blocks chosen day same.
-    call.publish-columns.ensures b a hours steps (fronts-columns f b blocks) (fronts-chosen f _ _ chosen) day same
+    call.publish_columns.ensures b a hours steps (fronts-columns f b blocks) (fronts-chosen f _ _ chosen) day same
 
-pub publish-spec : {M : Type 1} → statement M
-publish-spec =
+pub publish_spec : {M : Type 1} → statement M
+publish_spec =
     tie.close
     (tie.spec
     array-share-prefix-brecords

@@ -4,14 +4,14 @@ use borrow.Author.Rules.{rules}
 use Rattle.clearing.proofs.publish.where_counted.Statement.{statement}
 use Rattle.clearing.proofs.publish.where_counted.Tie as tie
 
-array-write-r : tie.Need-array-write-r
+array-write-r : tie.Need-bounds-r-2
 array-write-r c = search rules
 
-returns : tie.Need-returns
-returns c = change-out _ _ (search rules) c.if1.true
+returns : tie.Need-returns-then-often-eq0
+returns c = change-out _ _ (search rules) c.if-often-eq0.true
 
-returns-2 : tie.Need-returns-2
-returns-2 c = change-left _ _ (search rules) c.if1.false
+returns-2 : tie.Need-returns-else-often-eq0
+returns-2 c = change-left _ _ (search rules) c.if-often-eq0.false
 
-pub where-counted-spec : {M : Type 1} → statement M
-where-counted-spec = tie.close (tie.spec array-write-r returns returns-2)
+pub where_counted_spec : {M : Type 1} → statement M
+where_counted_spec = tie.close (tie.spec array-write-r returns returns-2)

@@ -4,22 +4,22 @@ use borrow.Author.Rules.{rules}
 use Rattle.families.proofs.lines.put_family.Statement.{statement}
 use Rattle.families.proofs.lines.put_family.Tie as tie
 
-put-field-requires : tie.Need-put-field-requires
-put-field-requires c κs = room-number _ _ _ _ c.before.before.requires
+put-field-requires : tie.Need-put_field-behind_number-requires
+put-field-requires c κs = room-number _ _ _ _ c.requires
 
-put-field-requires-2 : tie.Need-put-field-requires-2
+put-field-requires-2 : tie.Need-put_field-requires
 put-field-requires-2 c κs =
-    let number = c.before.before.before in
-    room-gain _ _ _ _ number.before.before.before.requires _ _ number.put-field.ensures
+    let number = c in
+    room-gain _ _ _ _ number.requires _ _ number.put_field-behind_number.ensures
 
-same_length : tie.Need-same-length
+same_length : tie.Need-shape_of-out
 same_length c = search rules
 
 returns : tie.Need-returns
 returns c =
-    let gain = c.before.before in
-    let number = gain.before.before.before.before in
-    put-family-line _ _ _ _ number.before.before.before.requires _ _ number.put-field.ensures _ _ gain.put-field2.ensures
+    let gain = c in
+    let number = gain in
+    put-family-line _ _ _ _ number.requires _ _ number.put_field-behind_number.ensures _ _ gain.put_field.ensures
 
-pub put-family-spec : {M : Type 1} → statement M
-put-family-spec = tie.close (tie.spec put-field-requires put-field-requires-2 same_length returns)
+pub put_family_spec : {M : Type 1} → statement M
+put_family_spec = tie.close (tie.spec put-field-requires put-field-requires-2 same_length returns)

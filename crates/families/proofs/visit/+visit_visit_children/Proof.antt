@@ -70,23 +70,23 @@ visit-add-visit-children t c = search rules
 
 visit-visit-children-requires : (t : ℕ) → visit-lts.Need-visit-children-requires (claims-visit t) (visit-at t) visit.Post
 visit-visit-children-requires t c κs =
-    let start = c.before.before.before in
-    let columns = start.requires.1.0 in
-    (omega (arith, start.requires.0), ((columns.0, columns.1, omega arith), visit-part-fits _ _ _ _ _ start.requires.1.1))
+    let start = c in
+    let columns = start.requires.fits.0 in
+    (omega (arith, start.requires.columns), ((columns.0, columns.1, omega arith), visit-part-fits _ _ _ _ _ start.requires.fits.1))
 
 visit-add-result : (t : ℕ) → visit-lts.Need-overflow-add-result (claims-visit t) (visit-at t) visit.Post
 visit-add-result t c =
-    let start = c.before.before.before.before in
-    record { fits = visit-sum-fits _ _ _ start.args.left start.args.i _ start.requires.1.1 c.visit-children.ensures }
+    let start = c in
+    record { fits = visit-sum-fits _ _ _ start.args.left start.args.i _ start.requires.fits.1 c.visit_children-later.ensures }
 
 visit-returns : (t : ℕ) → visit-lts.Need-returns (claims-visit t) (visit-at t) visit.Post
 visit-returns t c =
-    let start = c.before.before.before.before in
-    rw c.visit-children.ensures (sym (visit-is _ _ start.args.left start.args.i))
+    let start = c in
+    rw c.visit_children-later.ensures (sym (visit-is _ _ start.args.left start.args.i))
 
 visit-children-returns : (t : ℕ) → visit-children-lts.Need-returns (claims-visit-children t) (visit-children-at t) visit-children.Post
 visit-children-returns t c =
-    sym (children-none _ _ _ _ _ c.if1.true)
+    sym (children-none _ _ _ _ _ c.if-left-eq0.true)
 
 visit-children-add-visit-children : (t : ℕ) → visit-children-lts.Need-overflow-add-visit-children (claims-visit-children t) (visit-children-at t) visit-children.Post
 visit-children-add-visit-children t c = search rules
@@ -96,11 +96,11 @@ visit-children-sub-visit-children t c = search rules
 
 visit-children-visit-children-requires : (t : ℕ) → visit-children-lts.Need-visit-children-requires (claims-visit-children t) (visit-children-at t) visit-children.Post
 visit-children-visit-children-requires t c κs =
-    let start = c.before.before.before in
-    let some : 0 < start.args.left = omega (arith, c.if1.false) in
-    let columns = start.requires.1.0 in (
-      omega (arith, start.requires.0),
-      ((columns.0, omega (arith, columns.1), omega (arith, columns.2)), later-fits _ _ _ _ _ _ some start.requires.1.1),
+    let start = c in
+    let some : 0 < start.args.left = omega (arith, c.if-left-eq0.false) in
+    let columns = start.requires.fits.0 in (
+      omega (arith, start.requires.columns),
+      ((columns.0, omega (arith, columns.1), omega (arith, columns.2)), later-fits _ _ _ _ _ _ some start.requires.fits.1),
     )
 
 visit-children-mul-if2 : (t : ℕ) → visit-children-lts.Need-overflow-mul-if2 (claims-visit-children t) (visit-children-at t) visit-children.Post
@@ -111,7 +111,7 @@ visit-children-shared-slice-read-if2 t c = search rules
 
 visit-children-cast-if2 : (t : ℕ) → visit-children-lts.Need-overflow-cast-if2 (claims-visit-children t) (visit-children-at t) visit-children.Post
 visit-children-cast-if2 t c =
-    omega (arith, c.before.before.before.before.shared-slice-known.given c.before.before.before.before.before.args.j)
+    omega (arith, c.shared_slice_known-1.given c.args.j)
 
 visit-children-add-if2 : (t : ℕ) → visit-children-lts.Need-overflow-add-if2 (claims-visit-children t) (visit-children-at t) visit-children.Post
 visit-children-add-if2 t c = search rules
@@ -121,34 +121,34 @@ visit-children-sub-visit t c = search rules
 
 visit-children-visit-requires : (t : ℕ) → visit-children-lts.Need-visit-requires (claims-visit-children t) (visit-children-at t) visit-children.Post
 visit-children-visit-requires t c κs =
-    let start = c.before.before.before.before.before.before in
-    let some : 0 < start.args.left = omega (arith, c.before.before.before.if1.false) in
-    let columns = start.requires.1.0 in (
-      omega (arith, start.requires.0),
-      ((columns.0, omega (arith, columns.1)), child_fits _ _ _ _ _ _ some c.if2.true start.requires.1.1),
+    let start = c in
+    let some : 0 < start.args.left = omega (arith, c.if-left-eq0.false) in
+    let columns = start.requires.fits.0 in (
+      omega (arith, start.requires.columns),
+      ((columns.0, omega (arith, columns.1)), child_fits _ _ _ _ _ _ some c.if-parents-j.true start.requires.fits.1),
     )
 
 visit-children-add-result : (t : ℕ) → visit-children-lts.Need-overflow-add-result (claims-visit-children t) (visit-children-at t) visit-children.Post
 visit-children-add-result t c =
-    let start = c.before.before.before.before.before.before.before in
-    let some : 0 < start.args.left = omega (arith, c.before.before.before.before.if1.false) in
-    let later = c.before.before.before.visit-children.ensures in
-    record { fits = child-sum-fits _ _ _ _ _ _ _ _ some c.before.if2.true start.requires.1.1 c.visit.ensures later }
+    let start = c in
+    let some : 0 < start.args.left = omega (arith, c.if-left-eq0.false) in
+    let later = c.visit_children-later.ensures in
+    record { fits = child-sum-fits _ _ _ _ _ _ _ _ some c.if-parents-j.true start.requires.fits.1 c.visit.ensures later }
 
 visit-children-returns-2 : (t : ℕ) → visit-children-lts.Need-returns-2 (claims-visit-children t) (visit-children-at t) visit-children.Post
 visit-children-returns-2 t c =
-    let start = c.before.before.before.before.before.before.before in
-    let some : 0 < start.args.left = omega (arith, c.before.before.before.before.if1.false) in
-    rw (c.visit.ensures, c.before.before.before.visit-children.ensures) (sym (children-child _ _ _ _ _ some c.before.if2.true))
+    let start = c in
+    let some : 0 < start.args.left = omega (arith, c.if-left-eq0.false) in
+    rw (c.visit.ensures, c.visit_children-later.ensures) (sym (children-child _ _ _ _ _ some c.if-parents-j.true))
 
 visit-children-returns-3 : (t : ℕ) → visit-children-lts.Need-returns-3 (claims-visit-children t) (visit-children-at t) visit-children.Post
 visit-children-returns-3 t c =
-    let start = c.before.before.before.before.before.before in
-    let some : 0 < start.args.left = omega (arith, c.before.before.before.if1.false) in
-    c.before.before.visit-children.ensures ∙ sym (children-other _ _ _ _ _ some c.if2.false)
+    let start = c in
+    let some : 0 < start.args.left = omega (arith, c.if-left-eq0.false) in
+    c.visit_children-later.ensures ∙ sym (children-other _ _ _ _ _ some c.if-parents-j.false)
 
-pub +visit-visit-children-spec : {M : Type 1} → statement M
-+visit-visit-children-spec = close μ-visit μ-visit-children (λ t. visit-lts.spec (claims-visit t)
+pub +visit_visit_children_spec : {M : Type 1} → statement M
++visit_visit_children_spec = close μ-visit μ-visit-children (λ t. visit-lts.spec (claims-visit t)
     (visit-at t)
     visit.Post
     (visit-mul-result t)

@@ -6,5 +6,5 @@ use Rattle.fields.proofs.hours.change_hour_of.Tie as tie
 returns : tie.Need-returns
 returns c = change-once _
 
-pub change-hour-of-spec : {M : Type 1} → statement M
-change-hour-of-spec = tie.close (tie.spec returns)
+pub change_hour_of_spec : {M : Type 1} → statement M
+change_hour_of_spec = tie.close (tie.spec returns)

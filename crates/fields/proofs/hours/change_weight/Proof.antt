@@ -4,16 +4,16 @@ use borrow.Author.Rules.{rules}
 use Rattle.fields.proofs.hours.change_weight.Statement.{statement}
 use Rattle.fields.proofs.hours.change_weight.Tie as tie
 
-cast-result : tie.Need-overflow-cast-result
+cast-result : tie.Need-overflow_cast-result
 cast-result c = search rules
 
-returns : tie.Need-returns
+returns : tie.Need-returns-then-day-ge-SPRING_HOURS
 unfolding weight
 returns c = search rules
 
-returns-2 : tie.Need-returns-2
+returns-2 : tie.Need-returns-else-day-ge-SPRING_HOURS
 unfolding weight
 returns-2 c = search rules
 
-pub change-weight-spec : {M : Type 1} → statement M
-change-weight-spec = tie.close (tie.spec cast-result returns returns-2)
+pub change_weight_spec : {M : Type 1} → statement M
+change_weight_spec = tie.close (tie.spec cast-result returns returns-2)

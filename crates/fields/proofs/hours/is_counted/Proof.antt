@@ -6,15 +6,15 @@ use borrow.Author.Rules.{rules}
 use Rattle.fields.proofs.hours.is_counted.Statement.{statement}
 use Rattle.fields.proofs.hours.is_counted.Tie as tie
 
-change-weight-requires : tie.Need-change-weight-requires
+change-weight-requires : tie.Need-change_weight-requires
 change-weight-requires c κs = search rules
 
-returns : tie.Need-returns
+returns : tie.Need-returns-then-hour-eq-CHANGE_HOUR
 unfolding is_counted
-returns c = rw (c.change-weight.ensures, c.before.if1.true)
+returns c = rw (c.change_weight.ensures, c.if-hour-eq-CHANGE_HOUR.true)
 
-returns-2 : tie.Need-returns-2
-returns-2 c = sym (other-counted _ _ c.if1.false)
+returns-2 : tie.Need-returns-else-hour-eq-CHANGE_HOUR
+returns-2 c = sym (other-counted _ _ c.if-hour-eq-CHANGE_HOUR.false)
 
-pub is-counted-spec : {M : Type 1} → statement M
-is-counted-spec = tie.close (tie.spec change-weight-requires returns returns-2)
+pub is_counted_spec : {M : Type 1} → statement M
+is_counted_spec = tie.close (tie.spec change-weight-requires returns returns-2)

@@ -4,42 +4,42 @@ use borrow.Author.Rules.{rules}
 use Rattle.fields.proofs.ranges.block_fits.Statement.{statement}
 use Rattle.fields.proofs.ranges.block_fits.Tie as tie
 
-cast-is-within : tie.Need-cast-is-within
+cast-is-within : tie.Need-overflow_cast-block
 cast-is-within c = search rules
 
-is-within-requires : tie.Need-is-within-requires
+is-within-requires : tie.Need-is_within-requires
 is-within-requires c κs = search rules
 
-hour-count-requires : tie.Need-hour-count-requires
+hour-count-requires : tie.Need-hour_count-requires
 hour-count-requires c κs = search rules
 
-is-within-requires-2 : tie.Need-is-within-requires-2
+is-within-requires-2 : tie.Need-is_within-requires-2
 is-within-requires-2 c κs = search rules
 
-cast-is-within-2 : tie.Need-cast-is-within-2
+cast-is-within-2 : tie.Need-overflow_cast-block-2
 cast-is-within-2 c = search rules
 
-most-block-quantity-requires : tie.Need-most-block-quantity-requires
+most-block-quantity-requires : tie.Need-most_block_quantity-requires
 most-block-quantity-requires c κs = search rules
 
-is-within-requires-3 : tie.Need-is-within-requires-3
+is-within-requires-3 : tie.Need-is_within-requires-3
 is-within-requires-3 c κs = search rules
 
 returns : tie.Need-returns
 unfolding block_fits
-returns c = let m = c.before in
-    let p = m.before.before in
-    let h = p.before in
+returns c = let m = c in
+    let p = m in
+    let h = p in
     rw (
-      c.is-within3.ensures,
-      m.most-block-quantity.ensures,
-      p.is-within2.ensures,
-      h.hour-count.ensures,
+      c.is_within-3.ensures,
+      m.most_block_quantity.ensures,
+      p.is_within-2.ensures,
+      h.hour_count.ensures,
       h.before.is_Within.ensures,
     )
 
-pub block-fits-spec : {M : Type 1} → statement M
-block-fits-spec =
+pub block_fits_spec : {M : Type 1} → statement M
+block_fits_spec =
     tie.close
     (tie.spec
     cast-is-within

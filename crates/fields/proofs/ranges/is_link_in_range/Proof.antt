@@ -4,15 +4,15 @@ use borrow.Author.Rules.{rules}
 use Rattle.fields.proofs.ranges.is_link_in_range.Statement.{statement}
 use Rattle.fields.proofs.ranges.is_link_in_range.Tie as tie
 
-side-byte-requires : tie.Need-side-byte-requires
+side-byte-requires : tie.Need-side_byte-requires
 side-byte-requires c κs = search rules
 
-has-link-rest-requires : tie.Need-has-link-rest-requires
+has-link-rest-requires : tie.Need-has_link_rest-requires
 has-link-rest-requires c κs = search rules
 
 returns : tie.Need-returns
 unfolding link_in_range
-returns c = rw (c.before.side-byte.ensures, c.has-link-rest.ensures)
+returns c = rw (c.side_byte.ensures, c.has_link_rest.ensures)
 
-pub is-link-in-range-spec : {M : Type 1} → statement M
-is-link-in-range-spec = tie.close (tie.spec side-byte-requires has-link-rest-requires returns)
+pub is_link_in_range_spec : {M : Type 1} → statement M
+is_link_in_range_spec = tie.close (tie.spec side-byte-requires has-link-rest-requires returns)

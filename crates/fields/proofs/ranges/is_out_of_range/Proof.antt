@@ -5,54 +5,54 @@ use borrow.Author.Rules.{rules}
 use Rattle.fields.proofs.ranges.is_out_of_range.Statement.{statement}
 use Rattle.fields.proofs.ranges.is_out_of_range.Tie as tie
 
-record-at-requires : tie.Need-record-at-requires
+record-at-requires : tie.Need-record_at-found-requires
 record-at-requires c κs = search rules
 
-enum-known-found : tie.Need-enum-known-found
+enum-known-found : tie.Need-enum_known-found
 enum-known-found c = search rules
 
-is-step-in-range-requires : tie.Need-is-step-in-range-requires
+is-step-in-range-requires : tie.Need-is_step_in_range-requires
 is-step-in-range-requires c κs = search rules
 
-enum-known-found-2 : tie.Need-enum-known-found-2
+enum-known-found-2 : tie.Need-enum_known-found-in-Block-1
 enum-known-found-2 c = search rules
 
-is-block-in-range-requires : tie.Need-is-block-in-range-requires
+is-block-in-range-requires : tie.Need-is_block_in_range-requires
 is-block-in-range-requires c κs = search rules
 
-enum_told : tie.Need-enum-told
+enum_told : tie.Need-enum_told-1
 enum_told c = search rules
 
-is-link-in-range-requires : tie.Need-is-link-in-range-requires
+is-link-in-range-requires : tie.Need-is_link_in_range-requires
 is-link-in-range-requires c κs = search rules
 
-enum-told-2 : tie.Need-enum-told-2
+enum-told-2 : tie.Need-enum_told-in-Other
 enum-told-2 c = search rules
 
-returns : tie.Need-returns
+returns : tie.Need-returns-in-Step
 unfolding out_of_range record_in_range
 returns c =
-    let arm = c.before.before in
-    rw (sym arm.before.before.record-at.ensures ∙ arm.found.given.1, c.is-step-in-range.ensures)
+    let arm = c in
+    rw (sym arm.record_at-found.ensures ∙ arm.found-1.given.1, c.is_step_in_range.ensures)
 
-returns-2 : tie.Need-returns-2
+returns-2 : tie.Need-returns-in-Block
 unfolding out_of_range record_in_range
 returns-2 c =
-    let arm = c.before.before in
-    rw (sym arm.before.before.record-at.ensures ∙ arm.found2.given.1, c.is-block-in-range.ensures)
+    let arm = c in
+    rw (sym arm.record_at-found.ensures ∙ arm.found-in-Block-1.given.1, c.is_block_in_range.ensures)
 
-returns-3 : tie.Need-returns-3
+returns-3 : tie.Need-returns-in-Link
 unfolding out_of_range record_in_range
 returns-3 c =
-    let arm = c.before.before in
-    rw (sym arm.before.record-at.ensures ∙ c.before.enum_told.given.1, c.is-link-in-range.ensures)
+    let arm = c in
+    rw (sym arm.record_at-found.ensures ∙ c.enum_told-1.given.1, c.is_link_in_range.ensures)
 
-returns-4 : tie.Need-returns-4
+returns-4 : tie.Need-returns-in-Other
 unfolding out_of_range record_in_range
-returns-4 c = rw (sym c.before.before.record-at.ensures ∙ c.enum-told2.given.1)
+returns-4 c = rw (sym c.record_at-found.ensures ∙ c.enum_told-in-Other-1.given.1)
 
-pub is-out-of-range-spec : {M : Type 1} → statement M
-is-out-of-range-spec =
+pub is_out_of_range_spec : {M : Type 1} → statement M
+is_out_of_range_spec =
     tie.close
     (tie.spec
     record-at-requires

@@ -4,25 +4,25 @@ use borrow.Author.Rules.{rules}
 use Rattle.fields.proofs.ranges.is_step_in_range.Statement.{statement}
 use Rattle.fields.proofs.ranges.is_step_in_range.Tie as tie
 
-side-byte-requires : tie.Need-side-byte-requires
+side-byte-requires : tie.Need-side_byte-requires
 side-byte-requires c κs = search rules
 
-cast-is-within : tie.Need-cast-is-within
+cast-is-within : tie.Need-overflow_cast-side_byte
 cast-is-within c = search rules
 
-is-within-requires : tie.Need-is-within-requires
+is-within-requires : tie.Need-is_within-requires
 is-within-requires c κs = search rules
 
-step-fits-requires : tie.Need-step-fits-requires
+step-fits-requires : tie.Need-step_fits-requires
 step-fits-requires c κs = search rules
 
 returns : tie.Need-returns
 unfolding step_in_range
 returns c =
-    rw (c.before.is_Within.ensures, c.before.before.side-byte.ensures, c.step_fits.ensures)
+    rw (c.before.is_Within.ensures, c.side_byte.ensures, c.step_fits.ensures)
 
-pub is-step-in-range-spec : {M : Type 1} → statement M
-is-step-in-range-spec =
+pub is_step_in_range_spec : {M : Type 1} → statement M
+is_step_in_range_spec =
     tie.close
     (tie.spec
     side-byte-requires

@@ -4,13 +4,13 @@ use Rattle.rules.specs.Orders.{limits}
 use Rattle.fields.proofs.ranges.most_block_quantity.Statement.{statement}
 use Rattle.fields.proofs.ranges.most_block_quantity.Tie as tie
 
-returns : tie.Need-returns
+returns : tie.Need-returns-then-edition-le-FIRST_EDITION
 unfolding limits
 returns c = rw (le-leb _ 1 c.if1.taken)
 
-returns-2 : tie.Need-returns-2
+returns-2 : tie.Need-returns-else-edition-le-FIRST_EDITION
 unfolding limits
-returns-2 c = rw (lt-leb _ 1 c.if1.left)
+returns-2 c = rw (lt-leb _ 1 c.if-edition-le-FIRST_EDITION.left)
 
-pub most-block-quantity-spec : {M : Type 1} → statement M
-most-block-quantity-spec = tie.close (tie.spec returns returns-2)
+pub most_block_quantity_spec : {M : Type 1} → statement M
+most_block_quantity_spec = tie.close (tie.spec returns returns-2)

@@ -9,72 +9,72 @@ use Rattle.guess.proofs.GuessLaws.{chosen_less}
 use Rattle.guess.proofs.trial.losses_of.Statement.{statement}
 use Rattle.guess.proofs.trial.losses_of.Tie as tie
 
-abbrev invariant-loop : tie.invariant-loop
+abbrev invariant-loop : tie.invariant-loop-i
 invariant-loop blocks count set sum₀ i₀ sum i = (i ≤ count) × (sum ≤ i * 2 ^ 32)
 
-abbrev decreases-loop : tie.decreases-loop
+abbrev decreases-loop : tie.decreases-loop-i
 decreases-loop blocks count set sum₀ i₀ sum i = count - i
 
 -- what a decision loses is a number of 32 bits
 lost-small : (c : tie.After-choose invariant-loop decreases-loop) → c.choose.result < 2 ^ 32
 lost-small c =
-    let loop = c.before.before.before.before in
-    let blocks = loop.before.before.args.blocks.now in
-    chosen_less (get_or loop.before.before.args.t3 loop.loop.i false) (get_or blocks (against_column + loop.loop.i) 0) (get_or blocks (gain_column + loop.loop.i) 0) (2 ^ 32) _ c.choose.ensures
-    (omega (arith, loop.before.shared-slice-known.given (against_column + loop.loop.i)))
-    (omega (arith, loop.before.shared-slice-known.given (gain_column + loop.loop.i)))
+    let loop = c in
+    let blocks = loop.args.blocks.now in
+    chosen_less (get_or loop.args.t3 loop.loop-i.i false) (get_or blocks (against_column + loop.loop-i.i) 0) (get_or blocks (gain_column + loop.loop-i.i) 0) (2 ^ 32) _ c.choose.ensures
+    (omega (arith, loop.shared_slice_known-1.given (against_column + loop.loop-i.i)))
+    (omega (arith, loop.shared_slice_known-1.given (gain_column + loop.loop-i.i)))
 
-loop-holds : tie.Need-loop-init invariant-loop decreases-loop
+loop-holds : tie.Need-loop-i-init invariant-loop decreases-loop
 loop-holds c = (omega arith, omega arith)
 
-array-read-choose : tie.Need-array-read-choose invariant-loop decreases-loop
+array-read-choose : tie.Need-bounds-set-i invariant-loop decreases-loop
 array-read-choose c = search rules
 
-add-choose : tie.Need-overflow-add-choose invariant-loop decreases-loop
+add-choose : tie.Need-overflow_add-i invariant-loop decreases-loop
 add-choose c = search rules
 
-mul-choose : tie.Need-overflow-mul-choose invariant-loop decreases-loop
+mul-choose : tie.Need-offset_bounds-blocks-i invariant-loop decreases-loop
 mul-choose c = search rules
 
-shared-slice-read-choose : tie.Need-shared-slice-read-choose invariant-loop decreases-loop
+shared-slice-read-choose : tie.Need-bounds-blocks-i invariant-loop decreases-loop
 shared-slice-read-choose c = search rules
 
-add-choose-2 : tie.Need-overflow-add-choose-2 invariant-loop decreases-loop
+add-choose-2 : tie.Need-overflow_add-i-in-loop-i invariant-loop decreases-loop
 add-choose-2 c = search rules
 
-mul-choose-2 : tie.Need-overflow-mul-choose-2 invariant-loop decreases-loop
+mul-choose-2 : tie.Need-offset_bounds-blocks-i-in-loop-i invariant-loop decreases-loop
 mul-choose-2 c = search rules
 
-shared-slice-read-choose-2 : tie.Need-shared-slice-read-choose-2 invariant-loop decreases-loop
+shared-slice-read-choose-2 : tie.Need-bounds-blocks-i-in-loop-i invariant-loop decreases-loop
 shared-slice-read-choose-2 c = search rules
 
 choose-requires : tie.Need-choose-requires invariant-loop decreases-loop
 choose-requires c κs = search rules
 
-cast-sum : tie.Need-overflow-cast-sum invariant-loop decreases-loop
+cast-sum : tie.Need-overflow_cast-sum invariant-loop decreases-loop
 cast-sum c = search rules
 
-add-sum : tie.Need-overflow-add-sum invariant-loop decreases-loop
+add-sum : tie.Need-overflow_add-sum invariant-loop decreases-loop
 add-sum c =
-    let loop = c.before.before.before.before in
-    omega (arith, loop.loop.invariant.0, loop.loop.invariant.1, loop.before.before.requires.1, lost-small c)
+    let loop = c in
+    omega (arith, loop.loop-i.invariant.0, loop.loop-i.invariant.1, loop.requires.1, lost-small c)
 
-add-i : tie.Need-overflow-add-i invariant-loop decreases-loop
+add-i : tie.Need-overflow_add-i-in-loop-i-2 invariant-loop decreases-loop
 add-i c = search rules
 
-loop-less : tie.Need-loop-smaller invariant-loop decreases-loop
+loop-less : tie.Need-loop-i-smaller invariant-loop decreases-loop
 loop-less c = search rules
 
-loop-again : tie.Need-loop-preserved invariant-loop decreases-loop
+loop-again : tie.Need-loop-i-preserved invariant-loop decreases-loop
 loop-again c =
-    let loop = c.before.before.before.before in
-    (omega (arith, c.before.before.before.loop-test.true), omega (arith, loop.loop.invariant.1, lost-small c))
+    let loop = c in
+    (omega (arith, c.loop-i-test.true), omega (arith, loop.loop-i.invariant.1, lost-small c))
 
 returns : tie.Need-returns invariant-loop decreases-loop
-returns c = omega (arith, c.before.loop.invariant.1, c.before.loop.invariant.0, c.before.before.before.requires.1)
+returns c = omega (arith, c.loop-i.invariant.1, c.loop-i.invariant.0, c.requires.1)
 
-pub losses-of-spec : {M : Type 1} → statement M
-losses-of-spec =
+pub losses_of_spec : {M : Type 1} → statement M
+losses_of_spec =
     tie.close
     (tie.spec
     invariant-loop

@@ -8,49 +8,49 @@ use Rattle.guess.proofs.GuessLaws.{chosen_less}
 use Rattle.guess.proofs.trial.missing_in.Statement.{statement}
 use Rattle.guess.proofs.trial.missing_in.Tie as tie
 
-abbrev invariant-loop : tie.invariant-loop
+abbrev invariant-loop : tie.invariant-loop-i
 invariant-loop rule blocks count prices set worst₀ most₀ i₀ worst most i = (i ≤ count) × (worst < most_blocks)
 
-abbrev decreases-loop : tie.decreases-loop
+abbrev decreases-loop : tie.decreases-loop-i
 decreases-loop rule blocks count prices set worst₀ most₀ i₀ worst most i = count - i
 
-loop-holds : tie.Need-loop-init invariant-loop decreases-loop
+loop-holds : tie.Need-loop-i-init invariant-loop decreases-loop
 loop-holds c = (omega arith, omega arith)
 
-array-read-urgency-of : tie.Need-array-read-urgency-of invariant-loop decreases-loop
+array-read-urgency-of : tie.Need-bounds-set-i invariant-loop decreases-loop
 array-read-urgency-of c = search rules
 
-urgency-of-requires : tie.Need-urgency-of-requires invariant-loop decreases-loop
+urgency-of-requires : tie.Need-urgency_of-urgent-requires invariant-loop decreases-loop
 urgency-of-requires c κs = search rules
 
-cast-choose : tie.Need-overflow-cast-choose invariant-loop decreases-loop
+cast-choose : tie.Need-overflow_cast-i invariant-loop decreases-loop
 cast-choose c = search rules
 
-choose-requires : tie.Need-choose-requires invariant-loop decreases-loop
+choose-requires : tie.Need-choose-worst-requires invariant-loop decreases-loop
 choose-requires c κs = search rules
 
-larger-requires : tie.Need-larger-requires invariant-loop decreases-loop
+larger-requires : tie.Need-larger-most-requires invariant-loop decreases-loop
 larger-requires c κs = search rules
 
-add-i : tie.Need-overflow-add-i invariant-loop decreases-loop
+add-i : tie.Need-overflow_add-i invariant-loop decreases-loop
 add-i c = search rules
 
-loop-less : tie.Need-loop-smaller invariant-loop decreases-loop
+loop-less : tie.Need-loop-i-smaller invariant-loop decreases-loop
 loop-less c = search rules
 
-loop-again : tie.Need-loop-preserved invariant-loop decreases-loop
+loop-again : tie.Need-loop-i-preserved invariant-loop decreases-loop
 loop-again c =
-    let loop = c.before.before.before.before in
-    let inside = c.before.before.before.loop-test.true in (
+    let loop = c in
+    let inside = c.loop-i-test.true in (
       omega (arith, inside),
-      chosen_less (ltb loop.loop.most c.before.before.urgency-of.result) loop.loop.i loop.loop.worst most_blocks _ c.before.choose.ensures (omega (arith, inside, loop.before.before.before.requires.1)) loop.loop.invariant.1,
+      chosen_less (ltb loop.loop-i.most c.urgency_of-urgent.result) loop.loop-i.i loop.loop-i.worst most_blocks _ c.choose-worst.ensures (omega (arith, inside, loop.requires.1)) loop.loop-i.invariant.1,
     )
 
 returns : tie.Need-returns invariant-loop decreases-loop
-returns c = c.before.loop.invariant.1
+returns c = c.loop-i.invariant.1
 
-pub missing-in-spec : {M : Type 1} → statement M
-missing-in-spec =
+pub missing_in_spec : {M : Type 1} → statement M
+missing_in_spec =
     tie.close
     (tie.spec
     invariant-loop

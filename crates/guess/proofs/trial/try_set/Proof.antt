@@ -10,74 +10,74 @@ use borrow.Author.Rules.{rules}
 use Rattle.guess.proofs.trial.try_set.Statement.{statement}
 use Rattle.guess.proofs.trial.try_set.Tie as tie
 
-shared-slice-read-often : tie.Need-shared-slice-read-often
+shared-slice-read-often : tie.Need-bounds-hours-72
 shared-slice-read-often c = search rules
 
-places-of-requires : tie.Need-places-of-requires
+places-of-requires : tie.Need-places_of-places-requires
 places-of-requires c κs = search rules
 
-sub-counted-gaps : tie.Need-overflow-sub-counted-gaps
+sub-counted-gaps : tie.Need-slice_bounds-counted_gaps-count
 sub-counted-gaps c = search rules
 
-part-counted-gaps-start : tie.Need-slice-bounds-counted-gaps-start
+part-counted-gaps-start : tie.Need-slice_bounds-counted_gaps-start
 part-counted-gaps-start c = search rules
 
-part-counted-gaps-end : tie.Need-slice-bounds-counted-gaps-end
+part-counted-gaps-end : tie.Need-slice_bounds-counted_gaps-end
 part-counted-gaps-end c = search rules
 
-sub-counted-gaps-2 : tie.Need-overflow-sub-counted-gaps-2
+sub-counted-gaps-2 : tie.Need-slice_bounds-counted_gaps-count-2
 sub-counted-gaps-2 c = search rules
 
-part-counted-gaps-start-2 : tie.Need-slice-bounds-counted-gaps-start-2
+part-counted-gaps-start-2 : tie.Need-slice_bounds-counted_gaps-start-2
 part-counted-gaps-start-2 c = search rules
 
-part-counted-gaps-end-2 : tie.Need-slice-bounds-counted-gaps-end-2
+part-counted-gaps-end-2 : tie.Need-slice_bounds-counted_gaps-end-2
 part-counted-gaps-end-2 c = search rules
 
-counted-gaps-requires : tie.Need-counted-gaps-requires
+counted-gaps-requires : tie.Need-counted_gaps-gaps-requires
 counted-gaps-requires c κs = search rules
 
-returns : tie.Need-returns
+returns : tie.Need-returns-then-not-gaps
 returns c = search rules
 
-prices-at-requires : tie.Need-prices-at-requires
+prices-at-requires : tie.Need-prices_at-requires
 prices-at-requires c κs =
-    let g = c.before.before in
-    let found = g.before.before.before in
-    let s = found.before.before.before.before.before.before in
-    let size : length found.places_of.result ≡ hour_places = search rules in (
+    let g = c in
+    let found = g in
+    let s = found in
+    let size : length found.places_of-places.result ≡ hour_places = search rules in (
       s.requires.price_rows,
       s.requires.prices_fit,
-      places-small _ (clears_first s.args.hours.now) (clears_last s.args.hours.now) found.places_of.result
-          (g.counted-gaps.ensures.in_range (not-false _ c.if1.false)) s.requires.last_in_prices size,
+      places-small _ (clears_first s.args.hours.now) (clears_last s.args.hours.now) found.places_of-places.result
+          (g.counted_gaps-gaps.ensures.in_range (not-false _ c.if-not-gaps.false)) s.requires.last_in_prices size,
     )
 
-counted-prices-requires : tie.Need-counted-prices-requires
+counted-prices-requires : tie.Need-counted_prices-prices-requires
 counted-prices-requires c κs = search rules
 
-slice-aggregate-missing-in : tie.Need-slice-aggregate-missing-in
+slice-aggregate-missing-in : tie.Need-slice_bounds-missing_in-end
 slice-aggregate-missing-in c = search rules
 
-missing-in-requires : tie.Need-missing-in-requires
+missing-in-requires : tie.Need-missing_in-missing-requires
 missing-in-requires c κs = search rules
 
-losses-of-requires : tie.Need-losses-of-requires
+losses-of-requires : tie.Need-losses_of-requires
 losses-of-requires c κs = search rules
 
-add-t29 : tie.Need-overflow-add-t29
-add-t29 c = omega (arith, c.before.losses-of.ensures, c.before.before.before.before.before.before.before.before.counted-gaps.ensures.fits)
+add-t29 : tie.Need-overflow_add-result
+add-t29 c = omega (arith, c.losses_of.ensures, c.counted_gaps-gaps.ensures.fits)
 
-cast-t16 : tie.Need-overflow-cast-t16
-cast-t16 c = omega (arith, c.before.before.before.missing-in.ensures)
+cast-t16 : tie.Need-overflow_cast-result
+cast-t16 c = omega (arith, c.missing_in-missing.ensures)
 
-returns-2 : tie.Need-returns-2
+returns-2 : tie.Need-returns
 returns-2 c = (
-  omega (arith, c.before.before.losses-of.ensures, c.before.before.before.before.before.before.before.before.before.counted-gaps.ensures.fits),
-  c.before.before.before.missing-in.ensures,
+  omega (arith, c.losses_of.ensures, c.counted_gaps-gaps.ensures.fits),
+  c.missing_in-missing.ensures,
 )
 
-pub try-set-spec : {M : Type 1} → statement M
-try-set-spec =
+pub try_set_spec : {M : Type 1} → statement M
+try_set_spec =
     tie.close
     (tie.spec
     shared-slice-read-often

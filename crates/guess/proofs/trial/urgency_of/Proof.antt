@@ -5,77 +5,77 @@ use borrow.Author.Rules.{rules}
 use Rattle.guess.proofs.trial.urgency_of.Statement.{statement}
 use Rattle.guess.proofs.trial.urgency_of.Tie as tie
 
-returns : tie.Need-returns
+returns : tie.Need-returns-then-not-taken
 unfolding urgency_in
-returns c = rw (not-true c.before.before.before.args.taken c.if1.true)
+returns c = rw (not-true c.args.taken c.if-not-taken.true)
 
-add-miss-of : tie.Need-overflow-add-miss-of
+add-miss-of : tie.Need-overflow_add-i
 add-miss-of c = search rules
 
-mul-miss-of : tie.Need-overflow-mul-miss-of
+mul-miss-of : tie.Need-offset_bounds-blocks-i
 mul-miss-of c = search rules
 
-shared-slice-read-miss-of : tie.Need-shared-slice-read-miss-of
+shared-slice-read-miss-of : tie.Need-bounds-blocks-i
 shared-slice-read-miss-of c = search rules
 
-add-miss-of-2 : tie.Need-overflow-add-miss-of-2
+add-miss-of-2 : tie.Need-overflow_add-i-2
 add-miss-of-2 c = search rules
 
-mul-miss-of-2 : tie.Need-overflow-mul-miss-of-2
+mul-miss-of-2 : tie.Need-offset_bounds-blocks-i-2
 mul-miss-of-2 c = search rules
 
-shared-slice-read-miss-of-2 : tie.Need-shared-slice-read-miss-of-2
+shared-slice-read-miss-of-2 : tie.Need-bounds-blocks-i-2
 shared-slice-read-miss-of-2 c = search rules
 
-add-miss-of-3 : tie.Need-overflow-add-miss-of-3
+add-miss-of-3 : tie.Need-overflow_add-i-3
 add-miss-of-3 c = search rules
 
-mul-miss-of-3 : tie.Need-overflow-mul-miss-of-3
+mul-miss-of-3 : tie.Need-offset_bounds-blocks-i-3
 mul-miss-of-3 c = search rules
 
-shared-slice-read-miss-of-3 : tie.Need-shared-slice-read-miss-of-3
+shared-slice-read-miss-of-3 : tie.Need-bounds-blocks-i-3
 shared-slice-read-miss-of-3 c = search rules
 
-miss-of-requires : tie.Need-miss-of-requires
+miss-of-requires : tie.Need-miss_of-miss-requires
 miss-of-requires c κs = search rules
 
-returns-2 : tie.Need-returns-2
+returns-2 : tie.Need-returns-then-miss-eq0
 unfolding urgency_in
 returns-2 c =
-    let missed = c.before in
-    let chosen = missed.before.before.before.before in
-    rw (not-false chosen.before.before.before.args.taken chosen.if1.false, ← missed.miss-of.ensures, c.if2.true)
+    let missed = c in
+    let chosen = missed in
+    rw (not-false chosen.args.taken chosen.if-not-taken.false, ← missed.miss_of-miss.ensures, c.if-miss-eq0.true)
 
-add-urgency : tie.Need-overflow-add-urgency
+add-urgency : tie.Need-overflow_add-i-4
 add-urgency c = search rules
 
-mul-urgency : tie.Need-overflow-mul-urgency
+mul-urgency : tie.Need-offset_bounds-blocks-i-4
 mul-urgency c = search rules
 
-shared-slice-read-urgency : tie.Need-shared-slice-read-urgency
+shared-slice-read-urgency : tie.Need-bounds-blocks-i-4
 shared-slice-read-urgency c = search rules
 
-size-of-requires : tie.Need-size-of-requires
+size-of-requires : tie.Need-size_of-requires
 size-of-requires c κs = search rules
 
 urgency-requires : tie.Need-urgency-requires
 urgency-requires c κs = search rules
 
-returns-3 : tie.Need-returns-3
+returns-3 : tie.Need-returns
 unfolding urgency_in
 returns-3 c =
-    let sized = c.before in
-    let missed = sized.before.before.before in
-    let chosen = missed.before.before.before.before in
+    let sized = c in
+    let missed = sized in
+    let chosen = missed in
     rw (
-      not-false chosen.before.before.before.args.taken chosen.if1.false,
-      ← missed.miss-of.ensures,
-      ne_eqb _ 0 sized.before.before.if2.false,
+      not-false chosen.args.taken chosen.if-not-taken.false,
+      ← missed.miss_of-miss.ensures,
+      ne_eqb _ 0 sized.if-miss-eq0.false,
       ← sized.size_of.ensures,
     ) c.urgency.ensures
 
-pub urgency-of-spec : {M : Type 1} → statement M
-urgency-of-spec =
+pub urgency_of_spec : {M : Type 1} → statement M
+urgency_of_spec =
     tie.close
     (tie.spec
     returns

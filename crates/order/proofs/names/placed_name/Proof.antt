@@ -5,40 +5,40 @@ use borrow.Author.Rules.{rules}
 use Rattle.order.proofs.names.placed_name.Statement.{statement}
 use Rattle.order.proofs.names.placed_name.Tie as tie
 
-returns : tie.Need-returns
+returns : tie.Need-returns-then-name-eq0
 returns c =
-    let a = c.before.args in
+    let a = c.args in
     rw (name-none a.t1 a.name (omega arith))
 
-sub-result : tie.Need-overflow-sub-result
+sub-result : tie.Need-overflow_sub-result
 sub-result c = search rules
 
-cast-result : tie.Need-overflow-cast-result
+cast-result : tie.Need-overflow_cast-result
 cast-result c = search rules
 
-mul-result : tie.Need-overflow-mul-result
+mul-result : tie.Need-offset_bounds-place-name
 mul-result c = search rules
 
-array-read-result : tie.Need-array-read-result
+array-read-result : tie.Need-bounds-place-name
 array-read-result c = search rules
 
-add-result : tie.Need-overflow-add-result
+add-result : tie.Need-overflow_add-result
 add-result c =
-    let a = c.before.args in
+    let a = c.args in
     omega (arith, name-some a.t1 a.name (omega arith))
 
-cast-result-2 : tie.Need-overflow-cast-result-2
+cast-result-2 : tie.Need-overflow_cast-result-2
 cast-result-2 c =
-    let a = c.before.args in
+    let a = c.args in
     omega (arith, name-some a.t1 a.name (omega arith))
 
-returns-2 : tie.Need-returns-2
+returns-2 : tie.Need-returns
 returns-2 c =
-    let a = c.before.args in
+    let a = c.args in
     omega (arith, name-some a.t1 a.name (omega arith))
 
-pub placed-name-spec : {M : Type 1} → statement M
-placed-name-spec =
+pub placed_name_spec : {M : Type 1} → statement M
+placed_name_spec =
     tie.close
     (tie.spec
     returns

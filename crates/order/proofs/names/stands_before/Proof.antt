@@ -6,28 +6,28 @@ use borrow.Author.Tests.{le-leb}
 use Rattle.order.proofs.names.stands_before.Statement.{statement}
 use Rattle.order.proofs.names.stands_before.Tie as tie
 
-returns : tie.Need-returns
+returns : tie.Need-returns-then-name-eq0
 returns c =
-    let a = c.before.args in
+    let a = c.args in
     rw (name-none a.t1 a.name (omega arith), le-leb 0 a.j (omega arith))
 
-sub-result : tie.Need-overflow-sub-result
+sub-result : tie.Need-overflow_sub-result
 sub-result c = search rules
 
-cast-result : tie.Need-overflow-cast-result
+cast-result : tie.Need-overflow_cast-result
 cast-result c = search rules
 
-mul-result : tie.Need-overflow-mul-result
+mul-result : tie.Need-offset_bounds-place-name
 mul-result c = search rules
 
-array-read-result : tie.Need-array-read-result
+array-read-result : tie.Need-bounds-place-name
 array-read-result c = search rules
 
-returns-2 : tie.Need-returns-2
+returns-2 : tie.Need-returns
 returns-2 c =
-    let a = c.before.args in
+    let a = c.args in
     rw (name-some a.t1 a.name (omega arith))
 
-pub stands-before-spec : {M : Type 1} → statement M
-stands-before-spec =
+pub stands_before_spec : {M : Type 1} → statement M
+stands_before_spec =
     tie.close (tie.spec returns sub-result cast-result mul-result array-read-result returns-2)

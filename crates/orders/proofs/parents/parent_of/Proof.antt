@@ -8,72 +8,72 @@ use borrow.Author.Rules.{rules}
 use Rattle.orders.proofs.parents.parent_of.Statement.{statement}
 use Rattle.orders.proofs.parents.parent_of.Tie as tie
 
-abbrev invariant-loop : tie.invariant-loop
+abbrev invariant-loop : tie.invariant-loop-left
 invariant-loop book number left₀ i₀ left i = parent_among book (chain book i₀) number ≡ parent_among book (chain_from left book i) number
 
-abbrev decreases-loop : tie.decreases-loop
+abbrev decreases-loop : tie.decreases-loop-left
 decreases-loop book number left₀ i₀ left i = left
 
-record-count-requires : tie.Need-record-count-requires invariant-loop decreases-loop
+record-count-requires : tie.Need-record_count-left-requires invariant-loop decreases-loop
 record-count-requires c κs = search rules
 
-first-link-requires : tie.Need-first-link-requires invariant-loop decreases-loop
+first-link-requires : tie.Need-first_link-i-requires invariant-loop decreases-loop
 first-link-requires c κs = search rules
 
-loop-holds : tie.Need-loop-init invariant-loop decreases-loop
-loop-holds c = rw c.before.record-count.ensures
+loop-holds : tie.Need-loop-left-init invariant-loop decreases-loop
+loop-holds c = rw c.record_count-left.ensures
 
-returns : tie.Need-returns invariant-loop decreases-loop
+returns : tie.Need-returns-then-i-eq0 invariant-loop decreases-loop
 unfolding link_order parent_among
 returns c =
-    let v = c.before.before in
-    sym (rw (chain-end _ _ _ c.if1.true, v.before.first-link.ensures) at v.loop.invariant)
+    let v = c in
+    sym (rw (chain-end _ _ _ c.if-i-eq0.true, v.first_link-i.ensures) at v.loop-left.invariant)
 
-link-at-requires : tie.Need-link-at-requires invariant-loop decreases-loop
+link-at-requires : tie.Need-link_at-link-requires invariant-loop decreases-loop
 link-at-requires c κs = search rules
 
-returns-2 : tie.Need-returns-2 invariant-loop decreases-loop
+returns-2 : tie.Need-returns-then-link-number invariant-loop decreases-loop
 unfolding link_order parent_among
 returns-2 c =
-    let u = c.before.before in
-    let n = u.before in
-    let v = n.before.before in
+    let u = c in
+    let n = u in
+    let v = n in
     sym (rw (
-      chain_more _ _ _ n.before.loop-test.true n.if1.false,
-      v.before.first-link.ensures,
-      ← u.link_at.ensures,
-      eq-eqb _ _ c.if2.true,
-    ) at v.loop.invariant)
+      chain_more _ _ _ n.loop-left-test.true n.if-i-eq0.false,
+      v.first_link-i.ensures,
+      ← u.link_at-link.ensures,
+      eq-eqb _ _ c.if-link-number.true,
+    ) at v.loop-left.invariant)
 
-next-of-requires : tie.Need-next-of-requires invariant-loop decreases-loop
+next-of-requires : tie.Need-next_of-i-requires invariant-loop decreases-loop
 next-of-requires c κs = search rules
 
-sub-left : tie.Need-overflow-sub-left invariant-loop decreases-loop
+sub-left : tie.Need-overflow_sub-left invariant-loop decreases-loop
 sub-left c = search rules
 
-loop-less : tie.Need-loop-smaller invariant-loop decreases-loop
+loop-less : tie.Need-loop-left-smaller invariant-loop decreases-loop
 loop-less c = search rules
 
-loop-again : tie.Need-loop-preserved invariant-loop decreases-loop
+loop-again : tie.Need-loop-left-preserved invariant-loop decreases-loop
 unfolding parent_among
 loop-again c =
-    let u = c.before.before.before in
-    let n = u.before in
-    let v = n.before.before in
-    v.loop.invariant
+    let u = c in
+    let n = u in
+    let v = n in
+    v.loop-left.invariant
     ∙ rw (
-      chain_more _ _ _ n.before.loop-test.true n.if1.false,
-      ← u.link_at.ensures,
-      ne_eqb _ _ c.before.if2.false,
-      c.next_of.ensures,
+      chain_more _ _ _ n.loop-left-test.true n.if-i-eq0.false,
+      ← u.link_at-link.ensures,
+      ne_eqb _ _ c.if-link-number.false,
+      c.next_of-i.ensures,
     )
 
-returns-3 : tie.Need-returns-3 invariant-loop decreases-loop
+returns-3 : tie.Need-returns invariant-loop decreases-loop
 unfolding link_order parent_among
-returns-3 c = let v = c.before in sym (rw (chain-none _ _ _ c.loop-test.false, v.before.first-link.ensures) at v.loop.invariant)
+returns-3 c = let v = c in sym (rw (chain-none _ _ _ c.loop-left-test.false, v.first_link-i.ensures) at v.loop-left.invariant)
 
-pub parent-of-spec : {M : Type 1} → statement M
-parent-of-spec =
+pub parent_of_spec : {M : Type 1} → statement M
+parent_of_spec =
     tie.close
     (tie.spec
     invariant-loop

@@ -5,27 +5,27 @@ use borrow.Author.Rules.{rules}
 use Rattle.orders.proofs.parents.parent_place.Statement.{statement}
 use Rattle.orders.proofs.parents.parent_place.Tie as tie
 
-number-of-requires : tie.Need-number-of-requires
+number-of-requires : tie.Need-number_of-requires
 number-of-requires c κs = search rules
 
-parent-of-requires : tie.Need-parent-of-requires
+parent-of-requires : tie.Need-parent_of-parent-requires
 parent-of-requires c κs = search rules
 
-returns : tie.Need-returns
+returns : tie.Need-returns-then-parent-eq0
 unfolding parent_place_at parent_place_in
 returns c =
-    let parent = c.before in
-    rw (← parent.before.number_of_lem.ensures, ← parent.parent_of.ensures, eq-eqb _ _ c.if1.true)
+    let parent = c in
+    rw (← parent.number_of.ensures, ← parent.parent_of-parent.ensures, eq-eqb _ _ c.if-parent-eq0.true)
 
-place-of-requires : tie.Need-place-of-requires
+place-of-requires : tie.Need-place_of-requires
 place-of-requires c κs = search rules
 
-returns-2 : tie.Need-returns-2
+returns-2 : tie.Need-returns
 unfolding parent_place_at parent_place_in
 returns-2 c =
-    let parent = c.before.before in
-    rw (← parent.before.number_of_lem.ensures, ← parent.parent_of.ensures, ne_eqb _ _ c.before.if1.false) c.place_of.ensures
+    let parent = c in
+    rw (← parent.number_of.ensures, ← parent.parent_of-parent.ensures, ne_eqb _ _ c.if-parent-eq0.false) c.place_of.ensures
 
-pub parent-place-spec : {M : Type 1} → statement M
-parent-place-spec =
+pub parent_place_spec : {M : Type 1} → statement M
+parent_place_spec =
     tie.close (tie.spec number-of-requires parent-of-requires returns place-of-requires returns-2)

@@ -4,35 +4,35 @@ use borrow.Author.Rules.{rules}
 use Rattle.passes.proofs.stages.find_at_guess.Statement.{statement}
 use Rattle.passes.proofs.stages.find_at_guess.Tie as tie
 
-guess-requires : tie.Need-guess-requires
+guess-requires : tie.Need-guess-guessed-requires
 guess-requires c κs = search rules
 
-find-by-limits-requires : tie.Need-find-by-limits-requires
+find-by-limits-requires : tie.Need-find_by_limits-requires
 find-by-limits-requires c κs = search rules
 
-returns : tie.Need-returns
-returns c = c.find-by-limits.ensures
+returns : tie.Need-returns-then-guessed-gt-LAST_NEAR
+returns c = c.find_by_limits.ensures
 
-add-find-light : tie.Need-overflow-add-find-light
+add-find-light : tie.Need-overflow_add-guessed
 add-find-light c = search rules
 
-add-find-light-2 : tie.Need-overflow-add-find-light-2
+add-find-light-2 : tie.Need-overflow_add-guessed-2
 add-find-light-2 c = search rules
 
-find-light-requires : tie.Need-find-light-requires
+find-light-requires : tie.Need-find_light-light-requires
 find-light-requires c κs = search rules
 
-returns-2 : tie.Need-returns-2
-returns-2 c = c.before.before.before.find-light.ensures.0 c.if2.true
+returns-2 : tie.Need-returns-then-near-gt0
+returns-2 c = c.find_light-light.ensures.0 c.if-near-gt0.true
 
-find-heavy-requires : tie.Need-find-heavy-requires
+find-heavy-requires : tie.Need-find_heavy-requires
 find-heavy-requires c κs = search rules
 
-returns-3 : tie.Need-returns-3
-returns-3 c = c.find-heavy.ensures
+returns-3 : tie.Need-returns
+returns-3 c = c.find_heavy.ensures
 
-pub find-at-guess-spec : {M : Type 1} → statement M
-find-at-guess-spec =
+pub find_at_guess_spec : {M : Type 1} → statement M
+find_at_guess_spec =
     tie.close
     (tie.spec
     guess-requires

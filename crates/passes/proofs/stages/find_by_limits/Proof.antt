@@ -4,21 +4,21 @@ use borrow.Author.Rules.{rules}
 use Rattle.passes.proofs.stages.find_by_limits.Statement.{statement}
 use Rattle.passes.proofs.stages.find_by_limits.Tie as tie
 
-find-light-requires : tie.Need-find-light-requires
+find-light-requires : tie.Need-find_light-light-requires
 find-light-requires c κs = search rules
 
-returns : tie.Need-returns
-returns c = c.before.before.before.find-light.ensures.0 c.if1.true
+returns : tie.Need-returns-then-best-gt0
+returns c = c.find_light-light.ensures.0 c.if-best-gt0.true
 
-guess-requires : tie.Need-guess-requires
+guess-requires : tie.Need-guess-guessed-requires
 guess-requires c κs = search rules
 
-find-heavy-requires : tie.Need-find-heavy-requires
+find-heavy-requires : tie.Need-find_heavy-requires
 find-heavy-requires c κs = search rules
 
-returns-2 : tie.Need-returns-2
-returns-2 c = c.find-heavy.ensures
+returns-2 : tie.Need-returns
+returns-2 c = c.find_heavy.ensures
 
-pub find-by-limits-spec : {M : Type 1} → statement M
-find-by-limits-spec =
+pub find_by_limits_spec : {M : Type 1} → statement M
+find_by_limits_spec =
     tie.close (tie.spec find-light-requires returns guess-requires find-heavy-requires returns-2)

@@ -14,66 +14,66 @@ use Rattle.places.proofs.cells.counted_least_gaps.Statement.{statement}
 use Rattle.places.proofs.cells.counted_least_gaps.Tie as tie
 
 -- the place of hour 3 is within its row
-own-inside : (c : tie.After-smaller) → let a = c.before.before.before.before.before.before.args in
-    (change_row * row_width a.gap.now + c.smaller.result + 1 < length a.gap.now) × (length a.gap.now < hour_places * (last_place + 3))
+own-inside : (c : tie.After-smaller-place) → let a = c.args in
+    (change_row * row_width a.gap.now + c.smaller-place.result + 1 < length a.gap.now) × (length a.gap.now < hour_places * (last_place + 3))
 own-inside c =
-    let s = c.before.before.before.before.before.before in
+    let s = c in
     let a = s.args in
-    let near = rw c.before.larger.ensures at c.smaller.ensures in
+    let near = rw c.larger.ensures at c.smaller-place.ensures in
     let below = (smaller-below (larger (get_or a.turn.now change_row 0) (get_or a.t3 change_row 0)) (get_or a.t4 change_row 0)).1 in
-    place_inside a.gap.now change_row c.smaller.result s.pre.0 (omega arith) (omega (arith, s.pre.2 change_row (omega arith)))
+    place_inside a.gap.now change_row c.smaller-place.result s.pre.0 (omega arith) (omega (arith, s.pre.2 change_row (omega arith)))
 
 -- its gap is the one that counts
-own_is : (c : tie.After-smaller) → let a = c.before.before.before.before.before.before.args in
-    get_or a.gap.now (change_row * row_width a.gap.now + c.smaller.result) 0 ≡ least_gap a.gap.now a.turn.now a.t3 a.t4 change_hour
-own_is c = rw (c.smaller.ensures, c.before.larger.ensures)
+own_is : (c : tie.After-smaller-place) → let a = c.args in
+    get_or a.gap.now (change_row * row_width a.gap.now + c.smaller-place.result) 0 ≡ least_gap a.gap.now a.turn.now a.t3 a.t4 change_hour
+own_is c = rw (c.smaller-place.ensures, c.larger.ensures)
 
-least-gaps-requires : tie.Need-least-gaps-requires
+least-gaps-requires : tie.Need-least_gaps-once-requires
 least-gaps-requires c κs = search rules
 
-shared-slice-read-larger : tie.Need-shared-slice-read-larger
+shared-slice-read-larger : tie.Need-bounds-turn-2
 shared-slice-read-larger c = search rules
 
-array-read-larger : tie.Need-array-read-larger
+array-read-larger : tie.Need-bounds-from-2
 array-read-larger c = search rules
 
 larger-requires : tie.Need-larger-requires
 larger-requires c κs = search rules
 
-array-read-smaller : tie.Need-array-read-smaller
+array-read-smaller : tie.Need-bounds-to-2
 array-read-smaller c = search rules
 
-smaller-requires : tie.Need-smaller-requires
+smaller-requires : tie.Need-smaller-place-requires
 smaller-requires c κs = search rules
 
-mul-own : tie.Need-mul-own
+mul-own : tie.Need-overflow_mul-own
 mul-own c = search rules
 
-cast-own : tie.Need-cast-own
+cast-own : tie.Need-overflow_cast-own
 cast-own c = search rules
 
-add-own : tie.Need-add-own
+add-own : tie.Need-overflow_add-own
 add-own c = record { fits = omega (arith, own-inside c) }
 
-mul-own-2 : tie.Need-mul-own-2
+mul-own-2 : tie.Need-offset_bounds-gap-width
 mul-own-2 c = record { fits = omega (arith, own-inside c) }
 
-shared-slice-read-own : tie.Need-shared-slice-read-own
-shared-slice-read-own c = omega (arith, own-inside c.before)
+shared-slice-read-own : tie.Need-bounds-gap-width
+shared-slice-read-own c = omega (arith, own-inside c)
 
-counted-sum-requires : tie.Need-counted-sum-requires
+counted-sum-requires : tie.Need-counted_sum-requires
 counted-sum-requires c κs =
-    let s = c.before in
-    let once = s.before.before.before.least-gaps.ensures in
-    (rw (own_is s, once.0) (own-within _), once.1, s.before.before.before.before.before.before.pre.3)
+    let s = c in
+    let once = s.least_gaps-once.ensures in
+    (rw (own_is s, once.0) (own-within _), once.1, s.pre.3)
 
 returns : tie.Need-returns
 returns c =
-    let s = c.before.before in
-    (counted_is _ _ _ _ _ s.before.before.before.least-gaps.ensures.0 (own_is s) c.counted-sum.ensures.0, c.counted-sum.ensures.1)
+    let s = c in
+    (counted_is _ _ _ _ _ s.least_gaps-once.ensures.0 (own_is s) c.counted_sum.ensures.0, c.counted_sum.ensures.1)
 
-pub counted-least-gaps-spec : {M : Type 1} → statement M
-counted-least-gaps-spec =
+pub counted_least_gaps_spec : {M : Type 1} → statement M
+counted_least_gaps_spec =
     tie.close
     (tie.spec
     least-gaps-requires

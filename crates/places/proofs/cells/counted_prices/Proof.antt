@@ -9,18 +9,18 @@ use borrow.Author.Rules.{rules}
 use Rattle.places.proofs.cells.counted_prices.Statement.{statement}
 use Rattle.places.proofs.cells.counted_prices.Tie as tie
 
-array-read-counted : tie.Need-array-read-counted
+array-read-counted : tie.Need-bounds-prices-2
 array-read-counted c = search rules
 
-mul-counted : tie.Need-overflow-mul-counted
+mul-counted : tie.Need-overflow_mul-counted
 mul-counted c = record { fits = omega (arith, product_le c.args.often (get_or c.args.t1 2 0) 2 max_price c.requires.1 (c.requires.0 2)) }
 
-array-write-counted : tie.Need-array-write-counted
+array-write-counted : tie.Need-bounds-counted-2
 array-write-counted c = search rules
 
 returns : tie.Need-returns
 returns c = (refl, counted-small c.args.often c.args.t1 c.requires.1 (search rules) c.requires.0)
 
-pub counted-prices-spec : {M : Type 1} → statement M
-counted-prices-spec =
+pub counted_prices_spec : {M : Type 1} → statement M
+counted_prices_spec =
     tie.close (tie.spec array-read-counted mul-counted array-write-counted returns)

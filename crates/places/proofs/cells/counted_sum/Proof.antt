@@ -12,17 +12,17 @@ room : (c : tie.Start) → let a = c.args in
     (a.often * a.own_val < 2 ^ 34) × (a.sum - a.own_val + a.often * a.own_val + a.own_val ≡ a.sum + a.often * a.own_val) × (a.sum - a.own_val + a.often * a.own_val ≤ most_counted_gaps)
 room c = counted-room c.args.sum c.args.own_val c.args.often c.requires.0 c.requires.1 (search rules) c.requires.2
 
-sub-result : tie.Need-overflow-sub-result
+sub-result : tie.Need-overflow_sub-result
 sub-result c = search rules
 
-mul-result : tie.Need-overflow-mul-result
+mul-result : tie.Need-overflow_mul-result
 mul-result c = record { fits = omega (arith, (room c).0) }
 
-add-result : tie.Need-overflow-add-result
+add-result : tie.Need-overflow_add-result
 add-result c = record { fits = omega (arith, (room c).2) }
 
 returns : tie.Need-returns
 returns c = ((room c).1, (room c).2)
 
-pub counted-sum-spec : {M : Type 1} → statement M
-counted-sum-spec = tie.close (tie.spec sub-result mul-result add-result returns)
+pub counted_sum_spec : {M : Type 1} → statement M
+counted_sum_spec = tie.close (tie.spec sub-result mul-result add-result returns)

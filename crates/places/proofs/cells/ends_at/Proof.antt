@@ -9,73 +9,73 @@ use borrow.Author.Rules.{rules}
 use Rattle.places.proofs.cells.ends_at.Statement.{statement}
 use Rattle.places.proofs.cells.ends_at.Tie as tie
 
-abbrev invariant-loop : tie.invariant-loop
+abbrev invariant-loop : tie.invariant-loop-h
 invariant-loop unit-prices above places width prices₀ h₀ prices h = PricesTo (end_above above) unit-prices places h prices
 
-abbrev decreases-loop : tie.decreases-loop
+abbrev decreases-loop : tie.decreases-loop-h
 decreases-loop unit-prices above places width prices₀ h₀ prices h = hour_places - h
 
 -- the two cells of an hour are within the table
-cells-inside : (a : tie.At-loop invariant-loop decreases-loop) → a.loop.h < hour_places → let g = a.before.args in
-    (a.loop.h * row_width g.unit-prices.now + get_or g.t2 a.loop.h 0 + 1 < length g.unit-prices.now)
+cells-inside : (a : tie.At-loop invariant-loop decreases-loop) → a.loop-h.h < hour_places → let g = a.args in
+    (a.loop-h.h * row_width g.unit-prices.now + get_or g.t2 a.loop-h.h 0 + 1 < length g.unit-prices.now)
     × (length g.unit-prices.now < hour_places * (last_place + 3))
 cells-inside a k =
-    let s = a.before in
-    place_inside s.args.unit-prices.now a.loop.h (get_or s.args.t2 a.loop.h 0) s.requires.0 k (s.requires.2 a.loop.h)
+    let s = a in
+    place_inside s.args.unit-prices.now a.loop-h.h (get_or s.args.t2 a.loop-h.h 0) s.requires.0 k (s.requires.2 a.loop-h.h)
 
-loop-holds : tie.Need-loop-init invariant-loop decreases-loop
+loop-holds : tie.Need-loop-h-init invariant-loop decreases-loop
 loop-holds c = prices-start _ _ _
 
-mul_at : tie.Need-overflow-mul-at invariant-loop decreases-loop
-mul_at c = omega (arith, cells-inside c.before c.loop-test.true)
+mul_at : tie.Need-overflow_mul-at invariant-loop decreases-loop
+mul_at c = omega (arith, cells-inside c c.loop-h-test.true)
 
-mul-at-2 : tie.Need-overflow-mul-at-2 invariant-loop decreases-loop
+mul-at-2 : tie.Need-offset_bounds-places-h invariant-loop decreases-loop
 mul-at-2 c = search rules
 
-array-read-at : tie.Need-array-read-at invariant-loop decreases-loop
+array-read-at : tie.Need-bounds-places-h invariant-loop decreases-loop
 array-read-at c = search rules
 
-cast-at : tie.Need-overflow-cast-at invariant-loop decreases-loop
+cast-at : tie.Need-overflow_cast-at invariant-loop decreases-loop
 cast-at c = search rules
 
-add_at : tie.Need-overflow-add-at invariant-loop decreases-loop
-add_at c = omega (arith, cells-inside c.before c.loop-test.true)
+add_at : tie.Need-overflow_add-at invariant-loop decreases-loop
+add_at c = omega (arith, cells-inside c c.loop-h-test.true)
 
-add-prices : tie.Need-overflow-add-prices invariant-loop decreases-loop
-add-prices c = omega (arith, cells-inside c.before c.loop-test.true)
+add-prices : tie.Need-overflow_add-prices invariant-loop decreases-loop
+add-prices c = omega (arith, cells-inside c c.loop-h-test.true)
 
-mul-prices : tie.Need-overflow-mul-prices invariant-loop decreases-loop
-mul-prices c = omega (arith, cells-inside c.before c.loop-test.true)
+mul-prices : tie.Need-offset_bounds-unit_prices-at invariant-loop decreases-loop
+mul-prices c = omega (arith, cells-inside c c.loop-h-test.true)
 
-shared-slice-read-prices : tie.Need-shared-slice-read-prices invariant-loop decreases-loop
-shared-slice-read-prices c = omega (arith, cells-inside c.before.before c.before.loop-test.true)
+shared-slice-read-prices : tie.Need-bounds-unit_prices-at invariant-loop decreases-loop
+shared-slice-read-prices c = omega (arith, cells-inside c c.loop-h-test.true)
 
-mul-prices-2 : tie.Need-overflow-mul-prices-2 invariant-loop decreases-loop
+mul-prices-2 : tie.Need-offset_bounds-prices-h invariant-loop decreases-loop
 mul-prices-2 c = search rules
 
-array-write-prices : tie.Need-array-write-prices invariant-loop decreases-loop
+array-write-prices : tie.Need-bounds-prices-h invariant-loop decreases-loop
 array-write-prices c = search rules
 
-add-h : tie.Need-overflow-add-h invariant-loop decreases-loop
+add-h : tie.Need-overflow_add-h invariant-loop decreases-loop
 add-h c = search rules
 
-loop-less : tie.Need-loop-smaller invariant-loop decreases-loop
+loop-less : tie.Need-loop-h-smaller invariant-loop decreases-loop
 loop-less c = search rules
 
-loop-again : tie.Need-loop-preserved invariant-loop decreases-loop
+loop-again : tie.Need-loop-h-preserved invariant-loop decreases-loop
 loop-again c =
-    let s = c.before.before.before in
-    let v = c.before.before.loop in
-    prices-next _ _ _ _ _ _ v.invariant c.before.loop-test.true
+    let s = c in
+    let v = c.loop-h in
+    prices-next _ _ _ _ _ _ v.invariant c.loop-h-test.true
     (end-above s.args.above s.args.unit-prices.now s.args.t2 v.h s.requires.3)
 
 returns : tie.Need-returns invariant-loop decreases-loop
 returns c =
-    let s = c.before.before in
-    prices-all _ _ _ _ _ (end-priced s.args.above) c.before.loop.invariant c.loop-test.false s.requires.1
+    let s = c in
+    prices-all _ _ _ _ _ (end-priced s.args.above) c.loop-h.invariant c.loop-h-test.false s.requires.1
 
-pub ends-at-spec : {M : Type 1} → statement M
-ends-at-spec =
+pub ends_at_spec : {M : Type 1} → statement M
+ends_at_spec =
     tie.close
     (tie.spec
     invariant-loop

@@ -5,19 +5,19 @@ use borrow.Author.Rules.{rules}
 use Rattle.places.proofs.limits.keeps_limit.Statement.{statement}
 use Rattle.places.proofs.limits.keeps_limit.Tie as tie
 
-price-sum-requires : tie.Need-price-sum-requires
+price-sum-requires : tie.Need-price_sum-requires
 price-sum-requires c κs = search rules
 
-price-sum-requires-2 : tie.Need-price-sum-requires-2
+price-sum-requires-2 : tie.Need-price_sum-requires-else-side-eq0
 price-sum-requires-2 c κs = search rules
 
-returns : tie.Need-returns
+returns : tie.Need-returns-then-side-eq0
 unfolding keeps_at
-returns c = rw (c.price-sum.ensures.0, c.before.if1.true)
+returns c = rw (c.price_sum.ensures.0, c.if-side-eq0.true)
 
-returns-2 : tie.Need-returns-2
+returns-2 : tie.Need-returns-else-side-eq0
 unfolding keeps_at
-returns-2 c = rw (c.price-sum2.ensures.0, side-sell _ c.before.if1.false)
+returns-2 c = rw (c.price_sum-else-side-eq0.ensures.0, side-sell _ c.if-side-eq0.false)
 
-pub keeps-limit-spec : {M : Type 1} → statement M
-keeps-limit-spec = tie.close (tie.spec price-sum-requires price-sum-requires-2 returns returns-2)
+pub keeps_limit_spec : {M : Type 1} → statement M
+keeps_limit_spec = tie.close (tie.spec price-sum-requires price-sum-requires-2 returns returns-2)

@@ -10,84 +10,84 @@ use borrow.Author.Rules.{rules}
 use Rattle.places.proofs.limits.keeps_limits.Statement.{statement}
 use Rattle.places.proofs.limits.keeps_limits.Tie as tie
 
-abbrev invariant-loop : tie.invariant-loop
+abbrev invariant-loop : tie.invariant-loop-i
 invariant-loop blocks count set high low i₀ i = (i ≤ most_blocks) × (all_keep blocks set high low count ≡ all_keep blocks set high low i)
 
-abbrev decreases-loop : tie.decreases-loop
+abbrev decreases-loop : tie.decreases-loop-i
 decreases-loop blocks count set high low i₀ i = i
 
-loop-holds : tie.Need-loop-init invariant-loop decreases-loop
-loop-holds c = (c.before.before.before.requires.1, refl)
+loop-holds : tie.Need-loop-i-init invariant-loop decreases-loop
+loop-holds c = (c.requires.1, refl)
 
-sub-i : tie.Need-overflow-sub-i invariant-loop decreases-loop
+sub-i : tie.Need-overflow_sub-i invariant-loop decreases-loop
 sub-i c = search rules
 
-cast-chosen : tie.Need-overflow-cast-chosen invariant-loop decreases-loop
+cast-chosen : tie.Need-overflow_cast-chosen invariant-loop decreases-loop
 cast-chosen c = search rules
 
-shr-chosen : tie.Need-overflow-shr-chosen invariant-loop decreases-loop
-shr-chosen c = omega (arith, c.before.loop.invariant.0)
+shr-chosen : tie.Need-overflow_shr-chosen invariant-loop decreases-loop
+shr-chosen c = omega (arith, c.loop-i.invariant.0)
 
-add-keeps-limit : tie.Need-overflow-add-keeps-limit invariant-loop decreases-loop
+add-keeps-limit : tie.Need-overflow_add-i invariant-loop decreases-loop
 add-keeps-limit c = search rules
 
-mul-keeps-limit : tie.Need-overflow-mul-keeps-limit invariant-loop decreases-loop
+mul-keeps-limit : tie.Need-offset_bounds-blocks-i invariant-loop decreases-loop
 mul-keeps-limit c = search rules
 
-shared-slice-read-keeps-limit : tie.Need-shared-slice-read-keeps-limit invariant-loop decreases-loop
+shared-slice-read-keeps-limit : tie.Need-bounds-blocks-i invariant-loop decreases-loop
 shared-slice-read-keeps-limit c = search rules
 
-add-keeps-limit-2 : tie.Need-overflow-add-keeps-limit-2 invariant-loop decreases-loop
+add-keeps-limit-2 : tie.Need-overflow_add-i-then-chosen-eq1 invariant-loop decreases-loop
 add-keeps-limit-2 c = search rules
 
-mul-keeps-limit-2 : tie.Need-overflow-mul-keeps-limit-2 invariant-loop decreases-loop
+mul-keeps-limit-2 : tie.Need-offset_bounds-blocks-i-then-chosen-eq1 invariant-loop decreases-loop
 mul-keeps-limit-2 c = search rules
 
-shared-slice-read-keeps-limit-2 : tie.Need-shared-slice-read-keeps-limit-2 invariant-loop decreases-loop
+shared-slice-read-keeps-limit-2 : tie.Need-bounds-blocks-i-then-chosen-eq1 invariant-loop decreases-loop
 shared-slice-read-keeps-limit-2 c = search rules
 
-add-keeps-limit-3 : tie.Need-overflow-add-keeps-limit-3 invariant-loop decreases-loop
+add-keeps-limit-3 : tie.Need-overflow_add-i-then-chosen-eq1-2 invariant-loop decreases-loop
 add-keeps-limit-3 c = search rules
 
-mul-keeps-limit-3 : tie.Need-overflow-mul-keeps-limit-3 invariant-loop decreases-loop
+mul-keeps-limit-3 : tie.Need-offset_bounds-blocks-i-then-chosen-eq1-2 invariant-loop decreases-loop
 mul-keeps-limit-3 c = search rules
 
-shared-slice-read-keeps-limit-3 : tie.Need-shared-slice-read-keeps-limit-3 invariant-loop decreases-loop
+shared-slice-read-keeps-limit-3 : tie.Need-bounds-blocks-i-then-chosen-eq1-2 invariant-loop decreases-loop
 shared-slice-read-keeps-limit-3 c = search rules
 
-keeps-limit-requires : tie.Need-keeps-limit-requires invariant-loop decreases-loop
+keeps-limit-requires : tie.Need-keeps_limit-requires invariant-loop decreases-loop
 keeps-limit-requires c κs = search rules
 
-returns : tie.Need-returns invariant-loop decreases-loop
+returns : tie.Need-returns-then-not-keeps_limit invariant-loop decreases-loop
 returns c =
-    let v = c.before.before.before.before.before.before in
-    sym (v.before.loop.invariant.1 ∙ keep-fails _ _ _ _ _ v.loop-test.true c.before.before.before.before.before.if1.true
-    (sym c.before.keeps-limit.ensures ∙ not-true _ c.if2.true))
+    let v = c in
+    sym (v.loop-i.invariant.1 ∙ keep-fails _ _ _ _ _ v.loop-i-test.true c.if-chosen-eq1.true
+    (sym c.keeps_limit.ensures ∙ not-true _ c.if-not-keeps_limit.true))
 
-loop-less : tie.Need-loop-smaller invariant-loop decreases-loop
+loop-less : tie.Need-loop-i-smaller-else-not-keeps_limit invariant-loop decreases-loop
 loop-less c = search rules
 
-loop-again : tie.Need-loop-preserved invariant-loop decreases-loop
+loop-again : tie.Need-loop-i-preserved-else-not-keeps_limit invariant-loop decreases-loop
 loop-again c =
-    let v = c.before.before.before.before.before.before in (
-      omega (arith, v.before.loop.invariant.0),
-      v.before.loop.invariant.1 ∙ keep-passes _ _ _ _ _ v.loop-test.true c.before.before.before.before.before.if1.true
-          (sym c.before.keeps-limit.ensures ∙ not-false _ c.if2.false),
+    let v = c in (
+      omega (arith, v.loop-i.invariant.0),
+      v.loop-i.invariant.1 ∙ keep-passes _ _ _ _ _ v.loop-i-test.true c.if-chosen-eq1.true
+          (sym c.keeps_limit.ensures ∙ not-false _ c.if-not-keeps_limit.false),
     )
 
-loop-less-2 : tie.Need-loop-smaller-2 invariant-loop decreases-loop
+loop-less-2 : tie.Need-loop-i-smaller invariant-loop decreases-loop
 loop-less-2 c = search rules
 
-loop-again-2 : tie.Need-loop-preserved-2 invariant-loop decreases-loop
+loop-again-2 : tie.Need-loop-i-preserved invariant-loop decreases-loop
 loop-again-2 c =
-    let v = c.before in
-    (omega (arith, v.before.loop.invariant.0), v.before.loop.invariant.1 ∙ keep-skips _ _ _ _ _ v.loop-test.true c.if1.false)
+    let v = c in
+    (omega (arith, v.loop-i.invariant.0), v.loop-i.invariant.1 ∙ keep-skips _ _ _ _ _ v.loop-i-test.true c.if-chosen-eq1.false)
 
-returns-2 : tie.Need-returns-2 invariant-loop decreases-loop
-returns-2 c = sym (c.before.loop.invariant.1 ∙ keep-none _ _ _ _ _ c.loop-test.false)
+returns-2 : tie.Need-returns invariant-loop decreases-loop
+returns-2 c = sym (c.loop-i.invariant.1 ∙ keep-none _ _ _ _ _ c.loop-i-test.false)
 
-pub keeps-limits-spec : {M : Type 1} → statement M
-keeps-limits-spec =
+pub keeps_limits_spec : {M : Type 1} → statement M
+keeps_limits_spec =
     tie.close
     (tie.spec
     invariant-loop

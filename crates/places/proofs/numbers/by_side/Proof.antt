@@ -6,11 +6,11 @@ use Rattle.places.proofs.numbers.by_side.Tie as tie
 use Rattle.places.proofs.numbers.by_side.Reads as reads
 use Rattle.places.proofs.numbers.by_side.Lts as lts
 
-returns : tie.Need-returns
+returns : tie.Need-returns-then-side-eq0
 returns c = search rules
 
-returns-2 : tie.Need-returns-2
-returns-2 c = rw (side-sell c.before.args.side c.if1.false)
+returns-2 : tie.Need-returns-else-side-eq0
+returns-2 c = rw (side-sell c.args.side c.if-side-eq0.false)
 
-pub by-side-spec : {M : Type 1} → statement M
-by-side-spec = tie.close (tie.spec returns returns-2)
+pub by_side_spec : {M : Type 1} → statement M
+by_side_spec = tie.close (tie.spec returns returns-2)

@@ -3,11 +3,11 @@ use Rattle.places.proofs.NumberLaws.{larger-is}
 use Rattle.places.proofs.numbers.larger.Statement.{statement}
 use Rattle.places.proofs.numbers.larger.Tie as tie
 
-returns : tie.Need-returns
-returns c = (larger-is _ _).0 c.if1.true
+returns : tie.Need-returns-then-a-b
+returns c = (larger-is _ _).0 c.if-a-b.true
 
-returns-2 : tie.Need-returns-2
-returns-2 c = (larger-is _ _).1 c.if1.false
+returns-2 : tie.Need-returns-else-a-b
+returns-2 c = (larger-is _ _).1 c.if-a-b.false
 
-pub larger-spec : {M : Type 1} → statement M
-larger-spec = tie.close (tie.spec returns returns-2)
+pub larger_spec : {M : Type 1} → statement M
+larger_spec = tie.close (tie.spec returns returns-2)

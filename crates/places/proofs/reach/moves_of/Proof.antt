@@ -7,50 +7,50 @@ use borrow.Author.Rules.{rules}
 use Rattle.places.proofs.reach.moves_of.Statement.{statement}
 use Rattle.places.proofs.reach.moves_of.Tie as tie
 
-add-buys : tie.Need-overflow-add-buys
+add-buys : tie.Need-overflow_add-buys
 add-buys c = search rules
 
-mul-buys : tie.Need-overflow-mul-buys
+mul-buys : tie.Need-offset_bounds-blocks-i
 mul-buys c = search rules
 
-shared-slice-read-buys : tie.Need-shared-slice-read-buys
+shared-slice-read-buys : tie.Need-bounds-blocks-i
 shared-slice-read-buys c = search rules
 
-add-left-out : tie.Need-overflow-add-left-out
+add-left-out : tie.Need-overflow_add-left_out
 add-left-out c = search rules
 
-mul-left-out : tie.Need-overflow-mul-left-out
+mul-left-out : tie.Need-offset_bounds-blocks-i-2
 mul-left-out c = search rules
 
-shared-slice-read-left-out : tie.Need-shared-slice-read-left-out
+shared-slice-read-left-out : tie.Need-bounds-blocks-i-2
 shared-slice-read-left-out c = search rules
 
-cast-left-out : tie.Need-overflow-cast-left-out
-cast-left-out c = omega (arith, c.shared-slice-known2.given (against_column + c.before.before.args.i))
+cast-left-out : tie.Need-overflow_cast-left_out
+cast-left-out c = omega (arith, c.shared_slice_known-2-1.given (against_column + c.args.i))
 
-add-left-out-2 : tie.Need-overflow-add-left-out-2
-add-left-out-2 c = omega (arith, c.shared-slice-known2.given (against_column + c.before.before.args.i), c.before.before.requires.2)
+add-left-out-2 : tie.Need-overflow_add-left_out-2
+add-left-out-2 c = omega (arith, c.shared_slice_known-2-1.given (against_column + c.args.i), c.requires.2)
 
-add-taken : tie.Need-overflow-add-taken
+add-taken : tie.Need-overflow_add-taken
 add-taken c = search rules
 
-mul-taken : tie.Need-overflow-mul-taken
+mul-taken : tie.Need-offset_bounds-blocks-i-3
 mul-taken c = search rules
 
-shared-slice-read-taken : tie.Need-shared-slice-read-taken
+shared-slice-read-taken : tie.Need-bounds-blocks-i-3
 shared-slice-read-taken c = search rules
 
-cast-taken : tie.Need-overflow-cast-taken
-cast-taken c = omega (arith, c.shared-slice-known3.given (gain_column + c.before.before.before.args.i))
+cast-taken : tie.Need-overflow_cast-taken
+cast-taken c = omega (arith, c.shared_slice_known-3-1.given (gain_column + c.args.i))
 
-add-taken-2 : tie.Need-overflow-add-taken-2
-add-taken-2 c = omega (arith, c.shared-slice-known3.given (gain_column + c.before.before.before.args.i), c.before.before.before.requires.2)
+add-taken-2 : tie.Need-overflow_add-taken-2
+add-taken-2 c = omega (arith, c.shared_slice_known-3-1.given (gain_column + c.args.i), c.requires.2)
 
 returns : tie.Need-returns
 returns c = moves-are _ _ _ _ _
 
-pub moves-of-spec : {M : Type 1} → statement M
-moves-of-spec =
+pub moves_of_spec : {M : Type 1} → statement M
+moves_of_spec =
     tie.close
     (tie.spec
     add-buys

@@ -12,22 +12,22 @@ use borrow.Author.Rules.{rules}
 use Rattle.places.proofs.reach.with_moves.Statement.{statement}
 use Rattle.places.proofs.reach.with_moves.Tie as tie
 
-abbrev invariant-loop : tie.invariant-loop
+abbrev invariant-loop : tie.invariant-loop-h
 invariant-loop blocks i must may row more₀ freer₀ h₀ more freer h = RowTo more₀ blocks i must h more × RowTo freer₀ blocks i may h freer
 
-abbrev decreases-loop : tie.decreases-loop
+abbrev decreases-loop : tie.decreases-loop-h
 decreases-loop blocks i must may row more₀ freer₀ h₀ more freer h = hour_places - h
 
-number-of-requires : tie.Need-number-of-requires invariant-loop decreases-loop
+number-of-requires : tie.Need-number_of-must-requires invariant-loop decreases-loop
 number-of-requires c κs = search rules
 
-number-of-requires-2 : tie.Need-number-of-requires-2 invariant-loop decreases-loop
+number-of-requires-2 : tie.Need-number_of-may-requires invariant-loop decreases-loop
 number-of-requires-2 c κs = search rules
 
-mul-row : tie.Need-overflow-mul-row invariant-loop decreases-loop
+mul-row : tie.Need-overflow_mul-row invariant-loop decreases-loop
 mul-row c = search rules
 
-add_row : tie.Need-overflow-add-row invariant-loop decreases-loop
+add_row : tie.Need-overflow_add-row invariant-loop decreases-loop
 add_row c = search rules
 
 -- arrays of 24
@@ -38,110 +38,110 @@ free-size : (s : tie.Start invariant-loop decreases-loop) → length s.args.free
 free-size s = search rules
 
 -- what is added is at most the row
-added : (c : tie.After-shared-slice-known2 invariant-loop decreases-loop) (t : Bool) (n : ℕ) → n ≡ cond t 1 0 →
-    n * get_or c.before.before.before.before.before.before.args.blocks.now
-    (rows_column + hour_places * c.before.before.before.before.before.before.args.i + c.before.before.loop.h) 0 ≤ most_added
+added : (c : tie.After-shared_slice_known-in-loop-h-1 invariant-loop decreases-loop) (t : Bool) (n : ℕ) → n ≡ cond t 1 0 →
+    n * get_or c.args.blocks.now
+    (rows_column + hour_places * c.args.i + c.loop-h.h) 0 ≤ most_added
 added c t n e =
-    let s = c.before.before.before.before.before.before in
-    let row = rw sub-one at (s.requires.0.rows_fit s.args.i (suc c.before.before.loop.h)) in
-    omega (arith, row, times-le t n (get_or s.args.blocks.now (rows_column + hour_places * s.args.i + c.before.before.loop.h) 0) e)
+    let s = c in
+    let row = rw sub-one at (s.requires.0.rows_fit s.args.i (suc c.loop-h.h)) in
+    omega (arith, row, times-le t n (get_or s.args.blocks.now (rows_column + hour_places * s.args.i + c.loop-h.h) 0) e)
 
-loop-holds : tie.Need-loop-init invariant-loop decreases-loop
-loop-holds c = (row-start _ _ _ _ (least_size c.before.before.before), row-start _ _ _ _ (free-size c.before.before.before))
+loop-holds : tie.Need-loop-h-init invariant-loop decreases-loop
+loop-holds c = (row-start _ _ _ _ (least_size c), row-start _ _ _ _ (free-size c))
 
-add-traded : tie.Need-overflow-add-traded invariant-loop decreases-loop
+add-traded : tie.Need-overflow_add-traded invariant-loop decreases-loop
 add-traded c = search rules
 
-mul-traded : tie.Need-overflow-mul-traded invariant-loop decreases-loop
+mul-traded : tie.Need-offset_bounds-blocks-row invariant-loop decreases-loop
 mul-traded c = search rules
 
-shared-slice-read-traded : tie.Need-shared-slice-read-traded invariant-loop decreases-loop
+shared-slice-read-traded : tie.Need-bounds-blocks-row invariant-loop decreases-loop
 shared-slice-read-traded c = search rules
 
-mul-more : tie.Need-overflow-mul-more invariant-loop decreases-loop
+mul-more : tie.Need-overflow_mul-more invariant-loop decreases-loop
 mul-more c = omega (
   arith,
-  added c c.before.before.before.before.before.before.args.moves.must
-      c.before.before.before.before.number_of_lem.result c.before.before.before.before.number_of_lem.ensures,
+  added c c.args.moves.must
+      c.number_of-must.result c.number_of-must.ensures,
 )
 
-mul-more-2 : tie.Need-overflow-mul-more-2 invariant-loop decreases-loop
+mul-more-2 : tie.Need-offset_bounds-more-h invariant-loop decreases-loop
 mul-more-2 c = search rules
 
-array-read-more : tie.Need-array-read-more invariant-loop decreases-loop
+array-read-more : tie.Need-bounds-more-h invariant-loop decreases-loop
 array-read-more c = search rules
 
-add-more : tie.Need-overflow-add-more invariant-loop decreases-loop
+add-more : tie.Need-overflow_add-more invariant-loop decreases-loop
 add-more c =
-    let v = c.before.before.loop in
-    let s = c.before.before.before.before.before.before in
+    let v = c.loop-h in
+    let s = c in
     omega (
       arith,
-      added c s.args.moves.must c.before.before.before.before.number_of_lem.result
-          c.before.before.before.before.number_of_lem.ensures,
+      added c s.args.moves.must c.number_of-must.result
+          c.number_of-must.ensures,
       v.invariant.0.ahead v.h (omega arith),
       s.requires.2 v.h,
     )
 
-array-write-more : tie.Need-array-write-more invariant-loop decreases-loop
+array-write-more : tie.Need-bounds-more-h-in-loop-h invariant-loop decreases-loop
 array-write-more c = search rules
 
-mul-freer : tie.Need-overflow-mul-freer invariant-loop decreases-loop
+mul-freer : tie.Need-overflow_mul-freer invariant-loop decreases-loop
 mul-freer c = omega (
   arith,
-  added c c.before.before.before.before.before.before.args.moves.may c.before.before.before.number-of2.result
-      c.before.before.before.number-of2.ensures,
+  added c c.args.moves.may c.number_of-may.result
+      c.number_of-may.ensures,
 )
 
-mul-freer-2 : tie.Need-overflow-mul-freer-2 invariant-loop decreases-loop
+mul-freer-2 : tie.Need-offset_bounds-freer-h invariant-loop decreases-loop
 mul-freer-2 c = search rules
 
-array-read-freer : tie.Need-array-read-freer invariant-loop decreases-loop
+array-read-freer : tie.Need-bounds-freer-h invariant-loop decreases-loop
 array-read-freer c = search rules
 
-add-freer : tie.Need-overflow-add-freer invariant-loop decreases-loop
+add-freer : tie.Need-overflow_add-freer invariant-loop decreases-loop
 add-freer c =
-    let v = c.before.before.loop in
-    let s = c.before.before.before.before.before.before in
+    let v = c.loop-h in
+    let s = c in
     omega (
       arith,
-      added c s.args.moves.may c.before.before.before.number-of2.result
-          c.before.before.before.number-of2.ensures,
+      added c s.args.moves.may c.number_of-may.result
+          c.number_of-may.ensures,
       v.invariant.1.ahead v.h (omega arith),
       s.requires.3 v.h,
     )
 
-array-write-freer : tie.Need-array-write-freer invariant-loop decreases-loop
+array-write-freer : tie.Need-bounds-freer-h-in-loop-h invariant-loop decreases-loop
 array-write-freer c = search rules
 
-add-h : tie.Need-overflow-add-h invariant-loop decreases-loop
+add-h : tie.Need-overflow_add-h invariant-loop decreases-loop
 add-h c = search rules
 
-loop-less : tie.Need-loop-smaller invariant-loop decreases-loop
+loop-less : tie.Need-loop-h-smaller invariant-loop decreases-loop
 loop-less c = search rules
 
-loop-again : tie.Need-loop-preserved invariant-loop decreases-loop
+loop-again : tie.Need-loop-h-preserved invariant-loop decreases-loop
 loop-again c = (
-  row_next _ _ _ _ _ _ c.before.before.loop.invariant.0 c.before.loop-test.true,
-  row_next _ _ _ _ _ _ c.before.before.loop.invariant.1
-      c.before.loop-test.true,
+  row_next _ _ _ _ _ _ c.loop-h.invariant.0 c.loop-h-test.true,
+  row_next _ _ _ _ _ _ c.loop-h.invariant.1
+      c.loop-h-test.true,
 )
 
 returns : tie.Need-returns invariant-loop decreases-loop
 returns c =
-    let v = c.before.loop in
-    let s = c.before.before.before.before.before in
-    let k = c.loop-test.false in
+    let v = c.loop-h in
+    let s = c in
+    let k = c.loop-h-test.false in
     record {
       more_size = v.invariant.0.size;
       freer_size = v.invariant.1.size;
-      more_is = row-all s.args.least s.args.blocks.now s.args.i _ s.args.moves.must c.before.before.before.number_of_lem.ensures _ _
+      more_is = row-all s.args.least s.args.blocks.now s.args.i _ s.args.moves.must c.number_of-must.ensures _ _
           v.invariant.0 k;
-      freer_is = row-all s.args.free s.args.blocks.now s.args.i _ s.args.moves.may c.before.before.number-of2.ensures _ _ v.invariant.1 k;
+      freer_is = row-all s.args.free s.args.blocks.now s.args.i _ s.args.moves.may c.number_of-may.ensures _ _ v.invariant.1 k;
     }
 
-pub with-moves-spec : {M : Type 1} → statement M
-with-moves-spec =
+pub with_moves_spec : {M : Type 1} → statement M
+with_moves_spec =
     tie.close
     (tie.spec
     invariant-loop

@@ -8,63 +8,63 @@ use borrow.Author.Rules.{rules}
 use Rattle.pricing.proofs.hour.totals_between.Statement.{statement}
 use Rattle.pricing.proofs.hour.totals_between.Tie as tie
 
-abbrev invariant-loop : tie.invariant-loop
+abbrev invariant-loop : tie.invariant-loop-i
 invariant-loop sides prices quantities over to totals₀ i₀ totals i =
     (totals.over ≡ over) × (totals.to ≡ to) × Counted sides prices quantities over to totals.above totals.upto i
 
-abbrev decreases-loop : tie.decreases-loop
+abbrev decreases-loop : tie.decreases-loop-i
 decreases-loop sides prices quantities over to totals₀ i₀ totals i = length sides - i
 
-loop-holds : tie.Need-loop-init invariant-loop decreases-loop
+loop-holds : tie.Need-loop-i-init invariant-loop decreases-loop
 loop-holds c = (refl, refl, counted_none _ _ _ _ _)
 
-shared-slice-read-add : tie.Need-shared-slice-read-add invariant-loop decreases-loop
+shared-slice-read-add : tie.Need-bounds-sides-i invariant-loop decreases-loop
 shared-slice-read-add c = search rules
 
-mul-add : tie.Need-overflow-mul-add invariant-loop decreases-loop
+mul-add : tie.Need-offset_bounds-prices-i invariant-loop decreases-loop
 mul-add c = search rules
 
-shared-slice-read-add-2 : tie.Need-shared-slice-read-add-2 invariant-loop decreases-loop
+shared-slice-read-add-2 : tie.Need-bounds-prices-i invariant-loop decreases-loop
 shared-slice-read-add-2 c = search rules
 
-mul-add-2 : tie.Need-overflow-mul-add-2 invariant-loop decreases-loop
+mul-add-2 : tie.Need-offset_bounds-quantities-i invariant-loop decreases-loop
 mul-add-2 c = search rules
 
-shared-slice-read-add-3 : tie.Need-shared-slice-read-add-3 invariant-loop decreases-loop
+shared-slice-read-add-3 : tie.Need-bounds-quantities-i invariant-loop decreases-loop
 shared-slice-read-add-3 c = search rules
 
-add-requires : tie.Need-add-requires invariant-loop decreases-loop
+add-requires : tie.Need-add-totals-requires invariant-loop decreases-loop
 add-requires c κs =
-    let v = c.before.before.before.before in
-    let pre = v.before.before.before.before.requires in
-    let k = v.loop.invariant.2 in
+    let v = c in
+    let pre = v.requires in
+    let k = v.loop-i.invariant.2 in
     (omega (arith, k.above_fits, k.inside, pre.not_too_many), omega (arith, k.upto_fits, k.inside, pre.not_too_many))
 
-add-i : tie.Need-overflow-add-i invariant-loop decreases-loop
+add-i : tie.Need-overflow_add-i invariant-loop decreases-loop
 add-i c = search rules
 
-loop-less : tie.Need-loop-smaller invariant-loop decreases-loop
+loop-less : tie.Need-loop-i-smaller invariant-loop decreases-loop
 loop-less c = search rules
 
-loop-again : tie.Need-loop-preserved invariant-loop decreases-loop
+loop-again : tie.Need-loop-i-preserved invariant-loop decreases-loop
 loop-again c =
-    let v = c.before.before.before.before.before in
-    let pre = v.before.before.before.before.requires in
-    let over = v.loop.invariant.0 in
-    let to = v.loop.invariant.1 in
-    let e = rw (over, to) at c.add.ensures in (
-      c.add.ensures.0 ∙ over,
-      c.add.ensures.1 ∙ to,
-      counted_next _ _ _ pre _ _ _ _ _ _ _ v.loop.invariant.2 c.before.before.before.before.loop-test.true
-          (omega (arith, c.before.shared-slice-known6.given v.loop.i)) e.2 e.3,
+    let v = c in
+    let pre = v.requires in
+    let over = v.loop-i.invariant.0 in
+    let to = v.loop-i.invariant.1 in
+    let e = rw (over, to) at c.add-totals.ensures in (
+      c.add-totals.ensures.0 ∙ over,
+      c.add-totals.ensures.1 ∙ to,
+      counted_next _ _ _ pre _ _ _ _ _ _ _ v.loop-i.invariant.2 c.loop-i-test.true
+          (omega (arith, c.shared_slice_known-in-loop-i-3-1.given v.loop-i.i)) e.2 e.3,
     )
 
 returns : tie.Need-returns invariant-loop decreases-loop
 returns c =
-    counted-all _ _ _ c.before.before.before.before.before.requires _ _ _ _ _ c.before.loop.invariant.2 c.loop-test.false
+    counted-all _ _ _ c.requires _ _ _ _ _ c.loop-i.invariant.2 c.loop-i-test.false
 
-pub totals-between-spec : {M : Type 1} → statement M
-totals-between-spec =
+pub totals_between_spec : {M : Type 1} → statement M
+totals_between_spec =
     tie.close
     (tie.spec
     invariant-loop

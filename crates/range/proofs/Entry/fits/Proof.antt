@@ -9,5 +9,5 @@ returns : tie.Need-returns
 unfolding entry_fits within
 returns c = refl
 
-pub fits-spec : {M : Type 1} → statement M
-fits-spec = tie.close (tie.spec returns)
+pub fits_spec : {M : Type 1} → statement M
+fits_spec = tie.close (tie.spec returns)

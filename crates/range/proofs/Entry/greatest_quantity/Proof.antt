@@ -5,11 +5,11 @@ use borrow.Author.Rules.{rules}
 use Rattle.range.proofs.Entry.greatest_quantity.Statement.{statement}
 use Rattle.range.proofs.Entry.greatest_quantity.Tie as tie
 
-returns : tie.Need-returns
+returns : tie.Need-returns-then-self-eq0
 returns c = search rules
 
-returns-2 : tie.Need-returns-2
-returns-2 c = by-sell _ _ _ c.if1.false
+returns-2 : tie.Need-returns-else-self-eq0
+returns-2 c = by-sell _ _ _ c.if-self-eq0.false
 
-pub greatest-quantity-spec : {M : Type 1} → statement M
-greatest-quantity-spec = tie.close (tie.spec returns returns-2)
+pub greatest_quantity_spec : {M : Type 1} → statement M
+greatest_quantity_spec = tie.close (tie.spec returns returns-2)

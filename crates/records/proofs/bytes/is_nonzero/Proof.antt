@@ -9,40 +9,40 @@ use borrow.Author.Rules.{rules}
 use Rattle.records.proofs.bytes.is_nonzero.Statement.{statement}
 use Rattle.records.proofs.bytes.is_nonzero.Tie as tie
 
-abbrev invariant-loop : tie.invariant-loop
+abbrev invariant-loop : tie.invariant-loop-left
 invariant-loop book at count i₀ left₀ i left = (i + left ≤ 4295032831) × (nonzero book at count ≡ nonzero book i left)
 
-abbrev decreases-loop : tie.decreases-loop
+abbrev decreases-loop : tie.decreases-loop-left
 decreases-loop book at count i₀ left₀ i left = left
 
-loop-holds : tie.Need-loop-init invariant-loop decreases-loop
+loop-holds : tie.Need-loop-left-init invariant-loop decreases-loop
 loop-holds c = (search rules, refl)
 
 byte-requires : tie.Need-byte-requires invariant-loop decreases-loop
 byte-requires c κs = search rules
 
-returns : tie.Need-returns invariant-loop decreases-loop
-returns c = let p = c.before.before in
-    rw (p.before.loop.invariant.1, nonzero-more _ _ _ p.loop-test.true, ← c.before.byte.ensures, ne_eqb _ _ c.if1.true)
+returns : tie.Need-returns-then-byte-ne0 invariant-loop decreases-loop
+returns c = let p = c in
+    rw (p.loop-left.invariant.1, nonzero-more _ _ _ p.loop-left-test.true, ← c.byte.ensures, ne_eqb _ _ c.if-byte-ne0.true)
 
-add-i : tie.Need-overflow-add-i invariant-loop decreases-loop
+add-i : tie.Need-overflow_add-i invariant-loop decreases-loop
 add-i c = search rules
 
-sub-left : tie.Need-overflow-sub-left invariant-loop decreases-loop
+sub-left : tie.Need-overflow_sub-left invariant-loop decreases-loop
 sub-left c = search rules
 
-loop-less : tie.Need-loop-smaller invariant-loop decreases-loop
+loop-less : tie.Need-loop-left-smaller invariant-loop decreases-loop
 loop-less c = search rules
 
-loop-again : tie.Need-loop-preserved invariant-loop decreases-loop
-loop-again c = let p = c.before.before in
-    (search rules, rw (p.before.loop.invariant.1, nonzero-more _ _ _ p.loop-test.true, ← c.before.byte.ensures, eq-eqb _ _ c.if1.false))
+loop-again : tie.Need-loop-left-preserved invariant-loop decreases-loop
+loop-again c = let p = c in
+    (search rules, rw (p.loop-left.invariant.1, nonzero-more _ _ _ p.loop-left-test.true, ← c.byte.ensures, eq-eqb _ _ c.if-byte-ne0.false))
 
-returns-2 : tie.Need-returns-2 invariant-loop decreases-loop
-returns-2 c = rw (c.before.loop.invariant.1, nonzero-none _ _ _ c.loop-test.false)
+returns-2 : tie.Need-returns invariant-loop decreases-loop
+returns-2 c = rw (c.loop-left.invariant.1, nonzero-none _ _ _ c.loop-left-test.false)
 
-pub is-nonzero-spec : {M : Type 1} → statement M
-is-nonzero-spec =
+pub is_nonzero_spec : {M : Type 1} → statement M
+is_nonzero_spec =
     tie.close
     (tie.spec
     invariant-loop

@@ -13,27 +13,27 @@ use borrow.Author.Rules.{rules}
 use Rattle.records.proofs.records.hour_count.Statement.{statement}
 use Rattle.records.proofs.records.hour_count.Tie as tie
 
-abbrev invariant-loop : tie.invariant-loop
+abbrev invariant-loop : tie.invariant-loop-h
 invariant-loop hours count₀ rest₀ h₀ count rest h = (h ≤ 24) × (rest ≡ hours / 2 ^ h) × (count ≡ hours_set h hours) × (count ≤ h)
 
-abbrev decreases-loop : tie.decreases-loop
+abbrev decreases-loop : tie.decreases-loop-h
 decreases-loop hours count₀ rest₀ h₀ count rest h = 24 - h
 
-loop-holds : tie.Need-loop-init invariant-loop decreases-loop
+loop-holds : tie.Need-loop-h-init invariant-loop decreases-loop
 unfolding hours_set
 loop-holds c = (search rules, sym (div-one _), refl, search rules)
 
-add-count : tie.Need-overflow-add-count invariant-loop decreases-loop
+add-count : tie.Need-overflow_add-count invariant-loop decreases-loop
 add-count c = search rules
 
-add-h : tie.Need-overflow-add-h invariant-loop decreases-loop
+add-h : tie.Need-overflow_add-h invariant-loop decreases-loop
 add-h c = search rules
 
-loop-less : tie.Need-loop-smaller invariant-loop decreases-loop
+loop-less : tie.Need-loop-h-smaller invariant-loop decreases-loop
 loop-less c = search rules
 
-loop-again : tie.Need-loop-preserved invariant-loop decreases-loop
-loop-again c = let e = c.before.before.loop.invariant.1 in
+loop-again : tie.Need-loop-h-preserved invariant-loop decreases-loop
+loop-again c = let e = c.loop-h.invariant.1 in
     ⊎_elim
     (λ w. (
       search rules,
@@ -47,11 +47,11 @@ loop-again c = let e = c.before.before.loop.invariant.1 in
       rw (hour-more, ← e, ne_eqb _ _ w.0.left) (omega arith),
       omega arith,
     ))
-    c.if1.branch
+    c.if-rest-eq1.branch
 
 returns : tie.Need-returns invariant-loop decreases-loop
-returns c = let e : c.before.loop.h ≡ 24 = omega arith in rw (← e) c.before.loop.invariant.2
+returns c = let e : c.loop-h.h ≡ 24 = omega arith in rw (← e) c.loop-h.invariant.2
 
-pub hour-count-spec : {M : Type 1} → statement M
-hour-count-spec =
+pub hour_count_spec : {M : Type 1} → statement M
+hour_count_spec =
     tie.close (tie.spec invariant-loop decreases-loop loop-holds add-count add-h loop-less loop-again returns)

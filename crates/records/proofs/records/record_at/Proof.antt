@@ -5,81 +5,81 @@ use borrow.Author.Rules.{rules}
 use Rattle.records.proofs.records.record_at.Statement.{statement}
 use Rattle.records.proofs.records.record_at.Tie as tie
 
-mul-behind : tie.Need-overflow-mul-behind
+mul-behind : tie.Need-overflow_mul-behind
 mul-behind c = search rules
 
-add-behind : tie.Need-overflow-add-behind
+add-behind : tie.Need-overflow_add-behind
 add-behind c = search rules
 
-cast-if1 : tie.Need-overflow-cast-if1
+cast-if1 : tie.Need-overflow_cast-behind-2
 cast-if1 c = search rules
 
-returns : tie.Need-returns
+returns : tie.Need-returns-then-book-behind
 unfolding record_at
-returns c = rw (lt-ltb _ _ c.if1.true)
+returns c = rw (lt-ltb _ _ c.if-book-behind.true)
 
-kind-of-requires : tie.Need-kind-of-requires
+kind-of-requires : tie.Need-kind_of-kind-requires
 kind-of-requires c κs = search rules
 
-step-at-requires : tie.Need-step-at-requires
+step-at-requires : tie.Need-step_at-requires
 step-at-requires c κs = search rules
 
-returns-2 : tie.Need-returns-2
+returns-2 : tie.Need-returns-then-kind-eq-STEP_KIND
 unfolding record_at
 returns-2 c =
-    let kind = c.before.before in
-    simp (le-ltb _ _ kind.before.if1.false, ← kind.kind-of.ensures, eq-eqb _ _ c.before.if2.true, c.step-at.ensures)
+    let kind = c in
+    simp (le-ltb _ _ kind.if-book-behind.false, ← kind.kind_of-kind.ensures, eq-eqb _ _ c.if-kind-eq-STEP_KIND.true, c.step_at.ensures)
 
-block-at-requires : tie.Need-block-at-requires
+block-at-requires : tie.Need-block_at-requires
 block-at-requires c κs = search rules
 
-returns-3 : tie.Need-returns-3
+returns-3 : tie.Need-returns-then-kind-eq-BLOCK_KIND
 unfolding record_at
 returns-3 c =
-    let step = c.before.before in
-    let kind = step.before in
+    let step = c in
+    let kind = step in
     simp (
-      le-ltb _ _ kind.before.if1.false,
-      ← kind.kind-of.ensures,
-      ne_eqb _ _ step.if2.false,
-      eq-eqb _ _ c.before.if3.true,
-      c.block-at.ensures,
+      le-ltb _ _ kind.if-book-behind.false,
+      ← kind.kind_of-kind.ensures,
+      ne_eqb _ _ step.if-kind-eq-STEP_KIND.false,
+      eq-eqb _ _ c.if-kind-eq-BLOCK_KIND.true,
+      c.block_at.ensures,
     )
 
-link-at-requires : tie.Need-link-at-requires
+link-at-requires : tie.Need-link_at-requires
 link-at-requires c κs = search rules
 
-returns-4 : tie.Need-returns-4
+returns-4 : tie.Need-returns-then-kind-eq-LINK_KIND
 unfolding record_at
 returns-4 c =
-    let block = c.before.before in
-    let step = block.before in
-    let kind = step.before in
+    let block = c in
+    let step = block in
+    let kind = step in
     simp (
-      le-ltb _ _ kind.before.if1.false,
-      ← kind.kind-of.ensures,
-      ne_eqb _ _ step.if2.false,
-      ne_eqb _ _ block.if3.false,
-      eq-eqb _ _ c.before.if4.true,
+      le-ltb _ _ kind.if-book-behind.false,
+      ← kind.kind_of-kind.ensures,
+      ne_eqb _ _ step.if-kind-eq-STEP_KIND.false,
+      ne_eqb _ _ block.if-kind-eq-BLOCK_KIND.false,
+      eq-eqb _ _ c.if-kind-eq-LINK_KIND.true,
       c.link_at.ensures,
     )
 
-returns-5 : tie.Need-returns-5
+returns-5 : tie.Need-returns
 unfolding record_at
 returns-5 c =
-    let block = c.before in
-    let step = block.before in
-    let kind = step.before in
+    let block = c in
+    let step = block in
+    let kind = step in
     simp (
-      le-ltb _ _ kind.before.if1.false,
-      ← kind.kind-of.ensures,
-      ne_eqb _ _ step.if2.false,
-      ne_eqb _ _ block.if3.false,
-      ne_eqb _ _ c.if4.false,
+      le-ltb _ _ kind.if-book-behind.false,
+      ← kind.kind_of-kind.ensures,
+      ne_eqb _ _ step.if-kind-eq-STEP_KIND.false,
+      ne_eqb _ _ block.if-kind-eq-BLOCK_KIND.false,
+      ne_eqb _ _ c.if-kind-eq-LINK_KIND.false,
     )
 
-pub record-at-spec : {M : Type 1} → statement M
-record-at-spec =
+pub record_at_spec : {M : Type 1} → statement M
+record_at_spec =
     tie.close
     (tie.spec
     mul-behind

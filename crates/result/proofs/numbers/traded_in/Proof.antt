@@ -4,18 +4,18 @@ use borrow.Author.Rules.{rules}
 use Rattle.result.proofs.numbers.traded_in.Statement.{statement}
 use Rattle.result.proofs.numbers.traded_in.Tie as tie
 
-mul-u32-at : tie.Need-overflow-mul-u32-at
+mul-u32-at : tie.Need-overflow_mul-h
 mul-u32-at c = search rules
 
-add-u32-at : tie.Need-overflow-add-u32-at
+add-u32-at : tie.Need-overflow_add-h
 add-u32-at c = search rules
 
-u32-at-requires : tie.Need-u32-at-requires
+u32-at-requires : tie.Need-u32_at-requires
 u32-at-requires c κs = search rules
 
 returns : tie.Need-returns
 unfolding traded_in
 returns c = cc
 
-pub traded-in-spec : {M : Type 1} → statement M
-traded-in-spec = tie.close (tie.spec mul-u32-at add-u32-at u32-at-requires returns)
+pub traded_in_spec : {M : Type 1} → statement M
+traded_in_spec = tie.close (tie.spec mul-u32-at add-u32-at u32-at-requires returns)

@@ -10,44 +10,44 @@ use borrow.Author.Rules.{rules}
 use Rattle.rivals.proofs.compare.are_same.Statement.{statement}
 use Rattle.rivals.proofs.compare.are_same.Tie as tie
 
-abbrev invariant-loop : tie.invariant-loop
+abbrev invariant-loop : tie.invariant-loop-h
 invariant-loop places others h₀ h = Below (SameIn places others) h
 
-abbrev decreases-loop : tie.decreases-loop
+abbrev decreases-loop : tie.decreases-loop-h
 decreases-loop places others h₀ h = hour_places - h
 
-loop-holds : tie.Need-loop-init invariant-loop decreases-loop
+loop-holds : tie.Need-loop-h-init invariant-loop decreases-loop
 loop-holds c = below_none _
 
-mul-if1 : tie.Need-overflow-mul-if1 invariant-loop decreases-loop
+mul-if1 : tie.Need-offset_bounds-places-h invariant-loop decreases-loop
 mul-if1 c = search rules
 
-array-read-if1 : tie.Need-array-read-if1 invariant-loop decreases-loop
+array-read-if1 : tie.Need-bounds-places-h invariant-loop decreases-loop
 array-read-if1 c = search rules
 
-mul-if1-2 : tie.Need-overflow-mul-if1-2 invariant-loop decreases-loop
+mul-if1-2 : tie.Need-offset_bounds-others-h invariant-loop decreases-loop
 mul-if1-2 c = search rules
 
-array-read-if1-2 : tie.Need-array-read-if1-2 invariant-loop decreases-loop
+array-read-if1-2 : tie.Need-bounds-others-h invariant-loop decreases-loop
 array-read-if1-2 c = search rules
 
-returns : tie.Need-returns invariant-loop decreases-loop
+returns : tie.Need-returns-then-places-h invariant-loop decreases-loop
 returns c = λ e. clash e refl
 
-add-h : tie.Need-overflow-add-h invariant-loop decreases-loop
+add-h : tie.Need-overflow_add-h invariant-loop decreases-loop
 add-h c = search rules
 
-loop-less : tie.Need-loop-smaller invariant-loop decreases-loop
+loop-less : tie.Need-loop-h-smaller invariant-loop decreases-loop
 loop-less c = search rules
 
-loop-again : tie.Need-loop-preserved invariant-loop decreases-loop
-loop-again c = below_more _ _ c.before.before.loop.invariant c.if1.false
+loop-again : tie.Need-loop-h-preserved invariant-loop decreases-loop
+loop-again c = below_more _ _ c.loop-h.invariant c.if-places-h.false
 
-returns-2 : tie.Need-returns-2 invariant-loop decreases-loop
-returns-2 c = λ _ row k. c.before.loop.invariant row (omega (arith, c.loop-test.false))
+returns-2 : tie.Need-returns invariant-loop decreases-loop
+returns-2 c = λ _ row k. c.loop-h.invariant row (omega (arith, c.loop-h-test.false))
 
-pub are-same-spec : {M : Type 1} → statement M
-are-same-spec =
+pub are_same_spec : {M : Type 1} → statement M
+are_same_spec =
     tie.close
     (tie.spec
     invariant-loop

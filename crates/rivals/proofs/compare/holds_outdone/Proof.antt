@@ -10,35 +10,35 @@ use borrow.Author.Rules.{rules}
 use Rattle.rivals.proofs.compare.holds_outdone.Statement.{statement}
 use Rattle.rivals.proofs.compare.holds_outdone.Tie as tie
 
-abbrev invariant-loop : tie.invariant-loop
+abbrev invariant-loop : tie.invariant-loop-j
 invariant-loop blocks at set rival j₀ j = Below (OutdoneFor blocks at set rival) j
 
-abbrev decreases-loop : tie.decreases-loop
+abbrev decreases-loop : tie.decreases-loop-j
 decreases-loop blocks at set rival j₀ j = at - j
 
-loop-holds : tie.Need-loop-init invariant-loop decreases-loop
+loop-holds : tie.Need-loop-j-init invariant-loop decreases-loop
 loop-holds c = below_none _
 
-is-matched-requires : tie.Need-is-matched-requires invariant-loop decreases-loop
+is-matched-requires : tie.Need-is_matched-requires invariant-loop decreases-loop
 is-matched-requires c κs = search rules
 
-returns : tie.Need-returns invariant-loop decreases-loop
+returns : tie.Need-returns-then-not-is_matched invariant-loop decreases-loop
 returns c = λ e. clash e refl
 
-add-j : tie.Need-overflow-add-j invariant-loop decreases-loop
+add-j : tie.Need-overflow_add-j invariant-loop decreases-loop
 add-j c = search rules
 
-loop-less : tie.Need-loop-smaller invariant-loop decreases-loop
+loop-less : tie.Need-loop-j-smaller invariant-loop decreases-loop
 loop-less c = search rules
 
-loop-again : tie.Need-loop-preserved invariant-loop decreases-loop
-loop-again c = below_more _ _ c.before.before.before.loop.invariant (c.before.is-matched.ensures (not-false _ c.if1.false))
+loop-again : tie.Need-loop-j-preserved invariant-loop decreases-loop
+loop-again c = below_more _ _ c.loop-j.invariant (c.is_matched.ensures (not-false _ c.if-not-is_matched.false))
 
-returns-2 : tie.Need-returns-2 invariant-loop decreases-loop
-returns-2 c = λ _ j k. c.before.loop.invariant j (omega (arith, c.loop-test.false))
+returns-2 : tie.Need-returns invariant-loop decreases-loop
+returns-2 c = λ _ j k. c.loop-j.invariant j (omega (arith, c.loop-j-test.false))
 
-pub holds-outdone-spec : {M : Type 1} → statement M
-holds-outdone-spec =
+pub holds_outdone_spec : {M : Type 1} → statement M
+holds_outdone_spec =
     tie.close
     (tie.spec
     invariant-loop

@@ -10,17 +10,17 @@ takes-requires c κs = search rules
 takes-requires-2 : tie.Need-takes-requires-2
 takes-requires-2 c κs = search rules
 
-is-outdone-requires : tie.Need-is-outdone-requires
+is-outdone-requires : tie.Need-is_outdone-requires
 is-outdone-requires c κs = search rules
 
-returns : tie.Need-returns
-returns c = λ e _ _. c.is-outdone.ensures e
+returns : tie.Need-returns-then-takes
+returns c = λ e _ _. c.is_outdone.ensures e
 
-returns-2 : tie.Need-returns-2
+returns-2 : tie.Need-returns
 returns-2 c = λ _.
-    let a = c.before.before.before.before.args in
-    outdone-not a.blocks.now a.at a.set a.rival a.j _ _ c.before.before.takes.ensures c.before.takes2.ensures c.if1.false
+    let a = c.args in
+    outdone-not a.blocks.now a.at a.set a.rival a.j _ _ c.takes.ensures c.takes-2.ensures c.if-takes.false
 
-pub is-matched-spec : {M : Type 1} → statement M
-is-matched-spec =
+pub is_matched_spec : {M : Type 1} → statement M
+is_matched_spec =
     tie.close (tie.spec takes-requires takes-requires-2 is-outdone-requires returns returns-2)

@@ -6,41 +6,41 @@ use borrow.Author.Rules.{rules}
 use Rattle.rivals.proofs.lookup.is_rivalled.Statement.{statement}
 use Rattle.rivals.proofs.lookup.is_rivalled.Tie as tie
 
-returns : tie.Need-returns
+returns : tie.Need-returns-then-size-left
 returns c = λ e. clash e refl
 
-sub-slot-of : tie.Need-overflow-sub-slot-of
+sub-slot-of : tie.Need-overflow_sub-count
 sub-slot-of c = search rules
 
-slot-of-requires : tie.Need-slot-of-requires
-slot-of-requires c κs = has-slots _ _ c.before.if1.false
+slot-of-requires : tie.Need-slot_of-slot-requires
+slot-of-requires c κs = has-slots _ _ c.if-size-left.false
 
-mul-hint : tie.Need-overflow-mul-hint
+mul-hint : tie.Need-offset_bounds-table-slot
 mul-hint c = search rules
 
-slice-read-hint : tie.Need-slice-read-hint
+slice-read-hint : tie.Need-bounds-table-slot
 slice-read-hint c = search rules
 
-is-rival-requires : tie.Need-is-rival-requires
+is-rival-requires : tie.Need-is_rival-requires
 is-rival-requires c κs = search rules
 
-returns-2 : tie.Need-returns-2
-returns-2 c = λ _. c.before.is-rival.ensures c.if3.true
+returns-2 : tie.Need-returns-then-is_rival
+returns-2 c = λ _. c.is_rival.ensures c.if-is_rival.true
 
-mul-table : tie.Need-overflow-mul-table
+mul-table : tie.Need-offset_bounds-table-slot-2
 mul-table c = search rules
 
-slice-write-table : tie.Need-slice-write-table
+slice-write-table : tie.Need-bounds-table-slot-2
 slice-write-table c = search rules
 
-same_length : tie.Need-same-length
+same_length : tie.Need-shape_of-table
 same_length c = search rules
 
-returns-3 : tie.Need-returns-3
+returns-3 : tie.Need-returns
 returns-3 c = λ e. clash e refl
 
-pub is-rivalled-spec : {M : Type 1} → statement M
-is-rivalled-spec =
+pub is_rivalled_spec : {M : Type 1} → statement M
+is_rivalled_spec =
     tie.close
     (tie.spec
     returns

@@ -8,34 +8,34 @@ use borrow.Author.Rules.{rules}
 use Rattle.rivals.proofs.replay.replayed.Statement.{statement}
 use Rattle.rivals.proofs.replay.replayed.Tie as tie
 
-abbrev invariant-loop : tie.invariant-loop
+abbrev invariant-loop : tie.invariant-loop-i
 invariant-loop blocks at set node₀ i₀ node i = (i ≤ at) × Replays blocks i set node
 
-abbrev decreases-loop : tie.decreases-loop
+abbrev decreases-loop : tie.decreases-loop-i
 decreases-loop blocks at set node₀ i₀ node i = at - i
 
-loop-holds : tie.Need-loop-init invariant-loop decreases-loop
+loop-holds : tie.Need-loop-i-init invariant-loop decreases-loop
 loop-holds c = (omega arith, replays-none _ _)
 
-with-next-requires : tie.Need-with-next-requires invariant-loop decreases-loop
+with-next-requires : tie.Need-with_next-node-requires invariant-loop decreases-loop
 with-next-requires c κs = search rules
 
-add-i : tie.Need-overflow-add-i invariant-loop decreases-loop
+add-i : tie.Need-overflow_add-i invariant-loop decreases-loop
 add-i c = search rules
 
-loop-less : tie.Need-loop-smaller invariant-loop decreases-loop
+loop-less : tie.Need-loop-i-smaller invariant-loop decreases-loop
 loop-less c = search rules
 
-loop-again : tie.Need-loop-preserved invariant-loop decreases-loop
-loop-again c = (omega (arith, c.before.loop-test.true), c.with-next.ensures)
+loop-again : tie.Need-loop-i-preserved invariant-loop decreases-loop
+loop-again c = (omega (arith, c.loop-i-test.true), c.with_next-node.ensures)
 
 returns : tie.Need-returns invariant-loop decreases-loop
 returns c =
-    let v = c.before.loop.invariant in
-    let e : c.before.loop.i ≡ c.before.before.before.args.at = omega (arith, v.0, c.loop-test.false) in
+    let v = c.loop-i.invariant in
+    let e : c.loop-i.i ≡ c.args.at = omega (arith, v.0, c.loop-i-test.false) in
     rw e at v.1
 
-pub replayed-spec : {M : Type 1} → statement M
-replayed-spec =
+pub replayed_spec : {M : Type 1} → statement M
+replayed_spec =
     tie.close
     (tie.spec invariant-loop decreases-loop loop-holds with-next-requires add-i loop-less loop-again returns)

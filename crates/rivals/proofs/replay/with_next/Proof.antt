@@ -9,16 +9,16 @@ takes-requires : tie.Need-takes-requires
 takes-requires c κs = search rules
 
 take-requires : tie.Need-take-requires
-take-requires c κs = let a = c.before.before.before in (a.requires.0, a.requires.1, a.requires.2.fits)
+take-requires c κs = let a = c in (a.requires.0, a.requires.1, a.requires.2.fits)
 
-returns : tie.Need-returns
-returns c = let b = c.before.before in replays-taken b.before.before.requires.2 _ (sym b.takes.ensures ∙ c.before.if1.true) c.take.ensures
+returns : tie.Need-returns-then-takes
+returns c = let b = c in replays-taken b.requires.2 _ (sym b.takes.ensures ∙ c.if-takes.true) c.take.ensures
 
 leave-requires : tie.Need-leave-requires
-leave-requires c κs = let a = c.before.before.before in (a.requires.0, a.requires.1, a.requires.2.fits)
+leave-requires c κs = let a = c in (a.requires.0, a.requires.1, a.requires.2.fits)
 
-returns-2 : tie.Need-returns-2
-returns-2 c = let b = c.before.before in replays-left b.before.before.requires.2 _ (sym b.takes.ensures ∙ c.before.if1.false) c.leave.ensures
+returns-2 : tie.Need-returns
+returns-2 c = let b = c in replays-left b.requires.2 _ (sym b.takes.ensures ∙ c.if-takes.false) c.leave.ensures
 
-pub with-next-spec : {M : Type 1} → statement M
-with-next-spec = tie.close (tie.spec takes-requires take-requires returns leave-requires returns-2)
+pub with_next_spec : {M : Type 1} → statement M
+with_next_spec = tie.close (tie.spec takes-requires take-requires returns leave-requires returns-2)

@@ -20,74 +20,74 @@ use Rattle.places.proofs.cells.lows_at.Reads as lows-at-reads
 use Rattle.places.proofs.numbers.choose.Reads as choose-reads
 use Rattle.roots.proofs.held.ends_of.Reads as ends-of-reads
 
-abbrev invariant-loop : tie.invariant-loop
+abbrev invariant-loop : tie.invariant-loop-h
 invariant-loop shifts unit-prices count ends highs lows least₀ most₀ h₀ least most h =
     (length least ≡ hour_places) × Small max_price least × (length most ≡ hour_places) × Small max_price most × (ends.least ≤ max_price) × (ends.most ≤ max_price)
 
-abbrev decreases-loop : tie.decreases-loop
+abbrev decreases-loop : tie.decreases-loop-h
 decreases-loop shifts unit-prices count ends highs lows least₀ most₀ h₀ least most h = hour_places - h
 
-ends-of-requires : tie.Need-ends-of-requires invariant-loop decreases-loop
+ends-of-requires : tie.Need-ends_of-ends-requires invariant-loop decreases-loop
 ends-of-requires c κs = search rules
 
-highs-at-requires : tie.Need-highs-at-requires invariant-loop decreases-loop
+highs-at-requires : tie.Need-highs_at-highs-requires invariant-loop decreases-loop
 highs-at-requires c κs = search rules
 
-lows-at-requires : tie.Need-lows-at-requires invariant-loop decreases-loop
+lows-at-requires : tie.Need-lows_at-lows-requires invariant-loop decreases-loop
 lows-at-requires c κs = search rules
 
-loop-holds : tie.Need-loop-init invariant-loop decreases-loop
+loop-holds : tie.Need-loop-h-init invariant-loop decreases-loop
 loop-holds c =
-    let ends = c.before.before.ends_of.ensures in
+    let ends = c.ends_of-ends.ensures in
     (refl, λ i. omega (arith, zeros hour_places i), refl, λ i. omega (arith, zeros hour_places i), ends.0, ends.1)
 
-mul-empty : tie.Need-overflow-mul-empty invariant-loop decreases-loop
+mul-empty : tie.Need-offset_bounds-highs-h invariant-loop decreases-loop
 mul-empty c = search rules
 
-array-read-empty : tie.Need-array-read-empty invariant-loop decreases-loop
+array-read-empty : tie.Need-bounds-highs-h invariant-loop decreases-loop
 array-read-empty c = search rules
 
-mul-empty-2 : tie.Need-overflow-mul-empty-2 invariant-loop decreases-loop
+mul-empty-2 : tie.Need-offset_bounds-lows-h invariant-loop decreases-loop
 mul-empty-2 c = search rules
 
-array-read-empty-2 : tie.Need-array-read-empty-2 invariant-loop decreases-loop
+array-read-empty-2 : tie.Need-bounds-lows-h invariant-loop decreases-loop
 array-read-empty-2 c = search rules
 
 choose-requires : tie.Need-choose-requires invariant-loop decreases-loop
 choose-requires c κs = search rules
 
-mul-least : tie.Need-overflow-mul-least invariant-loop decreases-loop
+mul-least : tie.Need-offset_bounds-least-h invariant-loop decreases-loop
 mul-least c = search rules
 
-array-write-least : tie.Need-array-write-least invariant-loop decreases-loop
+array-write-least : tie.Need-bounds-least-h invariant-loop decreases-loop
 array-write-least c = search rules
 
-choose-requires-2 : tie.Need-choose-requires-2 invariant-loop decreases-loop
+choose-requires-2 : tie.Need-choose-requires-in-loop-h invariant-loop decreases-loop
 choose-requires-2 c κs = search rules
 
-mul_most : tie.Need-overflow-mul-most invariant-loop decreases-loop
+mul_most : tie.Need-offset_bounds-most-h invariant-loop decreases-loop
 mul_most c = search rules
 
-array-write-most : tie.Need-array-write-most invariant-loop decreases-loop
+array-write-most : tie.Need-bounds-most-h invariant-loop decreases-loop
 array-write-most c = search rules
 
-add-h : tie.Need-overflow-add-h invariant-loop decreases-loop
+add-h : tie.Need-overflow_add-h invariant-loop decreases-loop
 add-h c = search rules
 
-loop-less : tie.Need-loop-smaller invariant-loop decreases-loop
+loop-less : tie.Need-loop-h-smaller invariant-loop decreases-loop
 loop-less c = search rules
 
-loop-again : tie.Need-loop-preserved invariant-loop decreases-loop
+loop-again : tie.Need-loop-h-preserved invariant-loop decreases-loop
 loop-again c =
-    let test = c.before.before in
-    let v = test.before.loop in
+    let test = c in
+    let v = test.loop-h in
     let small = v.invariant in
-    let lows = test.before.before in
-    let highs = lows.before in
-    let t = (highs.before.before.before.args.shifts && eqb (get_or highs.highs-at.result v.h 0) max_price) && eqb (get_or lows.lows-at.result v.h 0) 1 in
-    let inside : v.h < hour_places = test.loop-test.true in
-    let least : c.before.choose.result ≤ max_price = either-le t _ _ 0 max_price c.before.choose.ensures small.4 (omega arith) in
-    let most : c.choose2.result ≤ max_price = either-le t _ _ max_price max_price c.choose2.ensures small.5 (omega arith) in (
+    let lows = test in
+    let highs = lows in
+    let t = (highs.args.shifts && eqb (get_or highs.highs_at-highs.result v.h 0) max_price) && eqb (get_or lows.lows_at-lows.result v.h 0) 1 in
+    let inside : v.h < hour_places = test.loop-h-test.true in
+    let least : c.choose.result ≤ max_price = either-le t _ _ 0 max_price c.choose.ensures small.4 (omega arith) in
+    let most : c.choose-in-loop-h.result ≤ max_price = either-le t _ _ max_price max_price c.choose-in-loop-h.ensures small.5 (omega arith) in (
       rw length-set small.0,
       set-small max_price v.least v.h _ (omega (arith, small.0, inside)) least small.1,
       rw length-set small.2,
@@ -98,11 +98,11 @@ loop-again c =
 
 returns : tie.Need-returns invariant-loop decreases-loop
 returns c =
-    let v = c.before.loop in
+    let v = c.loop-h in
     (v.invariant.1, v.invariant.3)
 
-pub bounds-of-spec : {M : Type 1} → statement M
-bounds-of-spec =
+pub bounds_of_spec : {M : Type 1} → statement M
+bounds_of_spec =
     tie.close
     (tie.spec
     invariant-loop

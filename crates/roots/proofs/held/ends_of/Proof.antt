@@ -12,54 +12,54 @@ use Rattle.roots.proofs.held.ends_of.Lts as lts
 use Rattle.places.proofs.numbers.larger.Reads as larger-reads
 use Rattle.places.proofs.numbers.smaller.Reads as smaller-reads
 
-abbrev invariant-loop : tie.invariant-loop
+abbrev invariant-loop : tie.invariant-loop-i
 invariant-loop count prices least₀ most₀ i₀ least most i = (least ≤ max_price) × (most ≤ max_price)
 
-abbrev decreases-loop : tie.decreases-loop
+abbrev decreases-loop : tie.decreases-loop-i
 decreases-loop count prices least₀ most₀ i₀ least most i = count - i
 
-loop-holds : tie.Need-loop-init invariant-loop decreases-loop
+loop-holds : tie.Need-loop-i-init invariant-loop decreases-loop
 loop-holds c = (omega arith, omega arith)
 
-mul-smaller : tie.Need-overflow-mul-smaller invariant-loop decreases-loop
+mul-smaller : tie.Need-offset_bounds-prices-i invariant-loop decreases-loop
 mul-smaller c = search rules
 
-array-read-smaller : tie.Need-array-read-smaller invariant-loop decreases-loop
+array-read-smaller : tie.Need-bounds-prices-i invariant-loop decreases-loop
 array-read-smaller c = search rules
 
-smaller-requires : tie.Need-smaller-requires invariant-loop decreases-loop
+smaller-requires : tie.Need-smaller-least-requires invariant-loop decreases-loop
 smaller-requires c κs = search rules
 
-mul-larger : tie.Need-overflow-mul-larger invariant-loop decreases-loop
+mul-larger : tie.Need-offset_bounds-prices-i-in-loop-i invariant-loop decreases-loop
 mul-larger c = search rules
 
-array-read-larger : tie.Need-array-read-larger invariant-loop decreases-loop
+array-read-larger : tie.Need-bounds-prices-i-in-loop-i invariant-loop decreases-loop
 array-read-larger c = search rules
 
-larger-requires : tie.Need-larger-requires invariant-loop decreases-loop
+larger-requires : tie.Need-larger-most-requires invariant-loop decreases-loop
 larger-requires c κs = search rules
 
-add-i : tie.Need-overflow-add-i invariant-loop decreases-loop
+add-i : tie.Need-overflow_add-i invariant-loop decreases-loop
 add-i c = search rules
 
-loop-less : tie.Need-loop-smaller invariant-loop decreases-loop
+loop-less : tie.Need-loop-i-smaller invariant-loop decreases-loop
 loop-less c = search rules
 
-loop-again : tie.Need-loop-preserved invariant-loop decreases-loop
+loop-again : tie.Need-loop-i-preserved invariant-loop decreases-loop
 loop-again c =
-    let test = c.before.before in
-    let v = test.before.loop in
-    let s = test.before.before in
-    let price = s.requires.1 v.i test.loop-test.true in (
-      rw c.before.smaller.ensures (omega (arith, (smaller-below v.least (get_or s.args.t2 v.i 0)).0, v.invariant.0)),
-      rw c.larger.ensures (larger-least v.most _ max_price v.invariant.1 price),
+    let test = c in
+    let v = test.loop-i in
+    let s = test in
+    let price = s.requires.1 v.i test.loop-i-test.true in (
+      rw c.smaller-least.ensures (omega (arith, (smaller-below v.least (get_or s.args.t2 v.i 0)).0, v.invariant.0)),
+      rw c.larger-most.ensures (larger-least v.most _ max_price v.invariant.1 price),
     )
 
 returns : tie.Need-returns invariant-loop decreases-loop
-returns c = c.before.loop.invariant
+returns c = c.loop-i.invariant
 
-pub ends-of-spec : {M : Type 1} → statement M
-ends-of-spec =
+pub ends_of_spec : {M : Type 1} → statement M
+ends_of_spec =
     tie.close
     (tie.spec
     invariant-loop

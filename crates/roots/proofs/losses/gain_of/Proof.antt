@@ -17,25 +17,25 @@ less-requires c κs = search rules
 less-requires-2 : tie.Need-less-requires-2
 less-requires-2 c κs = search rules
 
-by-side-requires : tie.Need-by-side-requires
+by-side-requires : tie.Need-by_side-requires
 by-side-requires c κs = search rules
 
-mul-result : tie.Need-overflow-mul-result
+mul-result : tie.Need-overflow_mul-result
 mul-result c =
-    let s = c.before.before.before in
+    let s = c in
     let a = s.args in
-    let fits = side-le (side_for a.side) c.before.before.less.result c.before.less2.result most_limit
-    (omega (arith, c.before.before.less.ensures, s.requires.1)) (omega (arith, c.before.less2.ensures, s.requires.2)) in
+    let fits = side-le (side_for a.side) c.less.result c.less-2.result most_limit
+    (omega (arith, c.less.ensures, s.requires.1)) (omega (arith, c.less-2.ensures, s.requires.2)) in
     record { fits = omega (arith, product-fits a.quantity c.by_side.result s.requires.0 (omega (arith, c.by_side.ensures, fits))) }
 
 returns : tie.Need-returns
 returns c =
-    let s = c.before.before.before in
+    let s = c in
     let a = s.args in
-    let fits = side-le (side_for a.side) c.before.before.less.result c.before.less2.result most_limit
-    (omega (arith, c.before.before.less.ensures, s.requires.1)) (omega (arith, c.before.less2.ensures, s.requires.2)) in
+    let fits = side-le (side_for a.side) c.less.result c.less-2.result most_limit
+    (omega (arith, c.less.ensures, s.requires.1)) (omega (arith, c.less-2.ensures, s.requires.2)) in
     product-fits a.quantity c.by_side.result s.requires.0 (omega (arith, c.by_side.ensures, fits))
 
-pub gain-of-spec : {M : Type 1} → statement M
-gain-of-spec =
+pub gain_of_spec : {M : Type 1} → statement M
+gain_of_spec =
     tie.close (tie.spec less-requires less-requires-2 by-side-requires mul-result returns)

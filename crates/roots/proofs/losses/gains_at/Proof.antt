@@ -11,76 +11,76 @@ use Rattle.places.proofs.cells.counted_prices.Reads as counted-prices-reads
 use Rattle.places.proofs.limits.price_sum.Reads as price-sum-reads
 use Rattle.roots.proofs.losses.gain_of.Reads as gain-of-reads
 
-abbrev invariant-loop : tie.invariant-loop
+abbrev invariant-loop : tie.invariant-loop-i
 invariant-loop count often sides hours limits quantities counted gains₀ i₀ gains i = (i ≤ count) × (gains ≤ i * (most_quantity * most_limit))
 
-abbrev decreases-loop : tie.decreases-loop
+abbrev decreases-loop : tie.decreases-loop-i
 decreases-loop count often sides hours limits quantities counted gains₀ i₀ gains i = count - i
 
-counted-prices-requires : tie.Need-counted-prices-requires invariant-loop decreases-loop
+counted-prices-requires : tie.Need-counted_prices-counted-requires invariant-loop decreases-loop
 counted-prices-requires c κs = search rules
 
-loop-holds : tie.Need-loop-init invariant-loop decreases-loop
+loop-holds : tie.Need-loop-i-init invariant-loop decreases-loop
 loop-holds c = (omega arith, omega arith)
 
-slice-aggregate-price-sum : tie.Need-slice-aggregate-price-sum invariant-loop decreases-loop
+slice-aggregate-price-sum : tie.Need-slice_bounds-price_sum-end invariant-loop decreases-loop
 slice-aggregate-price-sum c = search rules
 
-mul-price-sum : tie.Need-overflow-mul-price-sum invariant-loop decreases-loop
+mul-price-sum : tie.Need-offset_bounds-hours-i invariant-loop decreases-loop
 mul-price-sum c = search rules
 
-array-read-price-sum : tie.Need-array-read-price-sum invariant-loop decreases-loop
+array-read-price-sum : tie.Need-bounds-hours-i invariant-loop decreases-loop
 array-read-price-sum c = search rules
 
-price-sum-requires : tie.Need-price-sum-requires invariant-loop decreases-loop
+price-sum-requires : tie.Need-price_sum-sum-requires invariant-loop decreases-loop
 price-sum-requires c κs = search rules
 
-array-read-gain-of : tie.Need-array-read-gain-of invariant-loop decreases-loop
+array-read-gain-of : tie.Need-bounds-sides-i invariant-loop decreases-loop
 array-read-gain-of c = search rules
 
-mul-gain-of : tie.Need-overflow-mul-gain-of invariant-loop decreases-loop
+mul-gain-of : tie.Need-offset_bounds-quantities-i invariant-loop decreases-loop
 mul-gain-of c = search rules
 
-array-read-gain-of-2 : tie.Need-array-read-gain-of-2 invariant-loop decreases-loop
+array-read-gain-of-2 : tie.Need-bounds-quantities-i invariant-loop decreases-loop
 array-read-gain-of-2 c = search rules
 
-mul-gain-of-2 : tie.Need-overflow-mul-gain-of-2 invariant-loop decreases-loop
+mul-gain-of-2 : tie.Need-offset_bounds-limits-i invariant-loop decreases-loop
 mul-gain-of-2 c = search rules
 
-array-read-gain-of-3 : tie.Need-array-read-gain-of-3 invariant-loop decreases-loop
+array-read-gain-of-3 : tie.Need-bounds-limits-i invariant-loop decreases-loop
 array-read-gain-of-3 c = search rules
 
-gain-of-requires : tie.Need-gain-of-requires invariant-loop decreases-loop
+gain-of-requires : tie.Need-gain_of-gain-requires invariant-loop decreases-loop
 gain-of-requires c κs =
-    let v = c.before.before.before.loop in
-    let s = c.before.before.before.before.before in
-    (s.requires.0.1 v.i c.before.before.loop-test.true, s.requires.1.0 v.i, c.price-sum.ensures.1)
+    let v = c.loop-i in
+    let s = c in
+    (s.requires.blocks.1 v.i c.loop-i-test.true, s.requires.prices.0 v.i, c.price_sum-sum.ensures.1)
 
-cast-gains : tie.Need-overflow-cast-gains invariant-loop decreases-loop
+cast-gains : tie.Need-overflow_cast-gains invariant-loop decreases-loop
 cast-gains c = search rules
 
-add-gains : tie.Need-overflow-add-gains invariant-loop decreases-loop
+add-gains : tie.Need-overflow_add-gains invariant-loop decreases-loop
 add-gains c =
-    let v = c.before.before.before.before.loop in
-    let s = c.before.before.before.before.before.before in
-    omega (arith, v.invariant.0, v.invariant.1, s.requires.0.0, c.gain-of.ensures)
+    let v = c.loop-i in
+    let s = c in
+    omega (arith, v.invariant.0, v.invariant.1, s.requires.blocks.0, c.gain_of-gain.ensures)
 
-add-i : tie.Need-overflow-add-i invariant-loop decreases-loop
+add-i : tie.Need-overflow_add-i invariant-loop decreases-loop
 add-i c = search rules
 
-loop-less : tie.Need-loop-smaller invariant-loop decreases-loop
+loop-less : tie.Need-loop-i-smaller invariant-loop decreases-loop
 loop-less c = search rules
 
-loop-again : tie.Need-loop-preserved invariant-loop decreases-loop
+loop-again : tie.Need-loop-i-preserved invariant-loop decreases-loop
 loop-again c =
-    let v = c.before.before.before.before.loop in
-    (omega (arith, c.before.before.before.loop-test.true), omega (arith, v.invariant.1, c.gain-of.ensures))
+    let v = c.loop-i in
+    (omega (arith, c.loop-i-test.true), omega (arith, v.invariant.1, c.gain_of-gain.ensures))
 
 returns : tie.Need-returns invariant-loop decreases-loop
-returns c = omega (arith, c.before.loop.invariant.0, c.before.loop.invariant.1, c.before.before.before.requires.0.0)
+returns c = omega (arith, c.loop-i.invariant.0, c.loop-i.invariant.1, c.requires.blocks.0)
 
-pub gains-at-spec : {M : Type 1} → statement M
-gains-at-spec =
+pub gains_at_spec : {M : Type 1} → statement M
+gains_at_spec =
     tie.close
     (tie.spec
     invariant-loop

@@ -15,82 +15,82 @@ use Rattle.places.proofs.cells.counted_prices.Reads as counted-prices-reads
 use Rattle.places.proofs.limits.price_sum.Reads as price-sum-reads
 use Rattle.places.proofs.numbers.choose.Reads as choose-reads
 
-abbrev invariant-loop : tie.invariant-loop
+abbrev invariant-loop : tie.invariant-loop-i
 invariant-loop count often hours limits quantities counted places₀ i₀ places i = (i ≤ count) × ((j : ℕ) → get_or places j 0 ≤ get_or places₀ j 0 + i * most_quantity)
 
-abbrev decreases-loop : tie.decreases-loop
+abbrev decreases-loop : tie.decreases-loop-i
 decreases-loop count often hours limits quantities counted places₀ i₀ places i = count - i
 
-counted-prices-requires : tie.Need-counted-prices-requires invariant-loop decreases-loop
+counted-prices-requires : tie.Need-counted_prices-counted-requires invariant-loop decreases-loop
 counted-prices-requires c κs = search rules
 
-loop-holds : tie.Need-loop-init invariant-loop decreases-loop
+loop-holds : tie.Need-loop-i-init invariant-loop decreases-loop
 loop-holds c = (omega arith, λ j. omega arith)
 
-mul-moves : tie.Need-overflow-mul-moves invariant-loop decreases-loop
+mul-moves : tie.Need-offset_bounds-limits-i invariant-loop decreases-loop
 mul-moves c = search rules
 
-array-read-moves : tie.Need-array-read-moves invariant-loop decreases-loop
+array-read-moves : tie.Need-bounds-limits-i invariant-loop decreases-loop
 array-read-moves c = search rules
 
-slice-aggregate-price-sum : tie.Need-slice-aggregate-price-sum invariant-loop decreases-loop
+slice-aggregate-price-sum : tie.Need-slice_bounds-price_sum-end invariant-loop decreases-loop
 slice-aggregate-price-sum c = search rules
 
-mul-price-sum : tie.Need-overflow-mul-price-sum invariant-loop decreases-loop
+mul-price-sum : tie.Need-offset_bounds-hours-i invariant-loop decreases-loop
 mul-price-sum c = search rules
 
-array-read-price-sum : tie.Need-array-read-price-sum invariant-loop decreases-loop
+array-read-price-sum : tie.Need-bounds-hours-i invariant-loop decreases-loop
 array-read-price-sum c = search rules
 
-price-sum-requires : tie.Need-price-sum-requires invariant-loop decreases-loop
+price-sum-requires : tie.Need-price_sum-requires invariant-loop decreases-loop
 price-sum-requires c κs = search rules
 
-mul-moved : tie.Need-overflow-mul-moved invariant-loop decreases-loop
+mul-moved : tie.Need-offset_bounds-hours-i-in-loop-i invariant-loop decreases-loop
 mul-moved c = search rules
 
-array-read-moved : tie.Need-array-read-moved invariant-loop decreases-loop
+array-read-moved : tie.Need-bounds-hours-i-in-loop-i invariant-loop decreases-loop
 array-read-moved c = search rules
 
-mul-choose : tie.Need-overflow-mul-choose invariant-loop decreases-loop
+mul-choose : tie.Need-offset_bounds-quantities-i invariant-loop decreases-loop
 mul-choose c = search rules
 
-array-read-choose : tie.Need-array-read-choose invariant-loop decreases-loop
+array-read-choose : tie.Need-bounds-quantities-i invariant-loop decreases-loop
 array-read-choose c = search rules
 
 choose-requires : tie.Need-choose-requires invariant-loop decreases-loop
 choose-requires c κs = search rules
 
-moved-requires : tie.Need-moved-requires invariant-loop decreases-loop
+moved-requires : tie.Need-moved-more-requires invariant-loop decreases-loop
 moved-requires c κs =
-    let v = c.before.before.before.before.loop in
-    let s = c.before.before.before.before.before.before in
-    let few = s.requires.0.1 v.i c.before.before.before.loop-test.true in
+    let v = c.loop-i in
+    let s = c in
+    let few = s.requires.blocks.1 v.i c.loop-i-test.true in
     let fits : c.choose.result ≤ most_quantity = rw c.choose.ensures
-    (chosen-le (leb (get_or s.args.t4 v.i 0) c.before.price-sum.result) _ most_quantity few) in
-    (λ j. omega (arith, v.invariant.1 j, v.invariant.0, s.requires.0.0, s.requires.1.0 j), omega (arith, fits))
+    (chosen-le (leb (get_or s.args.t4 v.i 0) c.price_sum.result) _ most_quantity few) in
+    (λ j. omega (arith, v.invariant.1 j, v.invariant.0, s.requires.blocks.0, s.requires.prices.0 j), omega (arith, fits))
 
-add-i : tie.Need-overflow-add-i invariant-loop decreases-loop
+add-i : tie.Need-overflow_add-i invariant-loop decreases-loop
 add-i c = search rules
 
-loop-less : tie.Need-loop-smaller invariant-loop decreases-loop
+loop-less : tie.Need-loop-i-smaller invariant-loop decreases-loop
 loop-less c = search rules
 
-loop-again : tie.Need-loop-preserved invariant-loop decreases-loop
+loop-again : tie.Need-loop-i-preserved invariant-loop decreases-loop
 loop-again c =
-    let o = c.before in
-    let v = o.before.before.before.before.loop in
-    let s = o.before.before.before.before.before.before in
-    let k = o.before.before.before.loop-test.true in
+    let o = c in
+    let v = o.loop-i in
+    let s = o in
+    let k = o.loop-i-test.true in
     let fits : o.choose.result ≤ most_quantity = rw o.choose.ensures
-    (chosen-le (leb (get_or s.args.t4 v.i 0) o.before.price-sum.result) _ most_quantity (s.requires.0.1 v.i k)) in
-    let m = moved-most _ _ v.places c.moved.result c.moved.ensures.0 c.moved.ensures.1 in
+    (chosen-le (leb (get_or s.args.t4 v.i 0) o.price_sum.result) _ most_quantity (s.requires.blocks.1 v.i k)) in
+    let m = moved-most _ _ v.places c.moved-more.result c.moved-more.ensures.0 c.moved-more.ensures.1 in
     (omega (arith, k), λ j. omega (arith, m j, fits, v.invariant.1 j))
 
 returns : tie.Need-returns invariant-loop decreases-loop
-returns c = λ j. omega (arith, c.before.loop.invariant.1 j, c.before.loop.invariant.0, c.before.before.before.requires.0.0)
+returns c = λ j. omega (arith, c.loop-i.invariant.1 j, c.loop-i.invariant.0, c.requires.blocks.0)
 
-pub added-places-spec : {M : Type 1} → statement M
-added-places-spec =
+pub added_places_spec : {M : Type 1} → statement M
+added_places_spec =
     tie.close
     (tie.spec
     invariant-loop

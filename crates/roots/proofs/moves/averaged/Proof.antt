@@ -12,51 +12,51 @@ use borrow.Author.Rules.{rules}
 use Rattle.roots.proofs.moves.averaged.Statement.{statement}
 use Rattle.roots.proofs.moves.averaged.Tie as tie
 
-abbrev invariant-loop : tie.invariant-loop
+abbrev invariant-loop : tie.invariant-loop-h
 invariant-loop n last sum r₀ h₀ r h = (length r ≡ hour_places) × Small last r
 
-abbrev decreases-loop : tie.decreases-loop
+abbrev decreases-loop : tie.decreases-loop-h
 decreases-loop n last sum r₀ h₀ r h = hour_places - h
 
-loop-holds : tie.Need-loop-init invariant-loop decreases-loop
+loop-holds : tie.Need-loop-h-init invariant-loop decreases-loop
 loop-holds c = (refl, λ i. omega (arith, zeros hour_places i))
 
-mul-smaller : tie.Need-overflow-mul-smaller invariant-loop decreases-loop
+mul-smaller : tie.Need-offset_bounds-sum-h invariant-loop decreases-loop
 mul-smaller c = search rules
 
-array-read-smaller : tie.Need-array-read-smaller invariant-loop decreases-loop
+array-read-smaller : tie.Need-bounds-sum-h invariant-loop decreases-loop
 array-read-smaller c = search rules
 
-div-smaller : tie.Need-nonzero-div-smaller invariant-loop decreases-loop
+div-smaller : tie.Need-nonzero_div-sum invariant-loop decreases-loop
 div-smaller c = search rules
 
 smaller-requires : tie.Need-smaller-requires invariant-loop decreases-loop
 smaller-requires c κs = search rules
 
-mul-r : tie.Need-overflow-mul-r invariant-loop decreases-loop
+mul-r : tie.Need-offset_bounds-r-h invariant-loop decreases-loop
 mul-r c = search rules
 
-array-write-r : tie.Need-array-write-r invariant-loop decreases-loop
+array-write-r : tie.Need-bounds-r-h invariant-loop decreases-loop
 array-write-r c = search rules
 
-add-h : tie.Need-overflow-add-h invariant-loop decreases-loop
+add-h : tie.Need-overflow_add-h invariant-loop decreases-loop
 add-h c = search rules
 
-loop-less : tie.Need-loop-smaller invariant-loop decreases-loop
+loop-less : tie.Need-loop-h-smaller invariant-loop decreases-loop
 loop-less c = search rules
 
-loop-again : tie.Need-loop-preserved invariant-loop decreases-loop
+loop-again : tie.Need-loop-h-preserved invariant-loop decreases-loop
 loop-again c =
-    let v = c.before.before.loop in
-    let s = c.before.before.before in
-    let k : v.h < length v.r = omega (arith, v.invariant.0, c.before.loop-test.true) in
+    let v = c.loop-h in
+    let s = c in
+    let k : v.h < length v.r = omega (arith, v.invariant.0, c.loop-h-test.true) in
     (rw length-set v.invariant.0, set-small s.args.last v.r v.h _ k (rw c.smaller.ensures (smaller-below _ s.args.last).1) v.invariant.1)
 
 returns : tie.Need-returns invariant-loop decreases-loop
-returns c = c.before.loop.invariant.1
+returns c = c.loop-h.invariant.1
 
-pub averaged-spec : {M : Type 1} → statement M
-averaged-spec =
+pub averaged_spec : {M : Type 1} → statement M
+averaged_spec =
     tie.close
     (tie.spec
     invariant-loop

@@ -9,71 +9,71 @@ use borrow.Author.Rules.{rules}
 use Rattle.roots.proofs.moves.moved_on.Statement.{statement}
 use Rattle.roots.proofs.moves.moved_on.Tie as tie
 
-abbrev invariant-loop : tie.invariant-loop
+abbrev invariant-loop : tie.invariant-loop-k
 invariant-loop unit_prices count hours limits quantities n often bounds last root₀ sum₀ k₀ root sum k = (1 ≤ k) × (k ≤ n + round_moves) × Small max_price root × Small (k * last_place) sum
 
-abbrev decreases-loop : tie.decreases-loop
+abbrev decreases-loop : tie.decreases-loop-k
 decreases-loop unit_prices count hours limits quantities n often bounds last root₀ sum₀ k₀ root sum k = n + round_moves - k
 
-sub-last : tie.Need-overflow-sub-last invariant-loop decreases-loop
-sub-last c = omega (arith, c.before.requires.0.0)
+sub-last : tie.Need-overflow_sub-last invariant-loop decreases-loop
+sub-last c = omega (arith, c.requires.tables.0)
 
-cast-last : tie.Need-overflow-cast-last invariant-loop decreases-loop
-cast-last c = omega (arith, c.before.requires.0.0)
+cast-last : tie.Need-overflow_cast-last invariant-loop decreases-loop
+cast-last c = omega (arith, c.requires.tables.0)
 
-loop-holds : tie.Need-loop-init invariant-loop decreases-loop
+loop-holds : tie.Need-loop-k-init invariant-loop decreases-loop
 loop-holds c =
-    let p = c.before.before.before.requires.1.1.0 in
+    let p = c.requires.blocks.1.0 in
     (p.0, omega arith, p.2, p.3)
 
-add-loop : tie.Need-overflow-add-loop invariant-loop decreases-loop
+add-loop : tie.Need-overflow_add-n invariant-loop decreases-loop
 add-loop c = search rules
 
-added-places-requires : tie.Need-added-places-requires invariant-loop decreases-loop
+added-places-requires : tie.Need-added_places-more-requires invariant-loop decreases-loop
 added-places-requires c κs =
-    let v = c.before.loop in
-    let s = c.before.before.before.before.before in
-    let k = c.loop-test.true in
-    (s.requires.1.0, (λ i. omega (arith, v.invariant.3 i, k, s.requires.1.1.0.1), v.invariant.2, s.requires.1.1.1.0))
+    let v = c.loop-k in
+    let s = c in
+    let k = c.loop-k-test.true in
+    record { blocks = s.requires.blocks.0; prices = (λ i. omega (arith, v.invariant.3 i, k, s.requires.blocks.1.0.1), v.invariant.2, s.requires.blocks.1.1.0) }
 
-add-averaged : tie.Need-overflow-add-averaged invariant-loop decreases-loop
+add-averaged : tie.Need-overflow_add-k invariant-loop decreases-loop
 add-averaged c = search rules
 
-averaged-requires : tie.Need-averaged-requires invariant-loop decreases-loop
+averaged-requires : tie.Need-averaged-mean-requires invariant-loop decreases-loop
 averaged-requires c κs = omega arith
 
-prices-at-requires : tie.Need-prices-at-requires invariant-loop decreases-loop
+prices-at-requires : tie.Need-prices_at-there-requires invariant-loop decreases-loop
 prices-at-requires c κs = search rules
 
 held-requires : tie.Need-held-requires invariant-loop decreases-loop
 held-requires c κs =
-    let test = c.before.before.before in
-    let bounds = test.before.before.before.before.before.requires.1.1.1.1 in
-    (c.prices-at.ensures.small, bounds.0, bounds.1)
+    let test = c in
+    let bounds = test.requires.blocks.1.1.1 in
+    (c.prices_at-there.ensures.small, bounds.0, bounds.1)
 
-closer-requires : tie.Need-closer-requires invariant-loop decreases-loop
+closer-requires : tie.Need-closer-next-requires invariant-loop decreases-loop
 closer-requires c κs = search rules
 
-add-k : tie.Need-overflow-add-k invariant-loop decreases-loop
+add-k : tie.Need-overflow_add-k-in-loop-k invariant-loop decreases-loop
 add-k c = search rules
 
-loop-less : tie.Need-loop-smaller invariant-loop decreases-loop
+loop-less : tie.Need-loop-k-smaller invariant-loop decreases-loop
 loop-less c = search rules
 
-loop-again : tie.Need-loop-preserved invariant-loop decreases-loop
+loop-again : tie.Need-loop-k-preserved invariant-loop decreases-loop
 loop-again c =
-    let a = c.before.before.before.before in
-    let v = a.before.before.loop in
-    let k = a.before.loop-test.true in
-    (omega arith, omega (arith, k), c.closer.ensures, λ i. omega (arith, a.added-places.ensures i, v.invariant.3 i))
+    let a = c in
+    let v = a.loop-k in
+    let k = a.loop-k-test.true in
+    (omega arith, omega (arith, k), c.closer-next.ensures, λ i. omega (arith, a.added_places-more.ensures i, v.invariant.3 i))
 
 returns : tie.Need-returns invariant-loop decreases-loop
 returns c =
-    let v = c.before.loop in
+    let v = c.loop-k in
     (v.invariant.2, λ i. omega (arith, v.invariant.3 i, v.invariant.1))
 
-pub moved-on-spec : {M : Type 1} → statement M
-moved-on-spec =
+pub moved_on_spec : {M : Type 1} → statement M
+moved_on_spec =
     tie.close
     (tie.spec
     invariant-loop

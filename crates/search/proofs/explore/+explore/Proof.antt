@@ -52,40 +52,40 @@ claims-explore t = (limit-at-reads.Asked, limit-at-reads.Learnt, judge-reads.Ask
 
 -- THE STATES on the way: the start behind the judgement, that behind the branch without a rival, that behind the block left out, that behind the tests of
 -- whether it is only left out
-abbrev start : (t : ℕ) → explore-lts.After-judge (claims-explore t) (explore-at t) explore.Post →
+abbrev start : (t : ℕ) → explore-lts.After-judge-judged (claims-explore t) (explore-at t) explore.Post →
     explore-lts.Start (claims-explore t) (explore-at t) explore.Post
 start t c = c.before.before.before.before.before.before.before.before.before.before.before
 
-abbrev judged : (t : ℕ) → explore-lts.Else3 (claims-explore t) (explore-at t) explore.Post →
-    explore-lts.After-judge (claims-explore t) (explore-at t) explore.Post
+abbrev judged : (t : ℕ) → explore-lts.Else-is_rivalled (claims-explore t) (explore-at t) explore.Post →
+    explore-lts.After-judge-judged (claims-explore t) (explore-at t) explore.Post
 judged t c = c.before.before.before.before.before.before.before
 
-abbrev unrivalled : (t : ℕ) → explore-lts.After-leave (claims-explore t) (explore-at t) explore.Post →
-    explore-lts.Else3 (claims-explore t) (explore-at t) explore.Post
+abbrev unrivalled : (t : ℕ) → explore-lts.After-leave-without (claims-explore t) (explore-at t) explore.Post →
+    explore-lts.Else-is_rivalled (claims-explore t) (explore-at t) explore.Post
 unrivalled t c = c.before.before
 
-abbrev left : (t : ℕ) → explore-lts.Else4 (claims-explore t) (explore-at t) explore.Post →
-    explore-lts.After-leave (claims-explore t) (explore-at t) explore.Post
+abbrev left : (t : ℕ) → explore-lts.Else-is_out-is_barred (claims-explore t) (explore-at t) explore.Post →
+    explore-lts.After-leave-without (claims-explore t) (explore-at t) explore.Post
 left t c = c.before.before.before
 
-abbrev first : (t : ℕ) → explore-lts.After-leave (claims-explore t) (explore-at t) explore.Post →
+abbrev first : (t : ℕ) → explore-lts.After-leave-without (claims-explore t) (explore-at t) explore.Post →
     explore-lts.Start (claims-explore t) (explore-at t) explore.Post
 first t c = start t (judged t (unrivalled t c))
 
 -- there is a block left
-some_left : (t : ℕ) (c : explore-lts.Else3 (claims-explore t) (explore-at t) explore.Post) → 0 < (start t (judged t c)).args.left
-some_left t c = let k = c.before.before.before.before.before.if2.false in omega arith
+some_left : (t : ℕ) (c : explore-lts.Else-is_rivalled (claims-explore t) (explore-at t) explore.Post) → 0 < (start t (judged t c)).args.left
+some_left t c = let k = c.if-left-eq0.false in omega arith
 
 -- the number of decided blocks grows by one
-one_more : (t : ℕ) (c : explore-lts.After-leave (claims-explore t) (explore-at t) explore.Post) →
+one_more : (t : ℕ) (c : explore-lts.After-leave-without (claims-explore t) (explore-at t) explore.Post) →
     (first t c).args.count - (first t c).args.left + 1 ≡ (first t c).args.count - ((first t c).args.left - 1)
 one_more t c = omega (arith, (first t c).requires.1.4, some_left t (unrivalled t c))
 
 -- the block may be taken
-free : (t : ℕ) (c : explore-lts.Else4 (claims-explore t) (explore-at t) explore.Post) →
+free : (t : ℕ) (c : explore-lts.Else-is_out-is_barred (claims-explore t) (explore-at t) explore.Post) →
     is_barred (first t (left t c)).args.blocks.now ((first t (left t c)).args.count - (first t (left t c)).args.left)
     (first t (left t c)).args.node.set ≡ false
-free t c = sym c.before.is-barred.ensures ∙ (neither c.before.before.is-out.result c.before.is-barred.result c.if4.false).1
+free t c = sym c.is_barred.ensures ∙ (neither c.is_out.result c.is_barred.result c.if-is_out-is_barred.false).1
 
 explore-limit-at-requires : (t : ℕ) → explore-lts.Need-limit-at-requires (claims-explore t) (explore-at t) explore.Post
 explore-limit-at-requires t c κs = search rules
@@ -97,7 +97,7 @@ explore-returns : (t : ℕ) → explore-lts.Need-returns (claims-explore t) (exp
 explore-returns t c =
     let j = c.before in
     let held = (start t j).requires.1.6 in
-    (kept_same _ _ held, explored-dropped held.tie_fits j.before.limit-at.ensures (j.judge.ensures.dropped c.if1.true))
+    (kept_same _ _ held, explored-dropped held.tie_fits j.limit_at-limit.ensures (j.judge-judged.ensures.dropped c.if-judged.true))
 
 explore-decide-requires : (t : ℕ) → explore-lts.Need-decide-requires (claims-explore t) (explore-at t) explore.Post
 explore-decide-requires t c κs =
@@ -108,8 +108,8 @@ explore-returns-2 : (t : ℕ) → explore-lts.Need-returns-2 (claims-explore t) 
 explore-returns-2 t c =
     let none = c.before in
     let s = start t none.before.before in
-    let e : s.args.count - s.args.left ≡ s.args.count = omega (arith, none.if2.true) in
-    (rw none.if2.true c.decide.ensures.0, explored-decided none.if2.true (rw e at s.pre.1.5.set_fits) c.decide.ensures.1)
+    let e : s.args.count - s.args.left ≡ s.args.count = omega (arith, none.if-left-eq0.true) in
+    (rw none.if-left-eq0.true c.decide.ensures.kept, explored-decided none.if-left-eq0.true (rw e at s.pre.1.5.set_fits) c.decide.ensures.decided)
 
 explore-is-rivalled-requires : (t : ℕ) → explore-lts.Need-is-rivalled-requires (claims-explore t) (explore-at t) explore.Post
 explore-is-rivalled-requires t c κs = search rules
@@ -122,8 +122,8 @@ explore-returns-3 t c =
     let else = c.before.before.before.before.before in
     let j = else.before.before in (
       kept_same _ _ (start t j).requires.1.6,
-      explored-judged j.before.limit-at.ensures else.before.if1.false j.judge.ensures
-          (explored-rivalled (c.before.before.before.is-rivalled.ensures c.if3.true _ refl refl)),
+      explored-judged j.limit_at-limit.ensures else.if-judged.false j.judge-judged.ensures
+          (explored-rivalled (c.is_rivalled.ensures c.if-is_rivalled.true _ refl refl)),
     )
 
 explore-sub-at : (t : ℕ) → explore-lts.Need-overflow-sub-at (claims-explore t) (explore-at t) explore.Post
@@ -156,7 +156,7 @@ explore-explore-requires t c κs =
     let s = first t l in
     let p = s.pre.1 in
     let some = some_left t (unrivalled t l) in
-    (omega (arith, s.pre.0), (p.0, p.1, p.2, p.3, omega (arith, p.4), rw (one_more t l) at l.leave.ensures.0, p.6))
+    (omega (arith, s.pre.0), (p.0, p.1, p.2, p.3, omega (arith, p.4), rw (one_more t l) at l.leave-without.ensures.0, p.6))
 
 explore-same-length-2 : (t : ℕ) → explore-lts.Need-same-length-2 (claims-explore t) (explore-at t) explore.Post
 explore-same-length-2 t c = search rules
@@ -170,10 +170,10 @@ explore-returns-4 t c =
     let j = judged t none in
     let s = start t j in
     let some = some_left t none in (
-      kept-longer _ _ _ some called.explore.ensures.0,
-      explored-judged j.before.limit-at.ensures none.before.before.before.before.before.before.if1.left j.judge.ensures
+      kept-longer _ _ _ some called.explore.ensures.kept,
+      explored-judged j.limit_at-limit.ensures none.if-judged.left j.judge-judged.ensures
           (explored-left _ some s.pre.1.4 s.pre.1.5.set_fits s.pre.1.6.tie_fits
-          (rw (only.before.before.is-out.ensures, only.before.is-barred.ensures) at only.if4.true) l.leave.ensures.1 called.explore.ensures.1),
+          (rw (only.is_out.ensures, only.is_barred.ensures) at only.if-is_out-is_barred.true) l.leave-without.ensures.1 called.explore.ensures.explored),
     )
 
 explore-take-requires : (t : ℕ) → explore-lts.Need-take-requires (claims-explore t) (explore-at t) explore.Post
@@ -189,13 +189,13 @@ explore-explore-requires-2 t c κs =
     let s = first t l in
     let p = s.pre.1 in
     let some = some_left t (unrivalled t l) in
-    (omega (arith, s.pre.0), (p.0, p.1, p.2, p.3, omega (arith, p.4), rw (one_more t l) at took.take.ensures.0, p.6))
+    (omega (arith, s.pre.0), (p.0, p.1, p.2, p.3, omega (arith, p.4), rw (one_more t l) at took.take-with.ensures.0, p.6))
 
 explore-same-length-3 : (t : ℕ) → explore-lts.Need-same-length-3 (claims-explore t) (explore-at t) explore.Post
 explore-same-length-3 t c =
     let called = c.before.before.before.before in
     let none = unrivalled t (left t called.before.before.before) in
-    called.explore2.auto.1.1.1.1.1.1.1.1.0 ∙ none.before.before.before.is-rivalled.kept.1.0
+    called.explore-taken.auto.1.1.1.1.1.1.1.1.0 ∙ none.is_rivalled.kept.1.0
 
 explore-returns-5 : (t : ℕ) → explore-lts.Need-returns-5 (claims-explore t) (explore-at t) explore.Post
 explore-returns-5 t c =
@@ -206,10 +206,10 @@ explore-returns-5 t c =
     let j = judged t none in
     let s = start t j in
     let some = some_left t none in (
-      kept-longer _ _ _ some called.explore2.ensures.0,
-      explored-judged j.before.limit-at.ensures none.before.before.before.before.before.before.if1.left j.judge.ensures
-          (explored-spent _ some s.pre.1.4 s.pre.1.5.set_fits s.pre.1.6.tie_fits (free t took.before) took.take.ensures.1 c.if5.true
-          called.explore2.ensures.1),
+      kept-longer _ _ _ some called.explore-taken.ensures.kept,
+      explored-judged j.limit_at-limit.ensures none.if-judged.left j.judge-judged.ensures
+          (explored-spent _ some s.pre.1.4 s.pre.1.5.set_fits s.pre.1.6.tie_fits (free t took.before) took.take-with.ensures.1 c.if-taken-eq0.true
+          called.explore-taken.ensures.explored),
     )
 
 explore-cast-is-due : (t : ℕ) → explore-lts.Need-overflow-cast-is-due (claims-explore t) (explore-at t) explore.Post
@@ -225,7 +225,7 @@ explore-same-length-4 : (t : ℕ) → explore-lts.Need-same-length-4 (claims-exp
 explore-same-length-4 t c =
     let called = c.before.before.before.before.before.before in
     let none = unrivalled t (left t called.before.before.before) in
-    called.explore2.auto.1.1.1.1.1.1.1.1.0 ∙ none.before.before.before.is-rivalled.kept.1.0
+    called.explore-taken.auto.1.1.1.1.1.1.1.1.0 ∙ none.is_rivalled.kept.1.0
 
 explore-returns-6 : (t : ℕ) → explore-lts.Need-returns-6 (claims-explore t) (explore-at t) explore.Post
 explore-returns-6 t c =
@@ -236,10 +236,10 @@ explore-returns-6 t c =
     let j = judged t none in
     let s = start t j in
     let some = some_left t none in (
-      kept-longer _ _ _ some called.explore2.ensures.0,
-      explored-judged j.before.limit-at.ensures none.before.before.before.before.before.before.if1.left j.judge.ensures
+      kept-longer _ _ _ some called.explore-taken.ensures.kept,
+      explored-judged j.limit_at-limit.ensures none.if-judged.left j.judge-judged.ensures
           (explored-taken _ some s.pre.1.4 s.pre.1.5.set_fits s.pre.1.6.tie_fits (free t took.before)
-          (sym c.before.is-due.ensures ∙ c.if6.true) took.take.ensures.1 called.explore2.ensures.1),
+          (sym c.is_due.ensures ∙ c.if-is_due.true) took.take-with.ensures.1 called.explore-taken.ensures.explored),
     )
 
 explore-sub-taken : (t : ℕ) → explore-lts.Need-overflow-sub-taken (claims-explore t) (explore-at t) explore.Post
@@ -254,7 +254,7 @@ explore-explore-requires-3 t c κs =
     let p = s.pre.1 in
     let some = some_left t (unrivalled t l) in (
       omega (arith, s.pre.0),
-      (p.0, p.1, p.2, p.3, omega (arith, p.4), rw (one_more t l) at l.leave.ensures.0, held-spent _ _ _ p.6 called.explore2.ensures.0),
+      (p.0, p.1, p.2, p.3, omega (arith, p.4), rw (one_more t l) at l.leave-without.ensures.0, held-spent _ _ _ p.6 called.explore-taken.ensures.kept),
     )
 
 explore-same-length-5 : (t : ℕ) → explore-lts.Need-same-length-5 (claims-explore t) (explore-at t) explore.Post
@@ -262,7 +262,7 @@ explore-same-length-5 t c =
     let last = c.before.before in
     let called = last.before.before.before.before.before.before.before.before.before in
     let none = unrivalled t (left t called.before.before.before) in
-    last.explore3.auto.1.1.1.1.1.1.1.1.0 ∙ called.explore2.auto.1.1.1.1.1.1.1.1.0 ∙ none.before.before.before.is-rivalled.kept.1.0
+    last.explore-2.auto.1.1.1.1.1.1.1.1.0 ∙ called.explore-taken.auto.1.1.1.1.1.1.1.1.0 ∙ none.is_rivalled.kept.1.0
 
 explore-returns-7 : (t : ℕ) → explore-lts.Need-returns-7 (claims-explore t) (explore-at t) explore.Post
 explore-returns-7 t c =
@@ -275,15 +275,15 @@ explore-returns-7 t c =
     let j = judged t none in
     let s = start t j in
     let some = some_left t none in
-    let fuel : 0 < called.explore2.result.fuel = let k = else.if5.false in omega arith in (
-      kept-joined _ _ _ _ some fuel called.explore2.ensures.0 last.explore3.ensures.0,
-      explored-judged j.before.limit-at.ensures none.before.before.before.before.before.before.if1.left j.judge.ensures
-          (explored-both _ some s.pre.1.4 s.pre.1.5.set_fits s.pre.1.6.tie_fits (free t took.before) took.take.ensures.1
-          l.leave.ensures.1 fuel called.explore2.ensures.0 last.explore3.ensures.0 called.explore2.ensures.1 last.explore3.ensures.1),
+    let fuel : 0 < called.explore-taken.result.fuel = let k = else.if-taken-eq0.false in omega arith in (
+      kept-joined _ _ _ _ some fuel called.explore-taken.ensures.kept last.explore-2.ensures.kept,
+      explored-judged j.limit_at-limit.ensures none.if-judged.left j.judge-judged.ensures
+          (explored-both _ some s.pre.1.4 s.pre.1.5.set_fits s.pre.1.6.tie_fits (free t took.before) took.take-with.ensures.1
+          l.leave-without.ensures.1 fuel called.explore-taken.ensures.kept last.explore-2.ensures.kept called.explore-taken.ensures.explored last.explore-2.ensures.explored),
     )
 
-pub +explore-spec : {M : Type 1} → statement M
-+explore-spec = close μ-explore λ t. explore-lts.spec (claims-explore t)
+pub +explore_spec : {M : Type 1} → statement M
++explore_spec = close μ-explore λ t. explore-lts.spec (claims-explore t)
     (explore-at t)
     explore.Post
     (explore-limit-at-requires t)

@@ -9,96 +9,96 @@ use borrow.Author.Rules.{rules}
 use Rattle.setup.proofs.blocks.block_columns.Statement.{statement}
 use Rattle.setup.proofs.blocks.block_columns.Tie as tie
 
-abbrev invariant-loop : tie.invariant-loop
+abbrev invariant-loop : tie.invariant-loop-i
 invariant-loop day count sides hours prices quantities root columns₀ i₀ columns i = WrittenTo day sides hours prices quantities root count i columns
 
-abbrev decreases-loop : tie.decreases-loop
+abbrev decreases-loop : tie.decreases-loop-i
 decreases-loop day count sides hours prices quantities root columns₀ i₀ columns i = count - i
 
-loop-holds : tie.Need-loop-init invariant-loop decreases-loop
+loop-holds : tie.Need-loop-i-init invariant-loop decreases-loop
 loop-holds c = written_start _ _ _ _ _ _ _
 
-mul-limit : tie.Need-overflow-mul-limit invariant-loop decreases-loop
+mul-limit : tie.Need-offset_bounds-prices-i invariant-loop decreases-loop
 mul-limit c = search rules
 
-array-read-limit : tie.Need-array-read-limit invariant-loop decreases-loop
+array-read-limit : tie.Need-bounds-prices-i invariant-loop decreases-loop
 array-read-limit c = search rules
 
-mul-counted-hours : tie.Need-overflow-mul-counted-hours invariant-loop decreases-loop
+mul-counted-hours : tie.Need-offset_bounds-hours-i invariant-loop decreases-loop
 mul-counted-hours c = search rules
 
-array-read-counted-hours : tie.Need-array-read-counted-hours invariant-loop decreases-loop
+array-read-counted-hours : tie.Need-bounds-hours-i invariant-loop decreases-loop
 array-read-counted-hours c = search rules
 
-counted-hours-requires : tie.Need-counted-hours-requires invariant-loop decreases-loop
+counted-hours-requires : tie.Need-counted_hours-requires invariant-loop decreases-loop
 counted-hours-requires c κs = search rules
 
-mul-limit-2 : tie.Need-overflow-mul-limit-2 invariant-loop decreases-loop
+mul-limit-2 : tie.Need-overflow_mul-limit invariant-loop decreases-loop
 mul-limit-2 c =
-    let v = c.before.before.loop in
-    let s = c.before.before.before in
-    let fits = limit-fits (get_or s.args.t5 v.i 0) s.args.day (get_or s.args.t4 v.i 0) s.requires.2 (s.requires.0.prices_fit v.i c.before.loop-test.true) in
-    rw c.counted-hours.ensures (record { fits = omega (arith, fits) })
+    let v = c.loop-i in
+    let s = c in
+    let fits = limit-fits (get_or s.args.t5 v.i 0) s.args.day (get_or s.args.t4 v.i 0) s.requires.2 (s.requires.0.prices_fit v.i c.loop-i-test.true) in
+    rw c.counted_hours.ensures (record { fits = omega (arith, fits) })
 
-array-read-with-block : tie.Need-array-read-with-block invariant-loop decreases-loop
+array-read-with-block : tie.Need-bounds-sides-i invariant-loop decreases-loop
 array-read-with-block c = search rules
 
-mul-with-block : tie.Need-overflow-mul-with-block invariant-loop decreases-loop
+mul-with-block : tie.Need-offset_bounds-hours-i-in-loop-i invariant-loop decreases-loop
 mul-with-block c = search rules
 
-array-read-with-block-2 : tie.Need-array-read-with-block-2 invariant-loop decreases-loop
+array-read-with-block-2 : tie.Need-bounds-hours-i-in-loop-i invariant-loop decreases-loop
 array-read-with-block-2 c = search rules
 
-mul-with-block-2 : tie.Need-overflow-mul-with-block-2 invariant-loop decreases-loop
+mul-with-block-2 : tie.Need-offset_bounds-quantities-i invariant-loop decreases-loop
 mul-with-block-2 c = search rules
 
-array-read-with-block-3 : tie.Need-array-read-with-block-3 invariant-loop decreases-loop
+array-read-with-block-3 : tie.Need-bounds-quantities-i invariant-loop decreases-loop
 array-read-with-block-3 c = search rules
 
-slice-aggregate-price-sum : tie.Need-slice-aggregate-price-sum invariant-loop decreases-loop
+slice-aggregate-price-sum : tie.Need-slice_bounds-price_sum-end invariant-loop decreases-loop
 slice-aggregate-price-sum c = search rules
 
-mul-price-sum : tie.Need-overflow-mul-price-sum invariant-loop decreases-loop
+mul-price-sum : tie.Need-offset_bounds-hours-i-in-loop-i-2 invariant-loop decreases-loop
 mul-price-sum c = search rules
 
-array-read-price-sum : tie.Need-array-read-price-sum invariant-loop decreases-loop
+array-read-price-sum : tie.Need-bounds-hours-i-in-loop-i-2 invariant-loop decreases-loop
 array-read-price-sum c = search rules
 
-price-sum-requires : tie.Need-price-sum-requires invariant-loop decreases-loop
-price-sum-requires c κs = c.before.before.before.before.requires.1
+price-sum-requires : tie.Need-price_sum-requires invariant-loop decreases-loop
+price-sum-requires c κs = c.requires.1
 
-with-block-requires : tie.Need-with-block-requires invariant-loop decreases-loop
+with-block-requires : tie.Need-with_block-more-requires invariant-loop decreases-loop
 with-block-requires c κs =
-    let b = c.before.before in
-    let v = b.before.before.loop in
-    let s = b.before.before.before in
-    let k = b.before.loop-test.true in
+    let b = c in
+    let v = b.loop-i in
+    let s = b in
+    let k = b.loop-i-test.true in
     let h = s.requires.0 in (
       omega (arith, h.few, k),
       h.quantities_fit v.i k,
-      rw b.counted-hours.ensures (limit-fits (get_or s.args.t5 v.i 0) s.args.day (get_or s.args.t4 v.i 0) s.requires.2 (h.prices_fit v.i k)),
-      c.price-sum.ensures.1,
+      rw b.counted_hours.ensures (limit-fits (get_or s.args.t5 v.i 0) s.args.day (get_or s.args.t4 v.i 0) s.requires.2 (h.prices_fit v.i k)),
+      c.price_sum.ensures.1,
     )
 
-add-i : tie.Need-overflow-add-i invariant-loop decreases-loop
+add-i : tie.Need-overflow_add-i invariant-loop decreases-loop
 add-i c = search rules
 
-loop-less : tie.Need-loop-smaller invariant-loop decreases-loop
+loop-less : tie.Need-loop-i-smaller invariant-loop decreases-loop
 loop-less c = search rules
 
-loop-again : tie.Need-loop-preserved invariant-loop decreases-loop
+loop-again : tie.Need-loop-i-preserved invariant-loop decreases-loop
 loop-again c =
-    let b = c.before.before.before in
-    let v = b.before.before.loop in
-    let s = b.before.before.before in
-    written_next _ _ _ _ _ _ _ _ v.columns _ _ _ _ _ _ v.invariant s.requires.0 b.before.loop-test.true refl refl refl
-    (rw b.counted-hours.ensures) c.before.price-sum.ensures.0 c.with-block.ensures
+    let b = c in
+    let v = b.loop-i in
+    let s = b in
+    written_next _ _ _ _ _ _ _ _ v.columns _ _ _ _ _ _ v.invariant s.requires.0 b.loop-i-test.true refl refl refl
+    (rw b.counted_hours.ensures) c.price_sum.ensures.0 c.with_block-more.ensures
 
 returns : tie.Need-returns invariant-loop decreases-loop
-returns c = written_all _ _ _ _ _ _ _ _ _ c.before.loop.invariant c.loop-test.false
+returns c = written_all _ _ _ _ _ _ _ _ _ c.loop-i.invariant c.loop-i-test.false
 
-pub block-columns-spec : {M : Type 1} → statement M
-block-columns-spec =
+pub block_columns_spec : {M : Type 1} → statement M
+block_columns_spec =
     tie.close
     (tie.spec
     invariant-loop

@@ -6,41 +6,41 @@ use borrow.Author.Rules.{rules}
 use Rattle.setup.proofs.blocks.widened.Statement.{statement}
 use Rattle.setup.proofs.blocks.widened.Tie as tie
 
-abbrev invariant-loop : tie.invariant-loop
+abbrev invariant-loop : tie.invariant-loop-k
 invariant-loop columns r₀ k₀ r k = WidenedTo columns k r
 
-abbrev decreases-loop : tie.decreases-loop
+abbrev decreases-loop : tie.decreases-loop-k
 decreases-loop columns r₀ k₀ r k = parent_column - k
 
-loop-holds : tie.Need-loop-init invariant-loop decreases-loop
+loop-holds : tie.Need-loop-k-init invariant-loop decreases-loop
 loop-holds c = widened-start _
 
-mul-r : tie.Need-overflow-mul-r invariant-loop decreases-loop
+mul-r : tie.Need-offset_bounds-columns-k invariant-loop decreases-loop
 mul-r c = search rules
 
-array-read-r : tie.Need-array-read-r invariant-loop decreases-loop
+array-read-r : tie.Need-bounds-columns-k invariant-loop decreases-loop
 array-read-r c = search rules
 
-mul-r-2 : tie.Need-overflow-mul-r-2 invariant-loop decreases-loop
+mul-r-2 : tie.Need-offset_bounds-r-k invariant-loop decreases-loop
 mul-r-2 c = search rules
 
-array-write-r : tie.Need-array-write-r invariant-loop decreases-loop
+array-write-r : tie.Need-bounds-r-k invariant-loop decreases-loop
 array-write-r c = search rules
 
-add-k : tie.Need-overflow-add-k invariant-loop decreases-loop
+add-k : tie.Need-overflow_add-k invariant-loop decreases-loop
 add-k c = search rules
 
-loop-less : tie.Need-loop-smaller invariant-loop decreases-loop
+loop-less : tie.Need-loop-k-smaller invariant-loop decreases-loop
 loop-less c = search rules
 
-loop-again : tie.Need-loop-preserved invariant-loop decreases-loop
-loop-again c = widened-next _ _ _ c.before.loop.invariant c.loop-test.true
+loop-again : tie.Need-loop-k-preserved invariant-loop decreases-loop
+loop-again c = widened-next _ _ _ c.loop-k.invariant c.loop-k-test.true
 
 returns : tie.Need-returns invariant-loop decreases-loop
-returns c = widened-all _ _ _ c.before.loop.invariant c.loop-test.false
+returns c = widened-all _ _ _ c.loop-k.invariant c.loop-k-test.false
 
-pub widened-spec : {M : Type 1} → statement M
-widened-spec =
+pub widened_spec : {M : Type 1} → statement M
+widened_spec =
     tie.close
     (tie.spec
     invariant-loop

@@ -10,57 +10,57 @@ use Rattle.tables.proofs.clear_range.Reads as clear-range-reads
 use Rattle.tables.proofs.fill_gaps.Reads as fill-gaps-reads
 
 -- the start of the call, seen from after its range
-abbrev opened : tie.After-clear-range → tie.Start
+abbrev opened : tie.After-clear_range-range → tie.Start
 opened r = r.before.before.before.before.before.before.before.before.before.before
 
-sub-all-totals : tie.Need-overflow-sub-all-totals
+sub-all-totals : tie.Need-slice_bounds-all_totals-count
 sub-all-totals c = search rules
 
-part-all-totals-start : tie.Need-slice-bounds-all-totals-start
+part-all-totals-start : tie.Need-slice_bounds-all_totals-start
 part-all-totals-start c = search rules
 
-part-all-totals-end : tie.Need-slice-bounds-all-totals-end
+part-all-totals-end : tie.Need-slice_bounds-all_totals-end
 part-all-totals-end c = search rules
 
-mul-all-totals : tie.Need-overflow-mul-all-totals
+mul-all-totals : tie.Need-offset_bounds-prices-a
 mul-all-totals c = search rules
 
-sub-all-totals-2 : tie.Need-overflow-sub-all-totals-2
+sub-all-totals-2 : tie.Need-slice_bounds-all_totals-count-2
 sub-all-totals-2 c = search rules
 
-part-all-totals-start-2 : tie.Need-slice-bounds-all-totals-start-2
+part-all-totals-start-2 : tie.Need-slice_bounds-all_totals-start-2
 part-all-totals-start-2 c = search rules
 
-part-all-totals-end-2 : tie.Need-slice-bounds-all-totals-end-2
+part-all-totals-end-2 : tie.Need-slice_bounds-all_totals-end-2
 part-all-totals-end-2 c = search rules
 
-mul-all-totals-2 : tie.Need-overflow-mul-all-totals-2
+mul-all-totals-2 : tie.Need-offset_bounds-quantities-a
 mul-all-totals-2 c = search rules
 
-sub-all-totals-3 : tie.Need-overflow-sub-all-totals-3
+sub-all-totals-3 : tie.Need-slice_bounds-all_totals-count-3
 sub-all-totals-3 c = search rules
 
-part-all-totals-start-3 : tie.Need-slice-bounds-all-totals-start-3
+part-all-totals-start-3 : tie.Need-slice_bounds-all_totals-start-3
 part-all-totals-start-3 c = search rules
 
-part-all-totals-end-3 : tie.Need-slice-bounds-all-totals-end-3
+part-all-totals-end-3 : tie.Need-slice_bounds-all_totals-end-3
 part-all-totals-end-3 c = search rules
 
-all-totals-requires : tie.Need-all-totals-requires
+all-totals-requires : tie.Need-all_totals-all-requires
 all-totals-requires c κs = search rules
 
-clear-range-requires : tie.Need-clear-range-requires
+clear-range-requires : tie.Need-clear_range-range-requires
 clear-range-requires c κs = search rules
 
-fill-gaps-requires : tie.Need-fill-gaps-requires
+fill-gaps-requires : tie.Need-fill_gaps-turn-requires
 fill-gaps-requires c κs =
     let after-clear-range2 = c.before in
     let s = opened after-clear-range2 in
     let q = s.pre.0 in
     let t = s.pre.1 in
-    hour-room _ _ _ _ _ _ _ t.1 t.0 q.1 q.2 q.3 _ _ _ _ _ q.4 c.before.clear-range.ensures
+    hour-room _ _ _ _ _ _ _ t.1 t.0 q.1 q.2 q.3 _ _ _ _ _ q.4 c.clear_range-range.ensures
 
-same_length : tie.Need-same-length
+same_length : tie.Need-shape_of-gap
 same_length c = search rules
 
 returns : tie.Need-returns
@@ -69,12 +69,12 @@ returns c =
     let s = opened r in
     let q = s.pre.0 in
     let t = s.pre.1 in
-    let g = c.before.before.fill-gaps in
-    hour-ranged _ _ _ _ _ _ _ t.1 t.0 q.1 q.2 q.3 _ _ _ _ g.result _ r.before.all-totals.ensures r.clear-range.ensures
+    let g = c.fill_gaps-turn in
+    hour-ranged _ _ _ _ _ _ _ t.1 t.0 q.1 q.2 q.3 _ _ _ _ g.result _ r.all_totals-all.ensures r.clear_range-range.ensures
     g.ensures.0
 
-pub fill-hour-spec : {M : Type 1} → statement M
-fill-hour-spec =
+pub fill_hour_spec : {M : Type 1} → statement M
+fill_hour_spec =
     tie.close
     (tie.spec
     sub-all-totals

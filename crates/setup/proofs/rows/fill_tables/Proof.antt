@@ -12,117 +12,117 @@ use borrow.Author.Rules.{rules}
 use Rattle.setup.proofs.rows.fill_tables.Statement.{statement}
 use Rattle.setup.proofs.rows.fill_tables.Tie as tie
 
-abbrev invariant-loop : tie.invariant-loop
+abbrev invariant-loop : tie.invariant-loop-h
 invariant-loop sides prices quantities unitPrices₀ ends off most width h₀ unit_prices h = RowsTo unitPrices₀ sides prices quantities ends off most unit_prices h
 
-abbrev decreases-loop : tie.decreases-loop
+abbrev decreases-loop : tie.decreases-loop-h
 decreases-loop sides prices quantities unitPrices₀ ends off most width h₀ unit_prices h = hour_places - h
 
 -- the row of an hour has room in the table
-room : (a : tie.At-loop invariant-loop decreases-loop) → a.loop.h < hour_places → let s = a.before.before.before.before.before in
-    a.loop.h * row_width s.args.unit-prices.now + row_places (get_or s.args.t6 a.loop.h 0) ≤ length s.args.unit-prices.now
+room : (a : tie.At-loop invariant-loop decreases-loop) → a.loop-h.h < hour_places → let s = a in
+    a.loop-h.h * row_width s.args.unit-prices.now + row_places (get_or s.args.t6 a.loop-h.h 0) ≤ length s.args.unit-prices.now
 room a k =
-    let s = a.before.before.before.before.before in
-    row_fits s.args.unit-prices.now a.loop.h _ k (s.requires.1.1 a.loop.h k)
+    let s = a in
+    row_fits s.args.unit-prices.now a.loop-h.h _ k (s.requires.table.1 a.loop-h.h k)
 
-loop-holds : tie.Need-loop-init invariant-loop decreases-loop
-loop-holds c = rows_start _ _ _ _ _ _ _ c.before.before.before.before.requires.1.2
+loop-holds : tie.Need-loop-h-init invariant-loop decreases-loop
+loop-holds c = rows_start _ _ _ _ _ _ _ c.requires.table.2
 
-mul-from : tie.Need-overflow-mul-from invariant-loop decreases-loop
-mul-from c = let s = c.before.before.before.before.before.before in omega (arith, room c.before c.loop-test.true, s.requires.1.0)
+mul-from : tie.Need-overflow_mul-from invariant-loop decreases-loop
+mul-from c = let s = c in omega (arith, room c c.loop-h-test.true, s.requires.table.0)
 
-mul-to : tie.Need-overflow-mul-to invariant-loop decreases-loop
+mul-to : tie.Need-offset_bounds-most-h invariant-loop decreases-loop
 mul-to c = search rules
 
-array-read-to : tie.Need-array-read-to invariant-loop decreases-loop
+array-read-to : tie.Need-bounds-most-h invariant-loop decreases-loop
 array-read-to c = search rules
 
-cast-to : tie.Need-overflow-cast-to invariant-loop decreases-loop
+cast-to : tie.Need-overflow_cast-to invariant-loop decreases-loop
 cast-to c = search rules
 
-add-to : tie.Need-overflow-add-to invariant-loop decreases-loop
-add-to c = let s = c.before.before.before.before.before.before in omega (arith, room c.before c.loop-test.true, s.requires.1.0)
+add-to : tie.Need-overflow_add-to invariant-loop decreases-loop
+add-to c = let s = c in omega (arith, room c c.loop-h-test.true, s.requires.table.0)
 
-add-to-2 : tie.Need-overflow-add-to-2 invariant-loop decreases-loop
-add-to-2 c = let s = c.before.before.before.before.before.before in omega (arith, room c.before c.loop-test.true, s.requires.1.0)
+add-to-2 : tie.Need-overflow_add-to-in-loop-h invariant-loop decreases-loop
+add-to-2 c = let s = c in omega (arith, room c c.loop-h-test.true, s.requires.table.0)
 
-mul-fill-row : tie.Need-overflow-mul-fill-row invariant-loop decreases-loop
+mul-fill-row : tie.Need-offset_bounds-ends-h invariant-loop decreases-loop
 mul-fill-row c = search rules
 
-array-read-fill-row : tie.Need-array-read-fill-row invariant-loop decreases-loop
+array-read-fill-row : tie.Need-bounds-ends-h invariant-loop decreases-loop
 array-read-fill-row c = search rules
 
-cast-fill-row : tie.Need-overflow-cast-fill-row invariant-loop decreases-loop
+cast-fill-row : tie.Need-overflow_cast-ends invariant-loop decreases-loop
 cast-fill-row c = search rules
 
-add-fill-row : tie.Need-overflow-add-fill-row invariant-loop decreases-loop
+add-fill-row : tie.Need-overflow_add-h invariant-loop decreases-loop
 add-fill-row c = search rules
 
-mul-fill-row-2 : tie.Need-overflow-mul-fill-row-2 invariant-loop decreases-loop
+mul-fill-row-2 : tie.Need-offset_bounds-ends-h-in-loop-h invariant-loop decreases-loop
 mul-fill-row-2 c = search rules
 
-array-read-fill-row-2 : tie.Need-array-read-fill-row-2 invariant-loop decreases-loop
+array-read-fill-row-2 : tie.Need-bounds-ends-h-in-loop-h invariant-loop decreases-loop
 array-read-fill-row-2 c = search rules
 
-cast-fill-row-2 : tie.Need-overflow-cast-fill-row-2 invariant-loop decreases-loop
+cast-fill-row-2 : tie.Need-overflow_cast-ends-in-loop-h invariant-loop decreases-loop
 cast-fill-row-2 c = search rules
 
-mul-fill-row-3 : tie.Need-overflow-mul-fill-row-3 invariant-loop decreases-loop
+mul-fill-row-3 : tie.Need-offset_bounds-off-h invariant-loop decreases-loop
 mul-fill-row-3 c = search rules
 
-array-read-fill-row-3 : tie.Need-array-read-fill-row-3 invariant-loop decreases-loop
+array-read-fill-row-3 : tie.Need-bounds-off-h invariant-loop decreases-loop
 array-read-fill-row-3 c = search rules
 
-mul-fill-row-4 : tie.Need-overflow-mul-fill-row-4 invariant-loop decreases-loop
-mul-fill-row-4 c = let s = c.before.before.before.before.before.before in omega (arith, room c.before c.loop-test.true, s.requires.1.0)
+mul-fill-row-4 : tie.Need-offset_bounds-unit_prices-from invariant-loop decreases-loop
+mul-fill-row-4 c = let s = c in omega (arith, room c c.loop-h-test.true, s.requires.table.0)
 
-sub-fill-row : tie.Need-overflow-sub-fill-row invariant-loop decreases-loop
+sub-fill-row : tie.Need-slice_bounds-fill_row-count invariant-loop decreases-loop
 sub-fill-row c = search rules
 
-part-fill-row-start : tie.Need-slice-bounds-fill-row-start invariant-loop decreases-loop
+part-fill-row-start : tie.Need-slice_bounds-fill_row-start invariant-loop decreases-loop
 part-fill-row-start c = search rules
 
-part-fill-row-end : tie.Need-slice-bounds-fill-row-end invariant-loop decreases-loop
-part-fill-row-end c = omega (arith, c.before.loop.invariant.size, room c.before c.loop-test.true)
+part-fill-row-end : tie.Need-slice_bounds-fill_row-end invariant-loop decreases-loop
+part-fill-row-end c = omega (arith, c.loop-h.invariant.size, room c c.loop-h-test.true)
 
-fill-row-requires : tie.Need-fill-row-requires invariant-loop decreases-loop
+fill-row-requires : tie.Need-fill_row-requires invariant-loop decreases-loop
 fill-row-requires c κs =
-    let a = c.before.before in
-    let v = a.loop in
-    let s = a.before.before.before.before.before in
-    let k = c.before.loop-test.true in
-    let q = s.requires.0 in
+    let a = c in
+    let v = a.loop-h in
+    let s = a in
+    let k = c.loop-h-test.true in
+    let q = s.requires.steps in
     let most = q.2 v.h in
-    let here : v.h * row_width s.args.unit-prices.now + row_places (get_or s.args.t6 v.h 0) ≤ length v.unit-prices =
+    let here : v.h * row_width s.args.unit-prices.now + row_places (get_or s.args.t6 v.h 0) ≤ length v.unit_prices-1 =
     omega (arith, room a k, v.invariant.size) in
-    (part_held _ _ _ _ q.0 v.h k, q.1 v.h, omega (arith, part_length (row_width s.args.unit-prices.now) v.unit-prices v.h _ here, most))
+    (part_held _ _ _ _ q.0 v.h k, q.1 v.h, omega (arith, part_length (row_width s.args.unit-prices.now) v.unit_prices-1 v.h _ here, most))
 
-add-h : tie.Need-overflow-add-h invariant-loop decreases-loop
+add-h : tie.Need-overflow_add-h-in-loop-h invariant-loop decreases-loop
 add-h c = search rules
 
-loop-less : tie.Need-loop-smaller invariant-loop decreases-loop
+loop-less : tie.Need-loop-h-smaller invariant-loop decreases-loop
 loop-less c = search rules
 
-loop-again : tie.Need-loop-preserved invariant-loop decreases-loop
+loop-again : tie.Need-loop-h-preserved invariant-loop decreases-loop
 loop-again c =
-    let a = c.before.before.before.before.before in
-    let v = a.loop in
-    let s = a.before.before.before.before.before in
-    let k = c.before.before.before.before.loop-test.true in
-    let f = c.before.before.fill-row in
-    let here : v.h * row_width s.args.unit-prices.now + row_places (get_or s.args.t6 v.h 0) ≤ length v.unit-prices =
+    let a = c in
+    let v = a.loop-h in
+    let s = a in
+    let k = c.loop-h-test.true in
+    let f = c.fill_row in
+    let here : v.h * row_width s.args.unit-prices.now + row_places (get_or s.args.t6 v.h 0) ≤ length v.unit_prices-1 =
     omega (arith, room a k, v.invariant.size) in
-    rows_next _ _ _ _ _ _ _ s.requires.1.1 _ f.new.1.1.1.1.1.1.0 _ _ v.invariant k
-    (f.auto.1.1.1.1.1.1.0 ∙ part_length (row_width s.args.unit-prices.now) v.unit-prices v.h _ here) (row-wide _ v.h _) f.ensures
+    rows_next _ _ _ _ _ _ _ s.requires.table.1 _ f.new.1.1.1.1.1.1.0 _ _ v.invariant k
+    (f.auto.1.1.1.1.1.1.0 ∙ part_length (row_width s.args.unit-prices.now) v.unit_prices-1 v.h _ here) (row-wide _ v.h _) f.ensures
 
-same_length : tie.Need-same-length invariant-loop decreases-loop
-same_length c = c.before.loop.invariant.size
+same_length : tie.Need-shape_of-unit_prices invariant-loop decreases-loop
+same_length c = c.loop-h.invariant.size
 
 returns : tie.Need-returns invariant-loop decreases-loop
-returns c = rows_all _ _ _ _ _ _ _ _ _ c.before.loop.invariant c.loop-test.false
+returns c = rows_all _ _ _ _ _ _ _ _ _ c.loop-h.invariant c.loop-h-test.false
 
-pub fill-tables-spec : {M : Type 1} → statement M
-fill-tables-spec =
+pub fill_tables_spec : {M : Type 1} → statement M
+fill_tables_spec =
     tie.close
     (tie.spec
     invariant-loop

@@ -9,86 +9,86 @@ use borrow.Author.Rules.{rules}
 use Rattle.setup.proofs.rows.joined.Statement.{statement}
 use Rattle.setup.proofs.rows.joined.Tie as tie
 
-abbrev invariant-loop : tie.invariant-loop
+abbrev invariant-loop : tie.invariant-loop-h
 invariant-loop often edition first last turn r₀ h₀ r h = JoinedTo first last turn often (cond (gives_way edition) 1 0) h r
 
-abbrev decreases-loop : tie.decreases-loop
+abbrev decreases-loop : tie.decreases-loop-h
 decreases-loop often edition first last turn r₀ h₀ r h = hour_places - h
 
-array-write-r : tie.Need-array-write-r invariant-loop decreases-loop
+array-write-r : tie.Need-bounds-r-72 invariant-loop decreases-loop
 array-write-r c = search rules
 
-gives-way-requires : tie.Need-gives-way-requires invariant-loop decreases-loop
+gives-way-requires : tie.Need-gives_way-requires invariant-loop decreases-loop
 gives-way-requires c κs = search rules
 
-number-of-requires : tie.Need-number-of-requires invariant-loop decreases-loop
+number-of-requires : tie.Need-number_of-requires invariant-loop decreases-loop
 number-of-requires c κs = search rules
 
-array-write-r-2 : tie.Need-array-write-r-2 invariant-loop decreases-loop
+array-write-r-2 : tie.Need-bounds-r-73 invariant-loop decreases-loop
 array-write-r-2 c = search rules
 
-loop-holds : tie.Need-loop-init invariant-loop decreases-loop
+loop-holds : tie.Need-loop-h-init invariant-loop decreases-loop
 loop-holds c =
-    let way = c.number_of_lem.ensures ∙ ap (λ (b : Bool). cond b 1 0) c.before.gives-way.ensures in
+    let way = c.number_of.ensures ∙ ap (λ (b : Bool). cond b 1 0) c.gives_way.ensures in
     rw way (joined-start _ _ _ _ _)
 
-mul-r : tie.Need-overflow-mul-r invariant-loop decreases-loop
+mul-r : tie.Need-offset_bounds-first-h invariant-loop decreases-loop
 mul-r c = search rules
 
-array-read-r : tie.Need-array-read-r invariant-loop decreases-loop
+array-read-r : tie.Need-bounds-first-h invariant-loop decreases-loop
 array-read-r c = search rules
 
-mul-r-2 : tie.Need-overflow-mul-r-2 invariant-loop decreases-loop
+mul-r-2 : tie.Need-offset_bounds-r-h invariant-loop decreases-loop
 mul-r-2 c = search rules
 
-array-write-r-3 : tie.Need-array-write-r-3 invariant-loop decreases-loop
+array-write-r-3 : tie.Need-bounds-r-h invariant-loop decreases-loop
 array-write-r-3 c = search rules
 
-mul-r-3 : tie.Need-overflow-mul-r-3 invariant-loop decreases-loop
+mul-r-3 : tie.Need-offset_bounds-last-h invariant-loop decreases-loop
 mul-r-3 c = search rules
 
-array-read-r-2 : tie.Need-array-read-r-2 invariant-loop decreases-loop
+array-read-r-2 : tie.Need-bounds-last-h invariant-loop decreases-loop
 array-read-r-2 c = search rules
 
-add_r : tie.Need-overflow-add-r invariant-loop decreases-loop
+add_r : tie.Need-overflow_add-r invariant-loop decreases-loop
 add_r c = search rules
 
-mul-r-4 : tie.Need-overflow-mul-r-4 invariant-loop decreases-loop
+mul-r-4 : tie.Need-offset_bounds-r-h-in-loop-h invariant-loop decreases-loop
 mul-r-4 c = search rules
 
-array-write-r-4 : tie.Need-array-write-r-4 invariant-loop decreases-loop
+array-write-r-4 : tie.Need-bounds-r-h-in-loop-h invariant-loop decreases-loop
 array-write-r-4 c = search rules
 
-mul-r-5 : tie.Need-overflow-mul-r-5 invariant-loop decreases-loop
+mul-r-5 : tie.Need-offset_bounds-turn-h invariant-loop decreases-loop
 mul-r-5 c = search rules
 
-array-read-r-3 : tie.Need-array-read-r-3 invariant-loop decreases-loop
+array-read-r-3 : tie.Need-bounds-turn-h invariant-loop decreases-loop
 array-read-r-3 c = search rules
 
-add-r-2 : tie.Need-overflow-add-r-2 invariant-loop decreases-loop
+add-r-2 : tie.Need-overflow_add-r-in-loop-h invariant-loop decreases-loop
 add-r-2 c = search rules
 
-mul-r-6 : tie.Need-overflow-mul-r-6 invariant-loop decreases-loop
+mul-r-6 : tie.Need-offset_bounds-r-h-in-loop-h-2 invariant-loop decreases-loop
 mul-r-6 c = search rules
 
-array-write-r-5 : tie.Need-array-write-r-5 invariant-loop decreases-loop
+array-write-r-5 : tie.Need-bounds-r-h-in-loop-h-2 invariant-loop decreases-loop
 array-write-r-5 c = search rules
 
-add-h : tie.Need-overflow-add-h invariant-loop decreases-loop
+add-h : tie.Need-overflow_add-h invariant-loop decreases-loop
 add-h c = search rules
 
-loop-less : tie.Need-loop-smaller invariant-loop decreases-loop
+loop-less : tie.Need-loop-h-smaller invariant-loop decreases-loop
 loop-less c = search rules
 
-loop-again : tie.Need-loop-preserved invariant-loop decreases-loop
-loop-again c = joined-next _ _ _ _ _ _ _ c.before.loop.invariant c.loop-test.true
+loop-again : tie.Need-loop-h-preserved invariant-loop decreases-loop
+loop-again c = joined-next _ _ _ _ _ _ _ c.loop-h.invariant c.loop-h-test.true
 
 returns : tie.Need-returns invariant-loop decreases-loop
 returns c =
-    joined-all _ _ _ _ _ _ _ c.before.loop.invariant c.loop-test.false (search rules) (search rules) (search rules) _ refl
+    joined-all _ _ _ _ _ _ _ c.loop-h.invariant c.loop-h-test.false (search rules) (search rules) (search rules) _ refl
 
-pub joined-spec : {M : Type 1} → statement M
-joined-spec =
+pub joined_spec : {M : Type 1} → statement M
+joined_spec =
     tie.close
     (tie.spec
     invariant-loop

@@ -6,26 +6,26 @@ use borrow.Author.Rules.{rules}
 use Rattle.setup.proofs.twins.may_exchange.Statement.{statement}
 use Rattle.setup.proofs.twins.may_exchange.Tie as tie
 
-are-twins-requires : tie.Need-are-twins-requires
+are-twins-requires : tie.Need-are_twins-requires
 are-twins-requires c κs = search rules
 
-returns : tie.Need-returns
+returns : tie.Need-returns-then-not-are_twins
 returns c e = clash e refl
 
-may-stand-in-requires : tie.Need-may-stand-in-requires
+may-stand-in-requires : tie.Need-may_stand_in-requires
 may-stand-in-requires c κs = search rules
 
-may-stand-in-requires-2 : tie.Need-may-stand-in-requires-2
+may-stand-in-requires-2 : tie.Need-may_stand_in-requires-else-ahead
 may-stand-in-requires-2 c κs = search rules
 
-returns-2 : tie.Need-returns-2
-returns-2 c e = let t = c.before in rw t.if2.true (t.before.before.are-twins.ensures (not-false _ t.before.if1.false), c.may-stand-in.ensures e)
+returns-2 : tie.Need-returns-then-ahead
+returns-2 c e = let t = c in rw t.if-ahead.true (t.are_twins.ensures (not-false _ t.if-not-are_twins.false), c.may_stand_in.ensures e)
 
-returns-3 : tie.Need-returns-3
-returns-3 c e = let t = c.before in rw t.if2.false (t.before.before.are-twins.ensures (not-false _ t.before.if1.false), c.may-stand-in2.ensures e)
+returns-3 : tie.Need-returns-else-ahead
+returns-3 c e = let t = c in rw t.if-ahead.false (t.are_twins.ensures (not-false _ t.if-not-are_twins.false), c.may_stand_in-else-ahead.ensures e)
 
-pub may-exchange-spec : {M : Type 1} → statement M
-may-exchange-spec =
+pub may_exchange_spec : {M : Type 1} → statement M
+may_exchange_spec =
     tie.close
     (tie.spec
     are-twins-requires

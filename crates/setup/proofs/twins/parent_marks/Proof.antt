@@ -9,55 +9,55 @@ use borrow.Author.Rules.{rules}
 use Rattle.setup.proofs.twins.parent_marks.Statement.{statement}
 use Rattle.setup.proofs.twins.parent_marks.Tie as tie
 
-abbrev invariant-loop : tie.invariant-loop
+abbrev invariant-loop : tie.invariant-loop-j
 invariant-loop blocks marks₀ j₀ marks j = MarkedTo blocks j marks
 
-abbrev decreases-loop : tie.decreases-loop
+abbrev decreases-loop : tie.decreases-loop-j
 decreases-loop blocks marks₀ j₀ marks j = most_blocks - j
 
 -- the number that is named fits
-named : (c : tie.After-shared-slice-known invariant-loop decreases-loop) → parent_at c.before.before.before.args.blocks.now c.before.before.loop.j < parent_numbers
+named : (c : tie.After-shared_slice_known-1 invariant-loop decreases-loop) → parent_at c.args.blocks.now c.loop-j.j < parent_numbers
 named c =
-    let i = c.before in
-    omega (arith, i.before.before.requires.1 i.before.loop.j i.loop-test.true, i.loop-test.true)
+    let i = c in
+    omega (arith, i.requires.1 i.loop-j.j i.loop-j-test.true, i.loop-j-test.true)
 
-loop-holds : tie.Need-loop-init invariant-loop decreases-loop
+loop-holds : tie.Need-loop-j-init invariant-loop decreases-loop
 loop-holds c = marked_start _
 
-add-marks : tie.Need-overflow-add-marks invariant-loop decreases-loop
+add-marks : tie.Need-overflow_add-marks invariant-loop decreases-loop
 add-marks c = search rules
 
-mul-marks : tie.Need-overflow-mul-marks invariant-loop decreases-loop
+mul-marks : tie.Need-offset_bounds-blocks-j invariant-loop decreases-loop
 mul-marks c = search rules
 
-shared-slice-read-marks : tie.Need-shared-slice-read-marks invariant-loop decreases-loop
+shared-slice-read-marks : tie.Need-bounds-blocks-j invariant-loop decreases-loop
 shared-slice-read-marks c = search rules
 
-cast-marks : tie.Need-overflow-cast-marks invariant-loop decreases-loop
+cast-marks : tie.Need-overflow_cast-marks invariant-loop decreases-loop
 cast-marks c = let e = named c in omega arith
 
-mul-marks-2 : tie.Need-overflow-mul-marks-2 invariant-loop decreases-loop
+mul-marks-2 : tie.Need-offset_bounds-marks-blocks invariant-loop decreases-loop
 mul-marks-2 c = let e = named c in omega arith
 
-array-write-marks : tie.Need-array-write-marks invariant-loop decreases-loop
+array-write-marks : tie.Need-bounds-marks-blocks invariant-loop decreases-loop
 array-write-marks c = let e = named c in omega arith
 
-add-j : tie.Need-overflow-add-j invariant-loop decreases-loop
+add-j : tie.Need-overflow_add-j invariant-loop decreases-loop
 add-j c = search rules
 
-loop-less : tie.Need-loop-smaller invariant-loop decreases-loop
+loop-less : tie.Need-loop-j-smaller invariant-loop decreases-loop
 loop-less c = search rules
 
-loop-again : tie.Need-loop-preserved invariant-loop decreases-loop
+loop-again : tie.Need-loop-j-preserved invariant-loop decreases-loop
 loop-again c =
-    let i = c.before in
-    marked_next _ _ _ i.before.loop.invariant i.before.before.requires.1 i.loop-test.true
+    let i = c in
+    marked_next _ _ _ i.loop-j.invariant i.requires.1 i.loop-j-test.true
 
 returns : tie.Need-returns invariant-loop decreases-loop
-returns c = marked_all _ _ _ c.before.loop.invariant c.loop-test.false
+returns c = marked_all _ _ _ c.loop-j.invariant c.loop-j-test.false
 
-pub parent-marks-spec : {M : Type 1} → statement M
-parent-marks-spec =
+pub parent_marks_spec : {M : Type 1} → statement M
+parent_marks_spec =
     tie.close
     (tie.spec
     invariant-loop

@@ -4,20 +4,20 @@ use borrow.Author.Rules.{rules}
 use Rattle.sheet.proofs.lines.is_taken.Statement.{statement}
 use Rattle.sheet.proofs.lines.is_taken.Tie as tie
 
-row-in-requires : tie.Need-row-in-requires
+row-in-requires : tie.Need-row_in-requires
 row-in-requires c κs = search rules
 
-block-quantity-requires : tie.Need-block-quantity-requires
+block-quantity-requires : tie.Need-block_quantity-requires
 block-quantity-requires c κs = search rules
 
-cast-result : tie.Need-overflow-cast-result
+cast-result : tie.Need-overflow_cast-result
 cast-result c = search rules
 
 returns : tie.Need-returns
 unfolding taken_at
-returns c = rw (c.before.row_in.ensures, c.block-quantity.ensures)
+returns c = rw (c.row_in.ensures, c.block_quantity.ensures)
 
-pub is-taken-spec : {M : Type 1} → statement M
-is-taken-spec =
+pub is_taken_spec : {M : Type 1} → statement M
+is_taken_spec =
     tie.close
     (tie.spec row-in-requires block-quantity-requires cast-result returns)

@@ -4,27 +4,27 @@ use borrow.Author.Rules.{rules}
 use Rattle.sheet.proofs.lines.put_block.Statement.{statement}
 use Rattle.sheet.proofs.lines.put_block.Tie as tie
 
-put-field-requires : tie.Need-put-field-requires
-put-field-requires c κs = room-number _ _ _ _ c.before.before.requires
+put-field-requires : tie.Need-put_field-behind_number-requires
+put-field-requires c κs = room-number _ _ _ _ c.requires
 
-put-field-requires-2 : tie.Need-put-field-requires-2
+put-field-requires-2 : tie.Need-put_field-requires
 put-field-requires-2 c κs =
-    let number = c.before.before.before.before in
-    room-flag _ _ _ _ number.before.before.before.requires _ _ number.put-field.ensures _ c.flag.ensures
+    let number = c in
+    room-flag _ _ _ _ number.requires _ _ number.put_field-behind_number.ensures _ c.flag.ensures
 
 flag-requires : tie.Need-flag-requires
 flag-requires c κs = search rules
 
-same_length : tie.Need-same-length
+same_length : tie.Need-shape_of-out
 same_length c = search rules
 
 returns : tie.Need-returns
 returns c =
-    let line = c.before.before in
-    let flag = line.before in
-    let number = flag.before.before.before.before in
-    put-block-line _ _ _ _ number.before.before.before.requires _ _ number.put-field.ensures _ flag.flag.ensures _ _ line.put-field2.ensures
+    let line = c in
+    let flag = line in
+    let number = flag in
+    put-block-line _ _ _ _ number.requires _ _ number.put_field-behind_number.ensures _ flag.flag.ensures _ _ line.put_field.ensures
 
-pub put-block-spec : {M : Type 1} → statement M
-put-block-spec =
+pub put_block_spec : {M : Type 1} → statement M
+put_block_spec =
     tie.close (tie.spec put-field-requires flag-requires put-field-requires-2 same_length returns)

@@ -11,60 +11,60 @@ use borrow.Author.Rules.{rules}
 use Rattle.sheet.proofs.lines.put_hours.Statement.{statement}
 use Rattle.sheet.proofs.lines.put_hours.Tie as tie
 
-abbrev invariant-loop : tie.invariant-loop
+abbrev invariant-loop : tie.invariant-loop-h
 invariant-loop out₀ at result end₀ h₀ out end h =
     (h ≤ 24) × (length out ≡ length out₀) × Put out₀ at (hour_lines h (price_in result) (traded_in result)) out end
 
-abbrev decreases-loop : tie.decreases-loop
+abbrev decreases-loop : tie.decreases-loop-h
 decreases-loop out₀ at result end₀ h₀ out end h = 24 - h
 
-loop-holds : tie.Need-loop-init invariant-loop decreases-loop
+loop-holds : tie.Need-loop-h-init invariant-loop decreases-loop
 loop-holds c = (search rules, search rules, rw (no-hours _ _) (put-none _ _))
 
-add-h : tie.Need-overflow-add-h invariant-loop decreases-loop
+add-h : tie.Need-overflow_add-h invariant-loop decreases-loop
 add-h c = search rules
 
-price-in-requires : tie.Need-price-in-requires invariant-loop decreases-loop
+price-in-requires : tie.Need-price_in-price-requires invariant-loop decreases-loop
 price-in-requires c κs = search rules
 
-traded-in-requires : tie.Need-traded-in-requires invariant-loop decreases-loop
+traded-in-requires : tie.Need-traded_in-traded-requires invariant-loop decreases-loop
 traded-in-requires c κs = search rules
 
-cast-put-hour : tie.Need-overflow-cast-put-hour invariant-loop decreases-loop
+cast-put-hour : tie.Need-overflow_cast-h invariant-loop decreases-loop
 cast-put-hour c = search rules
 
-put-hour-requires : tie.Need-put-hour-requires invariant-loop decreases-loop
+put-hour-requires : tie.Need-put_hour-end-requires invariant-loop decreases-loop
 put-hour-requires c κs =
-    let start = c.before.before.before.before.before.before.before in
-    let loop = c.before.before.before.before.loop in
-    rw (c.before.before.price-in.ensures, c.before.traded-in.ensures) (hour-room _ _ _ _ loop.h (search rules) start.requires _ _ loop.invariant.2)
+    let start = c in
+    let loop = c.loop-h in
+    rw (c.price_in-price.ensures, c.traded_in-traded.ensures) (hour-room _ _ _ _ loop.h (search rules) start.requires _ _ loop.invariant.2)
 
-loop-less : tie.Need-loop-smaller invariant-loop decreases-loop
+loop-less : tie.Need-loop-h-smaller invariant-loop decreases-loop
 loop-less c = search rules
 
-loop-again : tie.Need-loop-preserved invariant-loop decreases-loop
+loop-again : tie.Need-loop-h-preserved invariant-loop decreases-loop
 loop-again c =
-    let line = c.before.before in
-    let traded = line.before.before in
-    let price = traded.before in
-    let loop = price.before.before in
-    let start = loop.before.before.before in (
+    let line = c in
+    let traded = line in
+    let price = traded in
+    let loop = price in
+    let start = loop in (
       search rules,
-      line.put-hour.auto.0 ∙ loop.loop.invariant.1,
-      hour-put _ _ _ _ loop.loop.h (search rules) start.requires _ _ loop.loop.invariant.2 _ _
-          (rw (price.price-in.ensures, traded.traded-in.ensures) at line.put-hour.ensures),
+      line.put_hour-end.auto.0 ∙ loop.loop-h.invariant.1,
+      hour-put _ _ _ _ loop.loop-h.h (search rules) start.requires _ _ loop.loop-h.invariant.2 _ _
+          (rw (price.price_in-price.ensures, traded.traded_in-traded.ensures) at line.put_hour-end.ensures),
     )
 
-same_length : tie.Need-same-length invariant-loop decreases-loop
+same_length : tie.Need-shape_of-out invariant-loop decreases-loop
 same_length c = search rules
 
 returns : tie.Need-returns invariant-loop decreases-loop
 returns c =
-    let all : c.before.loop.h ≡ 24 = omega arith in
-    rw all at c.before.loop.invariant.2
+    let all : c.loop-h.h ≡ 24 = omega arith in
+    rw all at c.loop-h.invariant.2
 
-pub put-hours-spec : {M : Type 1} → statement M
-put-hours-spec =
+pub put_hours_spec : {M : Type 1} → statement M
+put_hours_spec =
     tie.close
     (tie.spec
     invariant-loop

@@ -8,72 +8,72 @@ use Rattle.sheet.proofs.lines.put_lines.Tie as tie
 slice-aggregate-put-text : tie.Need-slice-aggregate-put-text
 slice-aggregate-put-text c = search rules
 
-put-text-requires : tie.Need-put-text-requires
+put-text-requires : tie.Need-put_text-hours_at-requires
 unfolding text
 put-text-requires c κs =
-    room-heading _ _ _ c.before.before.before.before.before.requires
+    room-heading _ _ _ c.requires
 
-put-hours-requires : tie.Need-put-hours-requires
+put-hours-requires : tie.Need-put_hours-title_at-requires
 unfolding text
 put-hours-requires c κs =
-    let heading = c.before.before.before in
-    room-hours _ _ _ heading.before.before.before.before.before.before.requires _ _ heading.put-text.ensures
+    let heading = c in
+    room-hours _ _ _ heading.requires _ _ heading.put_text-hours_at.ensures
 
 slice-aggregate-put-text-2 : tie.Need-slice-aggregate-put-text-2
 slice-aggregate-put-text-2 c = search rules
 
-put-text-requires-2 : tie.Need-put-text-requires-2
+put-text-requires-2 : tie.Need-put_text-blocks_at-requires
 unfolding text
 put-text-requires-2 c κs =
-    let hours = c.before.before.before.before in
-    let heading = hours.before.before.before.before in
-    let start = heading.before.before.before.before.before.before in
-    room-title _ _ _ start.requires _ _ heading.put-text.ensures _ _ hours.put-hours.ensures
+    let hours = c in
+    let heading = hours in
+    let start = heading in
+    room-title _ _ _ start.requires _ _ heading.put_text-hours_at.ensures _ _ hours.put_hours-title_at.ensures
 
-put-blocks-requires : tie.Need-put-blocks-requires
+put-blocks-requires : tie.Need-put_blocks-welfare_at-requires
 unfolding text
 put-blocks-requires c κs =
-    let title = c.before.before.before in
-    let hours = title.before.before.before.before.before in
-    let heading = hours.before.before.before.before in
-    let start = heading.before.before.before.before.before.before in
-    room-blocks _ _ _ start.requires _ _ heading.put-text.ensures _ _ hours.put-hours.ensures _ _ title.put-text2.ensures
+    let title = c in
+    let hours = title in
+    let heading = hours in
+    let start = heading in
+    room-blocks _ _ _ start.requires _ _ heading.put_text-hours_at.ensures _ _ hours.put_hours-title_at.ensures _ _ title.put_text-blocks_at.ensures
 
 slice-aggregate-put-line : tie.Need-slice-aggregate-put-line
 slice-aggregate-put-line c = search rules
 
-welfare-in-requires : tie.Need-welfare-in-requires
+welfare-in-requires : tie.Need-welfare_in-requires
 welfare-in-requires c κs = search rules
 
-put-line-requires : tie.Need-put-line-requires
+put-line-requires : tie.Need-put_line-requires
 unfolding text
 put-line-requires c κs =
-    let blocks = c.before.before.before.before.before in
-    let title = blocks.before.before.before.before in
-    let hours = title.before.before.before.before.before in
-    let heading = hours.before.before.before.before in
-    let start = heading.before.before.before.before.before.before in
-    rw c.welfare-in.ensures
-    (room-welfare _ _ _ start.requires _ _ heading.put-text.ensures _ _ hours.put-hours.ensures _ _ title.put-text2.ensures
-    _ _ blocks.put-blocks.ensures)
+    let blocks = c in
+    let title = blocks in
+    let hours = title in
+    let heading = hours in
+    let start = heading in
+    rw c.welfare_in.ensures
+    (room-welfare _ _ _ start.requires _ _ heading.put_text-hours_at.ensures _ _ hours.put_hours-title_at.ensures _ _ title.put_text-blocks_at.ensures
+    _ _ blocks.put_blocks-welfare_at.ensures)
 
-same_length : tie.Need-same-length
+same_length : tie.Need-shape_of-out
 same_length c = search rules
 
 returns : tie.Need-returns
 unfolding text
 returns c =
-    let line = c.before.before in
-    let blocks = c.before.before.before.before.before.before.before.before in
-    let title = blocks.before.before.before.before in
-    let hours = title.before.before.before.before.before in
-    let heading = hours.before.before.before.before in
-    let start = heading.before.before.before.before.before.before in
-    put_all _ _ _ start.requires _ _ heading.put-text.ensures _ _ hours.put-hours.ensures _ _ title.put-text2.ensures
-    _ _ blocks.put-blocks.ensures _ _ (rw line.before.welfare-in.ensures at line.put-line.ensures)
+    let line = c in
+    let blocks = c in
+    let title = blocks in
+    let hours = title in
+    let heading = hours in
+    let start = heading in
+    put_all _ _ _ start.requires _ _ heading.put_text-hours_at.ensures _ _ hours.put_hours-title_at.ensures _ _ title.put_text-blocks_at.ensures
+    _ _ blocks.put_blocks-welfare_at.ensures _ _ (rw line.welfare_in.ensures at line.put_line.ensures)
 
-pub put-lines-spec : {M : Type 1} → statement M
-put-lines-spec =
+pub put_lines_spec : {M : Type 1} → statement M
+put_lines_spec =
     tie.close
     (tie.spec
     slice-aggregate-put-text

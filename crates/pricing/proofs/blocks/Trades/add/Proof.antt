@@ -4,20 +4,20 @@ use Rattle.pricing.proofs.TradeLaws.{bought-more, sold-more, not-traded}
 use Rattle.pricing.proofs.blocks.Trades.add.Statement.{statement}
 use Rattle.pricing.proofs.blocks.Trades.add.Tie as tie
 
-add-self : tie.Need-overflow-add-self
+add-self : tie.Need-overflow_add-self
 add-self c = search rules
 
-add-self-2 : tie.Need-overflow-add-self-2
+add-self-2 : tie.Need-overflow_add-self-else-side-eq0
 add-self-2 c = search rules
 
-returns : tie.Need-returns
-returns c = bought-more _ _ _ _ _ c.before.before.if1.true c.before.if2.true
+returns : tie.Need-returns-then-side-eq0
+returns c = bought-more _ _ _ _ _ c.if-chosen-runs.true c.if-side-eq0.true
 
-returns-2 : tie.Need-returns-2
-returns-2 c = sold-more _ _ _ _ _ c.before.before.if1.true c.before.if2.false
+returns-2 : tie.Need-returns-else-side-eq0
+returns-2 c = sold-more _ _ _ _ _ c.if-chosen-runs.true c.if-side-eq0.false
 
-returns-3 : tie.Need-returns-3
-returns-3 c = not-traded _ c.before.args.quantity _ _ c.before.args.side c.if1.false
+returns-3 : tie.Need-returns-else-chosen-runs
+returns-3 c = not-traded _ c.args.quantity _ _ c.args.side c.if-chosen-runs.false
 
 pub add_spec : {M : Type 1} → statement M
 add_spec = tie.close (tie.spec add-self add-self-2 returns returns-2 returns-3)

@@ -8,40 +8,40 @@ use Rattle.pricing.proofs.hour.Totals.add.Statement.{statement}
 use Rattle.pricing.proofs.hour.Totals.add.Tie as tie
 
 -- the start behind the two numbers
-abbrev start : tie.After-number-of2 → tie.Start
-start c = c.before.before.before.before
+abbrev start : tie.After-number_of-sold → tie.Start
+start c = c
 
 -- what is bought, and sold, is at most the quantity
-bought : (c : tie.After-number-of2) → c.before.before.number_of_lem.result * (start c).args.quantity ≤ (start c).args.quantity
-bought c = added-le _ (start c).args.quantity c.before.before.number_of_lem.ensures.1
+bought : (c : tie.After-number_of-sold) → c.number_of-bought.result * (start c).args.quantity ≤ (start c).args.quantity
+bought c = added-le _ (start c).args.quantity c.number_of-bought.ensures.1
 
-sold : (c : tie.After-number-of2) → c.number-of2.result * (start c).args.quantity ≤ (start c).args.quantity
-sold c = added-le _ (start c).args.quantity c.number-of2.ensures.1
+sold : (c : tie.After-number_of-sold) → c.number_of-sold.result * (start c).args.quantity ≤ (start c).args.quantity
+sold c = added-le _ (start c).args.quantity c.number_of-sold.ensures.1
 
-number-of-requires : tie.Need-number-of-requires
+number-of-requires : tie.Need-number_of-bought-requires
 number-of-requires c κs = search rules
 
-number-of-requires-2 : tie.Need-number-of-requires-2
+number-of-requires-2 : tie.Need-number_of-sold-requires
 number-of-requires-2 c κs = search rules
 
-mul-self : tie.Need-overflow-mul-self
+mul-self : tie.Need-overflow_mul-self
 mul-self c = omega (arith, bought c)
 
-add-self : tie.Need-overflow-add-self
-add-self c = omega (arith, bought c.before, (start c.before).requires.0)
+add-self : tie.Need-overflow_add-self
+add-self c = omega (arith, bought c, (start c).requires.0)
 
-mul-self-2 : tie.Need-overflow-mul-self-2
-mul-self-2 c = omega (arith, sold c.before)
+mul-self-2 : tie.Need-overflow_mul-self-2
+mul-self-2 c = omega (arith, sold c)
 
-add-self-2 : tie.Need-overflow-add-self-2
-add-self-2 c = omega (arith, sold c.before.before, (start c.before.before).requires.1)
+add-self-2 : tie.Need-overflow_add-self-2
+add-self-2 c = omega (arith, sold c, (start c).requires.1)
 
 returns : tie.Need-returns
 returns c =
-    let both = c.before.before in
+    let both = c in
     let a = (start both).args in
     let t = order-added a.self.over a.self.to a.price a.quantity a.self.above a.self.upto a.side _ _
-    both.before.before.number_of_lem.ensures.0 both.number-of2.ensures.0 in
+    both.number_of-bought.ensures.0 both.number_of-sold.ensures.0 in
     (refl, refl, t.0, t.1)
 
 pub add_spec : {M : Type 1} → statement M
