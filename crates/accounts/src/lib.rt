@@ -1,5 +1,7 @@
 // The accounts of a book's portfolios under its published outcome, out of the bytes of the result: what each bought, sold, paid and received, and how many
 // orders it has; account 0 is the totals, to which every order record is posted. Assumes nothing.
+#![tactic(auto)]
+
 ghost use Rattle.std.specs.Prelude.{[], ◌∷◌, ◌≡◌, ℕ, ◌+◌, ◌*◌, ◌≤◌, ◌<◌, length, get_or};
 ghost use Rattle.rules.specs.Hour.{by_side};
 ghost use Rattle.rules.specs.Day.{autumn_hours};

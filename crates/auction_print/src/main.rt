@@ -1,4 +1,6 @@
 // auction-print: a book on standard input, its sheet or its refusal on standard output.
+#![tactic(auto)]
+
 use libc::{STDIN_FILENO, STDOUT_FILENO};
 use sheet::sheet;
 

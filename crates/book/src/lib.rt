@@ -1,5 +1,7 @@
 // The reader, layer 1 of document 01: whether a book is accepted, with how many steps and blocks, or the first cause for which it is refused.
 // Every public call takes any bytes, ends, and has no `requires`; its result is what a definition of `specs/` gives. Assumes nothing.
+#![tactic(auto)]
+
 ghost use Rattle.std.specs.Prelude.{◌≡◌};
 ghost use Rattle.book.specs.Answers.{reading};
 

@@ -1,4 +1,6 @@
 // The cash sheet of a book, or its refusal, as text.
+#![tactic(auto)]
+
 ghost use Rattle.std.specs.Prelude.{◌≡◌, ◌≤◌, length};
 ghost use Rattle.book.specs.Bounds.{most_records};
 ghost use Rattle.result.specs.Layout.{result_size};

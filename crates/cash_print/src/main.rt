@@ -1,4 +1,6 @@
 // cash-print: a book on standard input, its cash sheet or its refusal on standard output.
+#![tactic(auto)]
+
 use cash::{MOST_CASH, cash};
 use libc::{STDIN_FILENO, STDOUT_FILENO};
 

@@ -1,5 +1,7 @@
 // The chains of a book, layer 1 of document 01: what belongs on each, and the causes of refusal that are looked for along one.
 // Every public call takes any bytes, ends, and has no `requires`; its result is what a definition of `specs/` gives. Assumes nothing.
+#![tactic(auto)]
+
 mod bounds; // the numbers by which records are counted
 mod links; // cause 10, along the links
 mod steps; // cause 11, along the steps

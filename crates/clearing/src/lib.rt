@@ -1,4 +1,6 @@
 // The clearing: layer 3, above pricing.
+#![tactic(auto)]
+
 ghost use Rattle.std.specs.Prelude.{◌≡◌, length};
 ghost use Rattle.records.specs.Records.{record_count};
 ghost use Rattle.book.specs.Refusals.{Accepted};

@@ -1,4 +1,6 @@
 // The public calls for programs in other languages: numbers and byte slices only. Assumes nothing.
+#![tactic(auto)]
+
 ghost use Rattle.std.specs.Prelude.{◌≡◌, ◌<◌, ◌^◌, length};
 ghost use Rattle.book.specs.Refusals.{refusal};
 ghost use Rattle.result.specs.Promise.{clear_refusal, result_after, Demands};

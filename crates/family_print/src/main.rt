@@ -1,4 +1,6 @@
 // family-print: a book on standard input, its family report or its refusal on standard output.
+#![tactic(auto)]
+
 use family_sheet::{MOST_FAMILY_SHEET, families};
 use libc::{STDIN_FILENO, STDOUT_FILENO};
 

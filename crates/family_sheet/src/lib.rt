@@ -1,4 +1,6 @@
 // The family report of a book, or its refusal, as text.
+#![tactic(auto)]
+
 ghost use Rattle.std.specs.Prelude.{◌≤◌, length};
 ghost use Rattle.book.specs.Refusals.{Accepted};
 ghost use Rattle.book.specs.Bounds.{most_records};

@@ -1,5 +1,7 @@
 // A record by itself, layer 1 of document 01: whether its fields are in their ranges, and the hours on their day (document 02, P2).
 // Every public call takes any bytes, ends, and has no `requires`; its result is what a definition of `specs/` gives. Assumes nothing.
+#![tactic(auto)]
+
 mod bounds; // how large a record's fields may be
 pub mod hours; // which hours count on their day, and how often
 mod ranges; // the ranges of a record's fields

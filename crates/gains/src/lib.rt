@@ -1,4 +1,6 @@
 // What each block of a book gains under its published outcome, out of the bytes of the result. Assumes nothing.
+#![tactic(auto)]
+
 ghost use Rattle.std.specs.Prelude.{◌≡◌, ◌≤◌};
 ghost use Rattle.rules.specs.Orders.{max_price};
 ghost use Rattle.rules.specs.Day.{autumn_hours};

@@ -1,5 +1,7 @@
 // The order in which the search decides the blocks: chosen, tested, the blocks' columns put in it, and a set that is found put back by numbers. Any order
 // is right, so of the choice only safety matters; the test and the columns are proved. Assumes nothing.
+#![tactic(auto)]
+
 pub use columns::reordered;
 pub use numbered::by_number;
 use places::layout::MOST_BLOCKS;

@@ -1,5 +1,7 @@
 // The passes of the search over all blocks, until one has found the published set: with small limits and little fuel, where ordinary days are found; then with
 // larger limits and a table of rivals. The blocks are decided in an order that members do not choose; ties are settled by number. Assumes nothing.
+#![tactic(auto)]
+
 ghost use Rattle.places.specs.Steps.{steps_at};
 ghost use Rattle.branches.specs.Tables.{tables_of};
 ghost use Rattle.passes.specs.Passes.{Given, FoundIn};

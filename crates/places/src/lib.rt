@@ -1,5 +1,6 @@
 // A set's places in the tables of the search, and a branch's: what stands there, what blocks add, sell and buy, and which places are within reach.
 // A place is what the taken blocks sell and the left-out blocks would buy in an hour. Assumes nothing.
+#![tactic(auto)]
 
 pub mod added; // what a block adds to the hours' places
 pub mod cells; // what the tables have there

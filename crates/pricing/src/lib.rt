@@ -1,4 +1,6 @@
 // Pricing one hour under a set of blocks: layer 2, above the reader.
+#![tactic(auto)]
+
 ghost use Rattle.std.specs.Prelude.{◌≡◌, ◌^◌, ◌≤◌, leb};
 ghost use Rattle.book.specs.Refusals.{Accepted};
 ghost use Rattle.rules.specs.Hour.{pricing};

@@ -1,5 +1,7 @@
 // Prices when wind is uncertain (document 02, P14): from a list of steps whose quantities are known from a low to a high figure to the least and greatest
 // middle price of their hour, without blocks. Both are met at a corner: buys low and sells high, or buys high and sells low. Assumes nothing.
+#![tactic(auto)]
+
 ghost use Rattle.std.specs.Prelude.{◌≡◌, ◌≤◌, ◌<◌};
 ghost use Rattle.pricing.specs.Curves.{Columns};
 ghost use Rattle.range.specs.Layout.{most_entries};

@@ -1,6 +1,8 @@
 // The records of a book, layer 1 of document 01: the head's fields and those of record k at their bytes, and a record as a step, a block or a link.
 // Nothing is judged here: every call takes any bytes, ends, and has no `requires`. A missing byte reads as 0, and a
 // record that the book ends within is none of the three. Assumes nothing.
+#![tactic(auto)]
+
 mod bytes; // numbers in the bytes
 mod layout; // where a book's bytes have what
 mod records; // the fields of the head and of a record

@@ -1,5 +1,7 @@
 // The result of a clearing: the answer, and the result's bytes: 8 bytes welfare, the price and the traded quantity of each hour, the row of each record.
 // Numbers stand high byte first. What a clearing promises of them is in specs/Promise. Assumes nothing.
+#![tactic(auto)]
+
 ghost use Rattle.std.specs.Prelude.{cond, ◌++◌, ◌≡◌, ℕ, ◌+◌, ◌-◌, ◌*◌, ◌/◌, ◌%◌, ◌^◌, ◌<◌, ◌≤◌, eqb, length, get_or};
 ghost use Rattle.orders.specs.Layout.{step_places, block_places};
 ghost use Rattle.result.specs.Layout.{welfare_size, result_size};

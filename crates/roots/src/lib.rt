@@ -1,5 +1,7 @@
 // The root prices, those that the search goes by. Any prices are right, so only safety is proved here; how many branches the search drops depends on them.
 // Assumes nothing.
+#![tactic(auto)]
+
 ghost use Rattle.std.specs.Prelude.{◌≡◌, ◌≤◌};
 ghost use Rattle.rules.specs.Orders.{max_price};
 ghost use Rattle.rules.specs.Day.{autumn_hours, gives_way};

@@ -65,6 +65,8 @@ each_in R h [] [] w = tt
 each_in R h (s ∷ l) (q ∷ qs) w =
     by-test (λ t. Each R (keep t s (steps_in h l)) (keep t q (quantities_in h l qs))) (eqb s.hour h)
     (λ _. (w.0, each_in R h l qs w.1)) (λ _. each_in R h l qs w.1)
+each_in R h [] (q ∷ qs) w = elim w [ ]
+each_in R h (s ∷ l) [] w = elim w [ ]
 
 pub prices-in : (h : ℕ) (l : List Step) → PricesInRange l → PricesInRange (steps_in h l)
 prices-in h [] r = tt

@@ -158,6 +158,8 @@ bought-all (s ∷ l) (q ∷ qs) w = omega (arith, go s.side s.quantity w.0, boug
     go : (side : Side) (own : ℕ) → q ≤ own → by_side side q 0 ≤ by_side side own 0
     go buy own h = h
     go sell own h = omega arith
+bought-all [] (q ∷ qs) w = elim w [ ]
+bought-all (s ∷ l) [] w = elim w [ ]
 
 sold-all : (l : List Step) (qs : List ℕ) → Each Within l qs → sold l qs ≤ all_sells l
 unfolding sold
@@ -167,6 +169,8 @@ sold-all (s ∷ l) (q ∷ qs) w = omega (arith, go s.side s.quantity w.0, sold-a
     go : (side : Side) (own : ℕ) → q ≤ own → by_side side 0 q ≤ by_side side 0 own
     go buy own h = omega arith
     go sell own h = h
+sold-all [] (q ∷ qs) w = elim w [ ]
+sold-all (s ∷ l) [] w = elim w [ ]
 
 pub balanced-clearable : (h : Hour) (qs : List ℕ) → Each Within h.steps qs → Balanced h qs → Clearable h
 balanced-clearable h qs w b = record {

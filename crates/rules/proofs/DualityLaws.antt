@@ -72,6 +72,8 @@ unfolding value cost bought sold surplus
 weak-steps p [] [] w = omega arith
 weak-steps p (s ∷ l) (q ∷ qs) w =
     omega (arith, weak-step p s.side s.price q s.quantity w.0, weak-steps p l qs w.1)
+weak-steps p [] (q ∷ qs) w = elim w [ ]
+weak-steps p (s ∷ l) [] w = elim w [ ]
 
 strong-steps : (p : ℕ) (l : List Step) (qs : List ℕ) → Each (Follows p) l qs →
     value l qs + p * sold l qs ≡ cost l qs + p * bought l qs + surplus p l
@@ -79,6 +81,8 @@ unfolding value cost bought sold surplus
 strong-steps p [] [] w = omega arith
 strong-steps p (s ∷ l) (q ∷ qs) w =
     omega (arith, strong-step p s.side s.price q s.quantity w.0.full w.0.nothing, strong-steps p l qs w.1)
+strong-steps p [] (q ∷ qs) w = elim w [ ]
+strong-steps p (s ∷ l) [] w = elim w [ ]
 
 -- WEAK AND STRONG DUALITY of an hour
 pub weak-duality : (h : Hour) (p : ℕ) (qs : List ℕ) → Each Within h.steps qs → Balanced h qs →

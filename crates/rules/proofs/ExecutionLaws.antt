@@ -102,6 +102,10 @@ module _ (p : ℕ) where
   shared-bought [] [] [] hb hs = refl
   shared-bought (o ∷ l) (b ∷ bs) (s ∷ ss) hb hs =
       omega (arith, step-bought p o.price o.quantity b s o.side hb.0 hs.0, shared-bought l bs ss hb.1 hs.1)
+  shared-bought [] [] (s ∷ ss) hb hs = elim hs [ ]
+  shared-bought [] (b ∷ bs) ss hb hs = elim hb [ ]
+  shared-bought (o ∷ l) [] ss hb hs = elim hb [ ]
+  shared-bought (o ∷ l) (b ∷ bs) [] hb hs = elim hs [ ]
 
   shared-sold : (l : List Step) (bs ss : List ℕ) → AtMost (map (buying_at p) l) bs → AtMost (map (selling_at p) l) ss →
       sold l (plus (map (in_full p) l) (plus bs ss)) ≡ sells_below p l + sum_of ss
@@ -109,12 +113,20 @@ module _ (p : ℕ) where
   shared-sold [] [] [] hb hs = refl
   shared-sold (o ∷ l) (b ∷ bs) (s ∷ ss) hb hs =
       omega (arith, step-sold p o.price o.quantity b s o.side hb.0 hs.0, shared-sold l bs ss hb.1 hs.1)
+  shared-sold [] [] (s ∷ ss) hb hs = elim hs [ ]
+  shared-sold [] (b ∷ bs) ss hb hs = elim hb [ ]
+  shared-sold (o ∷ l) [] ss hb hs = elim hb [ ]
+  shared-sold (o ∷ l) (b ∷ bs) [] hb hs = elim hs [ ]
 
   pub shared-follows : (l : List Step) (bs ss : List ℕ) → AtMost (map (buying_at p) l) bs → AtMost (map (selling_at p) l) ss →
       Each (Follows p) l (plus (map (in_full p) l) (plus bs ss))
   shared-follows [] [] [] hb hs = tt
   shared-follows (o ∷ l) (b ∷ bs) (s ∷ ss) hb hs =
       (step_follows p b s o hb.0 hs.0, shared-follows l bs ss hb.1 hs.1)
+  shared-follows [] [] (s ∷ ss) hb hs = elim hs [ ]
+  shared-follows [] (b ∷ bs) ss hb hs = elim hb [ ]
+  shared-follows (o ∷ l) [] ss hb hs = elim hb [ ]
+  shared-follows (o ∷ l) (b ∷ bs) [] hb hs = elim hs [ ]
 
 -- M6, THE AMOUNTS: at every price no more than the steps at it hold; so the two laws of the sharing rule hold of their shares
 module _ (h : Hour) (p : ℕ) where
@@ -158,6 +170,8 @@ execution-follows h p = shared-follows p h.steps _ _ (buy_shares-within h p) (se
 pub follows-within : (p : ℕ) (l : List Step) (qs : List ℕ) → Each (Follows p) l qs → Each Within l qs
 follows-within p [] [] f = tt
 follows-within p (s ∷ l) (q ∷ qs) f = (f.0.within, follows-within p l qs f.1)
+follows-within p [] (q ∷ qs) f = elim f [ ]
+follows-within p (s ∷ l) [] f = elim f [ ]
 
 pub execution-within : (h : Hour) (p : ℕ) → Each Within h.steps (execution h p)
 execution-within h p = follows-within p h.steps _ (execution-follows h p)
@@ -237,6 +251,14 @@ module _ (p q : ℕ) (k : p < q) where
       (rw (zb, zs', fs₁, fb₁) (step_same o.side o.price o.quantity p q (omega arith) (omega arith)))
       (shared_same l bs ss bs' ss' hb.1 hs.1 hb'.1 hs'.1
       (omega arith) (omega (arith, hs.0)) (omega (arith, hb'.0)) (omega arith) (omega arith) (omega arith))
+  shared_same [] [] [] [] (s' ∷ ss') hb hs hb' hs' eb es eb' es' fb fs = elim hs' [ ]
+  shared_same [] [] [] (b' ∷ bs') _ hb hs hb' hs' eb es eb' es' fb fs = elim hb' [ ]
+  shared_same [] [] (s ∷ ss) _ _ hb hs hb' hs' eb es eb' es' fb fs = elim hs [ ]
+  shared_same [] (b ∷ bs) ss _ _ hb hs hb' hs' eb es eb' es' fb fs = elim hb [ ]
+  shared_same (o ∷ l) [] ss _ _ hb hs hb' hs' eb es eb' es' fb fs = elim hb [ ]
+  shared_same (o ∷ l) (b ∷ bs) [] _ _ hb hs hb' hs' eb es eb' es' fb fs = elim hs [ ]
+  shared_same (o ∷ l) (b ∷ bs) (s ∷ ss) [] _ hb hs hb' hs' eb es eb' es' fb fs = elim hb' [ ]
+  shared_same (o ∷ l) (b ∷ bs) (s ∷ ss) (b' ∷ bs') [] hb hs hb' hs' eb es eb' es' fb fs = elim hs' [ ]
 
   module _ (h : Hour) (c : Clears h p) (d : Clears h q) where
     -- no step lies strictly between two clearing prices: nothing is bought above p that is not bought from q on, and nothing sold below q that is

@@ -6,9 +6,10 @@ use mathlib.Core.Bool.{Bool, true, false, false≢true}
 use mathlib.Core.Path.{refl}
 use mathlib.Core.List.{List, [], ◌∷◌}
 use native.Mathlib.Omega.{arith}
-use Rattle.rules.specs.Orders.{Step, Block}
+use Rattle.rules.specs.Orders.{Step, Block, buy, sell}
 use Rattle.rules.specs.Day.{Day}
 use Rattle.rules.specs.Contender.{Each, Within, Contender, HasWelfare, WelfareAtMost, BeatsAll}
+use Rattle.rules.specs.WorkedDays.{step}
 use Rattle.rules.specs.Cases.{base_day_of, s3, s5, s6, uneven, narrow}
 use Rattle.rules.proofs.ContenderCases
 use Rattle.rules.proofs.HourSums.{each-hour}
@@ -23,6 +24,31 @@ by-four P a b c d f (p ∷ q ∷ []) e = absurd e.1.1
 by-four P a b c d f (p ∷ q ∷ r ∷ []) e = absurd e.1.1.1
 by-four P a b c d f (p ∷ q ∷ r ∷ s ∷ []) e = f p q r s
 by-four P a b c d f (p ∷ q ∷ r ∷ s ∷ t ∷ l) e = absurd e.1.1.1.1
+
+-- the steps of the base book, and those of the day where a block brings one tenth of a cent
+abbrev base_buy_1 : Step
+base_buy_1 = (step 1 buy 1 100 5000).step
+
+abbrev base_sell_1 : Step
+base_sell_1 = (step 2 sell 1 100 3000).step
+
+abbrev base_buy_2 : Step
+base_buy_2 = (step 3 buy 2 100 5000).step
+
+abbrev base_sell_2 : Step
+base_sell_2 = (step 4 sell 2 100 3000).step
+
+abbrev narrow_buy_1 : Step
+narrow_buy_1 = (step 1 buy 1 2 5000).step
+
+abbrev narrow_sell_1 : Step
+narrow_sell_1 = (step 2 sell 1 2 3000).step
+
+abbrev narrow_buy_2 : Step
+narrow_buy_2 = (step 3 buy 2 2 5000).step
+
+abbrev narrow_sell_2 : Step
+narrow_sell_2 = (step 4 sell 2 2 3001).step
 
 -- what a set of the day brings at most, whatever the quantities
 abbrev AtMost : Day → List Bool → ℕ → Type 0
@@ -46,7 +72,7 @@ uneven-second-welfare = refl
 uneven-first-most : AtMost uneven (true ∷ false ∷ []) 410000
 unfolding computed
 uneven-first-most qs w c =
-    by-four (λ l. Contender uneven (true ∷ false ∷ []) l → HasWelfare uneven (true ∷ false ∷ []) l w → w ≤ 410000) _ _ _ _
+    by-four (λ l. Contender uneven (true ∷ false ∷ []) l → HasWelfare uneven (true ∷ false ∷ []) l w → w ≤ 410000) base_buy_1 base_sell_1 base_buy_2 base_sell_2
     (λ p q r s c e. omega (arith, c.within, c.balanced 1 (hour-counts 1 refl), c.balanced 2 (hour-counts 2 refl))) qs c.within c
 
 pub uneven-first-not-best : (quantities : List ℕ) (w : ℕ) → ¬ BeatsAll uneven (true ∷ false ∷ []) quantities w
@@ -59,7 +85,7 @@ uneven-first-not-best quantities w b =
 left-out-most : (b : Block) → AtMost (base_day_of (b ∷ [])) (false ∷ []) 400000
 unfolding computed
 left-out-most b qs w c =
-    by-four (λ l. Contender (base_day_of (b ∷ [])) (false ∷ []) l → HasWelfare (base_day_of (b ∷ [])) (false ∷ []) l w → w ≤ 400000) _ _ _ _
+    by-four (λ l. Contender (base_day_of (b ∷ [])) (false ∷ []) l → HasWelfare (base_day_of (b ∷ [])) (false ∷ []) l w → w ≤ 400000) base_buy_1 base_sell_1 base_buy_2 base_sell_2
     (λ p q r s c e. omega (arith, c.within, c.balanced 1 (hour-counts 1 refl), c.balanced 2 (hour-counts 2 refl))) qs c.within c
 
 -- S5: with its block, which takes the place of 50 of each sell step, the welfare is 410000
@@ -101,7 +127,7 @@ narrow-taken-welfare = refl
 narrow-left-out-most : AtMost narrow (false ∷ []) 7998
 unfolding computed
 narrow-left-out-most qs w c =
-    by-four (λ l. Contender narrow (false ∷ []) l → HasWelfare narrow (false ∷ []) l w → w ≤ 7998) _ _ _ _
+    by-four (λ l. Contender narrow (false ∷ []) l → HasWelfare narrow (false ∷ []) l w → w ≤ 7998) narrow_buy_1 narrow_sell_1 narrow_buy_2 narrow_sell_2
     (λ p q r s c e. omega (arith, c.within, c.balanced 1 (hour-counts 1 refl), c.balanced 2 (hour-counts 2 refl))) qs c.within c
 
 pub narrow-left-out-not-best : (quantities : List ℕ) (w : ℕ) → ¬ BeatsAll narrow (false ∷ []) quantities w
@@ -154,7 +180,7 @@ s6-first-welfare = refl
 s6-second-most : AtMost s6 (false ∷ true ∷ []) 410000
 unfolding computed
 s6-second-most qs w c =
-    by-four (λ l. Contender s6 (false ∷ true ∷ []) l → HasWelfare s6 (false ∷ true ∷ []) l w → w ≤ 410000) _ _ _ _
+    by-four (λ l. Contender s6 (false ∷ true ∷ []) l → HasWelfare s6 (false ∷ true ∷ []) l w → w ≤ 410000) base_buy_1 base_sell_1 base_buy_2 base_sell_2
     (λ p q r s c e. omega (arith, c.within, c.balanced 1 (hour-counts 1 refl), c.balanced 2 (hour-counts 2 refl))) qs c.within c
 
 pub s6-second-not-best : (quantities : List ℕ) (w : ℕ) → ¬ BeatsAll s6 (false ∷ true ∷ []) quantities w

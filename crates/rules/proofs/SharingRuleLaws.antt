@@ -134,6 +134,10 @@ module _ (p : ℕ) where
         step_value p o.price o.quantity (in_full p o) b s o.side hb.0 hs.0,
         shared_value l bs ss hb.1 hs.1,
       )
+  shared_value [] [] (s ∷ ss) hb hs = elim hs [ ]
+  shared_value [] (b ∷ bs) ss hb hs = elim hb [ ]
+  shared_value (o ∷ l) [] ss hb hs = elim hb [ ]
+  shared_value (o ∷ l) (b ∷ bs) [] hb hs = elim hs [ ]
 
   shared-cost : (l : List Step) (bs ss : List ℕ) → AtMost (map (buying_at p) l) bs → AtMost (map (selling_at p) l) ss →
       cost l (plus (map (in_full p) l) (plus bs ss)) ≡ cost l (map (in_full p) l) + p * sum_of ss
@@ -145,6 +149,10 @@ module _ (p : ℕ) where
         step-cost p o.price o.quantity (in_full p o) b s o.side hb.0 hs.0,
         shared-cost l bs ss hb.1 hs.1,
       )
+  shared-cost [] [] (s ∷ ss) hb hs = elim hs [ ]
+  shared-cost [] (b ∷ bs) ss hb hs = elim hb [ ]
+  shared-cost (o ∷ l) [] ss hb hs = elim hb [ ]
+  shared-cost (o ∷ l) (b ∷ bs) [] hb hs = elim hs [ ]
 
 -- AN HOUR under a rule that keeps the laws, at any price
 module _ (rule : SharingRule) (keeps : TwoLaws rule) (h : Hour) (p : ℕ) where
@@ -227,6 +235,10 @@ module _ (one other : SharingRule) (k : TwoLaws one) (k' : TwoLaws other) where
   alike-apart price [] [] [] f f' = tt
   alike-apart price (s ∷ l) (q ∷ qs) (q' ∷ qs') f f' =
       ((λ apart. step-alike (price s.hour) s q q' f.0 f'.0 apart), alike-apart price l qs qs' f.1 f'.1)
+  alike-apart price [] [] (q' ∷ qs') f f' = elim f' [ ]
+  alike-apart price [] (q ∷ qs) _ f f' = elim f [ ]
+  alike-apart price (s ∷ l) [] _ f f' = elim f [ ]
+  alike-apart price (s ∷ l) (q ∷ qs) [] f f' = elim f' [ ]
 
   pub executed-alike : (day : Day) (set : List Block) →
       AlikeApart (set_prices day set) day.steps (executed_by one day set) (executed_by other day set)

@@ -1,5 +1,7 @@
 // The sheets of the books that the arguments name, one after another: what `auction_print` writes of each. The gate compares them with the file stdout,
 // the sheets of ../../samples in the order of the file args; data/ has copies of the books.
+#![tactic(auto)]
+
 use libc::STDOUT_FILENO;
 use sheet::sheet;
 

@@ -1,5 +1,7 @@
 // The search over the blocks: each first taken and then left out, by cost: by loss at fixed hourly prices, and among sets that lose the same by the ranks of the
 // blocks left out. Assumes nothing.
+#![tactic(auto)]
+
 use places::layout::HOURS;
 
 mod decide; // all blocks are decided

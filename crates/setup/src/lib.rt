@@ -1,4 +1,6 @@
 // The setup of the search: from a book's decoded columns to the tables of the hours and the columns of the blocks. Assumes nothing.
+#![tactic(auto)]
+
 ghost use Rattle.std.specs.Prelude.{◌≡◌, length, ◌+◌, ◌≤◌};
 ghost use Rattle.places.specs.Layout.{last_place, last_and_above};
 ghost use Rattle.places.specs.Hours.{Small, row_width, HasRows};

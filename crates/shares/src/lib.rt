@@ -1,5 +1,7 @@
 // The executed quantities of an hour at its price: strictly better steps in full, those at the price by fair shares of their side's amount, the others
 // nothing.
+#![tactic(auto)]
+
 ghost use Rattle.std.specs.Prelude.{◌≡◌, ◌+◌, ◌-◌, ◌*◌, ◌/◌, ◌^◌, ◌≤◌, ◌<◌, map, eqb, length};
 ghost use Rattle.rules.specs.Hour.{by_side, when, total};
 ghost use Rattle.orders.specs.Columns.{side_for, steps_from};

@@ -1,4 +1,6 @@
 // The sheet: a book's published outcome, or its refusal, as text.
+#![tactic(auto)]
+
 ghost use Rattle.std.specs.Prelude.{◌≡◌, ◌≤◌, length};
 ghost use Rattle.book.specs.Answers.{number_of};
 ghost use Rattle.book.specs.Refusals.{Accepted};

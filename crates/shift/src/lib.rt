@@ -1,6 +1,8 @@
 // The shift of a set's prices in edition 4: the middle one where it keeps the limits of all its blocks, else the nearest that does, found by bisection. As
 // the prices rise a sell keeps its limit once it does, and a buy no longer once it does not: where the buys alone miss theirs the shift lies below the
 // middle, where the sells alone do above it. Assumes nothing.
+#![tactic(auto)]
+
 ghost use Rattle.std.specs.Prelude.{true, false, not, ◌≡◌, ◌≤◌, ◌<◌, length};
 ghost use Rattle.book.specs.Bounds.{most_blocks};
 ghost use Rattle.rules.specs.Shift.{last_shift, middle_shift};

@@ -1,4 +1,6 @@
 // Words and numbers put into a buffer: each call puts its bytes from `at` on and gives the place behind them.
+#![tactic(auto)]
+
 ghost use Rattle.std.specs.Prelude.{◌++◌};
 ghost use Rattle.text.specs.Text.{decimal, field, line_feed, HasRoom, Put};
 
