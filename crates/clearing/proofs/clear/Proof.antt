@@ -11,7 +11,7 @@ use Rattle.clearing.proofs.clear.Tie as tie
 
 -- the book behind the reader's accepting answer
 book-accepted : (k : tie.In-Accepted) → Accepted k.args.book.now
-book-accepted k = accepted _ (answer-accepted _ _ _ (sym k.read-reading.ensures ∙ k.enum_told-1.given.1)).0
+book-accepted k = accepted _ (answer-accepted _ _ _ (sym k.read-reading.ensures ∙ k.in-Accepted.is)).0
 
 read-requires : tie.Need-read-reading-requires
 read-requires c κs = search rules
@@ -42,7 +42,7 @@ clear-accepted-requires c κs =
 returns : tie.Need-returns-in-Refused
 returns c =
     let k = c in
-    let e = answer-refused _ _ (sym k.read-reading.ensures ∙ k.reading-1.given.1) in
+    let e = answer-refused _ _ (sym k.read-reading.ensures ∙ k.in-Refused.is) in
     promise-refused _ _ _ _ (refused-book _ _ _ e.0 e.1) e.1 refl
 
 same_length : tie.Need-shape_of-res

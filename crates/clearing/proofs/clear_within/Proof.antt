@@ -28,30 +28,30 @@ abbrev prepared : tie.After-find-best → tie.After-prepare-prepared
 prepared c = c
 
 -- the lengths of the step columns
-size-sides : (s : tie.Start) → length s.args.steps.sides-1 ≡ 2048
+size-sides : (s : tie.Start) → length s.args.steps.sides ≡ 2048
 size-sides s = search rules
 
-size-prices : (s : tie.Start) → length s.args.steps.prices-1 ≡ 2048
+size-prices : (s : tie.Start) → length s.args.steps.prices ≡ 2048
 size-prices s = search rules
 
-size-quantities : (s : tie.Start) → length s.args.steps.quantities-1 ≡ 2048
+size-quantities : (s : tie.Start) → length s.args.steps.quantities ≡ 2048
 size-quantities s = search rules
 
 size-records : (s : tie.Start) → length s.args.steps.records ≡ 2048
 size-records s = search rules
 
-size-ends : (s : tie.Start) → length s.args.steps.ends-1 ≡ 25
+size-ends : (s : tie.Start) → length s.args.steps.ends ≡ 25
 size-ends s = search rules
 
-ends-in : (s : tie.Start) → get_or s.args.steps.ends-1 24 0 ≤ 2048
+ends-in : (s : tie.Start) → get_or s.args.steps.ends 24 0 ≤ 2048
 ends-in s = ends-fit _ _ _ _ _ _ s.requires.held.steps_are 24 (omega arith)
 
-steps-in : (s : tie.Start) → StepsSized s.args.steps.ends-1 s.args.steps.sides-1 s.args.steps.prices-1 s.args.steps.quantities-1
+steps-in : (s : tie.Start) → StepsSized s.args.steps.ends s.args.steps.sides s.args.steps.prices s.args.steps.quantities
 steps-in s =
     steps-sized _ s.requires.held.accepted _ _ _ _ _ s.requires.held.steps_are (omega (arith, ends-in s, size-sides s)) (omega (arith, ends-in s, size-prices s))
     (omega (arith, ends-in s, size-quantities s))
 
-hours-size : (m : tie.After-prepare-prepared) → length m.prepare-prepared.result.hours-1 ≡ hour_list_size
+hours-size : (m : tie.After-prepare-prepared) → length m.prepare-prepared.result.hours ≡ hour_list_size
 hours-size m = search rules
 
 -- the edition and the hours of the day are the book's

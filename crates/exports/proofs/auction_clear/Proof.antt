@@ -25,8 +25,8 @@ returns : tie.Need-returns-in-Refused
 returns c =
     let k = c in
     let p = k.clear-answer.ensures in (
-      sym (ap number_of k.answer-1.given.1) ∙ ap number_of p.answers ∙ number-clearing _ _,
-      (p.bytes, λ none. absurd (refused-not-0 _ _ _ (sym k.answer-1.given.1 ∙ p.answers) none)),
+      sym (ap number_of k.in-Refused.is) ∙ ap number_of p.answers ∙ number-clearing _ _,
+      (p.bytes, λ none. absurd (refused-not-0 _ _ _ (sym k.in-Refused.is ∙ p.answers) none)),
     )
 
 same-length-2 : tie.Need-shape_of-res-in-Published
@@ -35,8 +35,8 @@ same-length-2 c = search rules
 returns-2 : tie.Need-returns-in-Published
 returns-2 c =
     let p = c.clear-answer.ensures in (
-      sym (ap number_of c.enum_told-1.given.1) ∙ ap number_of p.answers ∙ number-clearing _ _,
-      (p.bytes, λ _. p.demands c.enum_told-1.given.1),
+      sym (ap number_of c.in-Published.is) ∙ ap number_of p.answers ∙ number-clearing _ _,
+      (p.bytes, λ _. p.demands c.in-Published.is),
     )
 
 pub auction_clear_spec : {M : Type 1} → statement M

@@ -25,56 +25,56 @@ returns : tie.Need-returns-then-part-eq-ANSWER
 unfolding answer_part
 returns c =
     let k = c in
-    let e = sym k.price-answer.ensures ∙ k.answer-1.given.1 in
+    let e = sym k.price-answer.ensures ∙ k.in-Refused.is in
     sym (rw (e, eq-eqb _ _ c.if-part-eq-ANSWER.true))
 
 returns-2 : tie.Need-returns-else-part-eq-ANSWER
 unfolding answer_part
 returns-2 c =
     let k = c in
-    let e = sym k.price-answer.ensures ∙ k.answer-1.given.1 in
+    let e = sym k.price-answer.ensures ∙ k.in-Refused.is in
     sym (rw (e, ne_eqb _ _ c.if-part-eq-ANSWER.false))
 
 returns-3 : tie.Need-returns-then-part-eq-ANSWER-2
 unfolding answer_part
 returns-3 c =
     let k = c in
-    let e = sym k.price-answer.ensures ∙ k.enum_told-1.given.1 in
+    let e = sym k.price-answer.ensures ∙ k.in-NotClearing.is in
     sym (rw (e, eq-eqb _ _ c.if-part-eq-ANSWER-2.true))
 
 returns-4 : tie.Need-returns-else-part-eq-ANSWER-2
 unfolding answer_part
 returns-4 c =
     let k = c in
-    let e = sym k.price-answer.ensures ∙ k.enum_told-1.given.1 in
+    let e = sym k.price-answer.ensures ∙ k.in-NotClearing.is in
     sym (rw (e, ne_eqb _ _ c.if-part-eq-ANSWER-2.false))
 
 returns-5 : tie.Need-returns-then-part-eq-LOW
 unfolding answer_part
 returns-5 c =
     let k = c in
-    let e = sym k.price-answer.ensures ∙ k.answer-in-Cleared-1.given.1 in
+    let e = sym k.price-answer.ensures ∙ k.in-Cleared.is in
     sym (rw (e, eq-eqb _ _ c.if-part-eq-LOW.true))
 
 returns-6 : tie.Need-returns-then-part-eq-HIGH
 unfolding answer_part
 returns-6 c =
     let k = c in
-    let e = sym k.price-answer.ensures ∙ k.answer-in-Cleared-1.given.1 in
+    let e = sym k.price-answer.ensures ∙ k.in-Cleared.is in
     sym (rw (e, ne_eqb _ _ c.if-part-eq-LOW.false, eq-eqb _ _ c.if-part-eq-HIGH.true))
 
 returns-7 : tie.Need-returns-then-part-eq-PRICE
 unfolding answer_part
 returns-7 c =
     let k = c in
-    let e = sym k.price-answer.ensures ∙ k.answer-in-Cleared-1.given.1 in
+    let e = sym k.price-answer.ensures ∙ k.in-Cleared.is in
     sym (rw (e, ne_eqb _ _ c.if-part-eq-LOW.false, ne_eqb _ _ c.if-part-eq-HIGH.false, eq-eqb _ _ c.if-part-eq-PRICE.true))
 
 returns-8 : tie.Need-returns-else-part-eq-PRICE
 unfolding answer_part
 returns-8 c =
     let k = c in
-    let e = sym k.price-answer.ensures ∙ k.answer-in-Cleared-1.given.1 in
+    let e = sym k.price-answer.ensures ∙ k.in-Cleared.is in
     sym (rw (e, ne_eqb _ _ c.if-part-eq-LOW.false, ne_eqb _ _ c.if-part-eq-HIGH.false, ne_eqb _ _ c.if-part-eq-PRICE.false))
 
 pub auction_price_spec : {M : Type 1} → statement M

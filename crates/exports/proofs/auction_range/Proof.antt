@@ -22,35 +22,35 @@ returns : tie.Need-returns-then-part-eq-ANSWER
 unfolding range_part
 returns c =
     let k = c in
-    let e = sym k.price_range-found.ensures ∙ k.found-1.given.1 in
+    let e = sym k.price_range-found.ensures ∙ k.in-Refused.is in
     sym (rw (e, eq-eqb _ _ c.if-part-eq-ANSWER.true))
 
 returns-2 : tie.Need-returns-else-part-eq-ANSWER
 unfolding range_part
 returns-2 c =
     let k = c in
-    let e = sym k.price_range-found.ensures ∙ k.found-1.given.1 in
+    let e = sym k.price_range-found.ensures ∙ k.in-Refused.is in
     sym (rw (e, ne_eqb _ _ c.if-part-eq-ANSWER.false))
 
 returns-3 : tie.Need-returns-then-part-eq-LEAST
 unfolding range_part
 returns-3 c =
     let k = c in
-    let e = sym k.price_range-found.ensures ∙ k.found-in-Prices-1.given.1 in
+    let e = sym k.price_range-found.ensures ∙ k.in-Prices.is in
     sym (rw (e, eq-eqb _ _ c.if-part-eq-LEAST.true))
 
 returns-4 : tie.Need-returns-then-part-eq-GREATEST
 unfolding range_part
 returns-4 c =
     let k = c in
-    let e = sym k.price_range-found.ensures ∙ k.found-in-Prices-1.given.1 in
+    let e = sym k.price_range-found.ensures ∙ k.in-Prices.is in
     sym (rw (e, ne_eqb _ _ c.if-part-eq-LEAST.false, eq-eqb _ _ c.if-part-eq-GREATEST.true))
 
 returns-5 : tie.Need-returns-else-part-eq-GREATEST
 unfolding range_part
 returns-5 c =
     let k = c in
-    let e = sym k.price_range-found.ensures ∙ k.found-in-Prices-1.given.1 in
+    let e = sym k.price_range-found.ensures ∙ k.in-Prices.is in
     sym (rw (e, ne_eqb _ _ c.if-part-eq-LEAST.false, ne_eqb _ _ c.if-part-eq-GREATEST.false))
 
 pub auction_range_spec : {M : Type 1} → statement M

@@ -20,10 +20,10 @@ enum_told c = search rules
 returns : tie.Need-returns-in-Refused
 returns c =
     let k = c in
-    sym (answer-refused _ _ (sym k.read-reading.ensures ∙ k.reading-1.given.1)).0
+    sym (answer-refused _ _ (sym k.read-reading.ensures ∙ k.in-Refused.is)).0
 
 returns-2 : tie.Need-returns-in-Accepted
-returns-2 c = sym (answer-accepted _ _ _ (sym c.read-reading.ensures ∙ c.enum_told-1.given.1)).0
+returns-2 c = sym (answer-accepted _ _ _ (sym c.read-reading.ensures ∙ c.in-Accepted.is)).0
 
 pub auction_read_spec : {M : Type 1} → statement M
 auction_read_spec =

@@ -13,26 +13,26 @@ use Rattle.pricing.proofs.answer_in.Tie as tie
 abbrev Found : Type 0
 Found = tie.After-steps_of-steps
 
-size-sides : (f : Found) → length f.steps_of-steps.result.sides-1 ≡ 2048
+size-sides : (f : Found) → length f.steps_of-steps.result.sides ≡ 2048
 size-sides f = search rules
 
-size-prices : (f : Found) → length f.steps_of-steps.result.prices-1 ≡ 2048
+size-prices : (f : Found) → length f.steps_of-steps.result.prices ≡ 2048
 size-prices f = search rules
 
-size-quantities : (f : Found) → length f.steps_of-steps.result.quantities-1 ≡ 2048
+size-quantities : (f : Found) → length f.steps_of-steps.result.quantities ≡ 2048
 size-quantities f = search rules
 
 -- the hour's part of the columns
 hour-part : (f : Found) →
-    (get_or f.steps_of-steps.result.ends-1 (f.args.hour - 1) 0 ≤ get_or f.steps_of-steps.result.ends-1 f.args.hour 0)
-    × (get_or f.steps_of-steps.result.ends-1 f.args.hour 0 ≤ 2048)
+    (get_or f.steps_of-steps.result.ends (f.args.hour - 1) 0 ≤ get_or f.steps_of-steps.result.ends f.args.hour 0)
+    × (get_or f.steps_of-steps.result.ends f.args.hour 0 ≤ 2048)
 hour-part f =
     let pre = f.requires in
     (ends-rise _ _ _ _ _ _ f.steps_of-steps.ensures _ _ (omega arith) pre.2, ends-fit _ _ _ _ _ _ f.steps_of-steps.ensures _ pre.2)
 
 part-size : (f : Found) (l : List ℕ) → length l ≡ 2048 →
-    length (part (get_or f.steps_of-steps.result.ends-1 (f.args.hour - 1) 0) (get_or f.steps_of-steps.result.ends-1 f.args.hour 0) l)
-    ≡ get_or f.steps_of-steps.result.ends-1 f.args.hour 0 - get_or f.steps_of-steps.result.ends-1 (f.args.hour - 1) 0
+    length (part (get_or f.steps_of-steps.result.ends (f.args.hour - 1) 0) (get_or f.steps_of-steps.result.ends f.args.hour 0) l)
+    ≡ get_or f.steps_of-steps.result.ends f.args.hour 0 - get_or f.steps_of-steps.result.ends (f.args.hour - 1) 0
 part-size f l e = part_length _ _ l (hour-part f).0 (omega (arith, hour-part f, e))
 
 steps-of-requires : tie.Need-steps_of-steps-requires

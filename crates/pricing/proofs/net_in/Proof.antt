@@ -16,13 +16,13 @@ Found = tie.After-blocks_of-found
 abbrev Traded : Type 0
 Traded = tie.After-trades_of-trades
 
-size-sides : (f : Found) → length f.blocks_of-found.result.sides-1 ≡ 32
+size-sides : (f : Found) → length f.blocks_of-found.result.sides ≡ 32
 size-sides f = search rules
 
-size-hours : (f : Found) → length f.blocks_of-found.result.hours-1 ≡ 32
+size-hours : (f : Found) → length f.blocks_of-found.result.hours ≡ 32
 size-hours f = search rules
 
-size-quantities : (f : Found) → length f.blocks_of-found.result.quantities-1 ≡ 32
+size-quantities : (f : Found) → length f.blocks_of-found.result.quantities ≡ 32
 size-quantities f = search rules
 
 size-records : (f : Found) → length f.blocks_of-found.result.records ≡ 32
@@ -59,9 +59,9 @@ trades-of-requires c κs =
     let f = c in
     let few = f.blocks_of-found.ensures.few in
     let pre = f.requires in
-    let sides = length-take-le f.blocks_of-found.result.count f.blocks_of-found.result.sides-1 (omega (arith, size-sides f, few)) in
-    let hours = length-take-le f.blocks_of-found.result.count f.blocks_of-found.result.hours-1 (omega (arith, size-hours f, few)) in
-    let quantities = length-take-le f.blocks_of-found.result.count f.blocks_of-found.result.quantities-1 (omega (arith, size-quantities f, few)) in
+    let sides = length-take-le f.blocks_of-found.result.count f.blocks_of-found.result.sides (omega (arith, size-sides f, few)) in
+    let hours = length-take-le f.blocks_of-found.result.count f.blocks_of-found.result.hours (omega (arith, size-hours f, few)) in
+    let quantities = length-take-le f.blocks_of-found.result.count f.blocks_of-found.result.quantities (omega (arith, size-quantities f, few)) in
     (record { as_many_prices = sides ∙ sym hours; as_many_quantities = sides ∙ sym quantities; not_too_many = omega (arith, sides, few) }, pre.1, pre.2)
 
 fit : (t : Traded) → (t.trades_of-trades.result.sales ≤ most_traded) × (t.trades_of-trades.result.buys ≤ most_traded)

@@ -31,7 +31,7 @@ has-hour-requires c κs = search rules
 cast-names-absent : tie.Need-overflow_cast-blocks
 cast-names-absent c =
     let k = c in
-    let e = answer-accepted _ _ _ (sym k.read-reading.ensures ∙ k.reading-in-Accepted-1.given.1) in
+    let e = answer-accepted _ _ _ (sym k.read-reading.ensures ∙ k.in-Accepted.is) in
     omega (arith, e.2, blocks-few _ (accepted _ e.0))
 
 names-absent-requires : tie.Need-names_absent-requires
@@ -39,7 +39,7 @@ names-absent-requires c κs = search rules
 
 -- what the reader's answer says on the accepting side
 book-accepted : (k : tie.In-Accepted-2) → Accepted k.args.book.now
-book-accepted k = accepted _ (answer-accepted _ _ _ (sym k.read-reading.ensures ∙ k.reading-in-Accepted-1.given.1)).0
+book-accepted k = accepted _ (answer-accepted _ _ _ (sym k.read-reading.ensures ∙ k.in-Accepted.is)).0
 
 -- the reader's answer, on the way to the test
 abbrev reading-of : tie.After-names_absent → tie.In-Accepted-2
@@ -52,7 +52,7 @@ tested : (n : tie.After-names_absent) → (not n.has_hour.result || n.names_abse
 tested n =
     let k = reading-of n in
     let a = book-accepted k in
-    let e = answer-accepted _ _ _ (sym k.read-reading.ensures ∙ k.reading-in-Accepted-1.given.1) in
+    let e = answer-accepted _ _ _ (sym k.read-reading.ensures ∙ k.in-Accepted.is) in
     let start = k in
     wrong-is _ a start.args.set start.args.hour _ _
     (n.has_hour.ensures ∙ ap (λ day. has_hour day start.args.hour) n.day_hours.ensures)
@@ -70,7 +70,7 @@ answer-in-requires c κs = let r = net-in-requires c κs in (r.0, omega (arith, 
 returns : tie.Need-returns-in-Refused
 returns c =
     let k = c in
-    let e = answer-refused _ _ (sym k.read-reading.ensures ∙ k.reading-1.given.1) in
+    let e = answer-refused _ _ (sym k.read-reading.ensures ∙ k.in-Refused.is) in
     sym (call-refused _ _ _ _ e.0 e.1)
 
 returns-2 : tie.Need-returns-then-has_hour-names_absent

@@ -20,13 +20,13 @@ enum-told-2 : tie.Need-enum_told-in-Refused
 enum-told-2 c = search rules
 
 returns : tie.Need-returns-in-Cleared
-returns c = let k = c in answer-price _ _ _ _ _ k.answer-1.given.1 k.answer_of-answer.ensures
+returns c = let k = c in answer-price _ _ _ _ _ k.in-Cleared.is k.answer_of-answer.ensures
 
 returns-2 : tie.Need-returns-in-NotClearing
-returns-2 c = answer-price _ _ _ _ _ c.enum_told-1.given.1 c.answer_of-answer.ensures
+returns-2 c = answer-price _ _ _ _ _ c.in-NotClearing.is c.answer_of-answer.ensures
 
 returns-3 : tie.Need-returns-in-Refused
-returns-3 c = answer-price _ _ _ _ _ c.enum_told-in-Refused-1.given.1 c.answer_of-answer.ensures
+returns-3 c = answer-price _ _ _ _ _ c.in-Refused.is c.answer_of-answer.ensures
 
 pub price_of_spec : {M : Type 1} → statement M
 price_of_spec =

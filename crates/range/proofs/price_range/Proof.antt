@@ -22,10 +22,10 @@ Found = tie.After-entries_of-entries
 few : (f : Found) → length f.args.list.now / 16 ≤ 256
 few f = entries-few _ (right-size f)
 
-size-sides : (f : Found) → length f.entries_of-entries.result.sides-1 ≡ 256
+size-sides : (f : Found) → length f.entries_of-entries.result.sides ≡ 256
 size-sides f = search rules
 
-size-prices : (f : Found) → length f.entries_of-entries.result.prices-1 ≡ 256
+size-prices : (f : Found) → length f.entries_of-entries.result.prices ≡ 256
 size-prices f = search rules
 
 size-least : (f : Found) → length f.entries_of-entries.result.least ≡ 256

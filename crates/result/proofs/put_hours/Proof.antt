@@ -67,7 +67,7 @@ loop-again c =
     let loop = after-loop.loop-h in
     let price = after-put32.put32 in
     let quantity = c.put32-in-loop-h in
-    let lp : length start.args.t2 ≡ 24 = search rules in
+    let lp : length start.args.quantities ≡ 24 = search rules in
     let lq : length start.args.t3 ≡ 24 = search rules in (
       search rules,
       quantity.auto.0 ∙ price.auto.0 ∙ loop.invariant.1,
@@ -80,7 +80,7 @@ same_length c = search rules
 returns : tie.Need-returns invariant-loop decreases-loop
 returns c =
     let start = c in
-    let lp : length start.args.t2 ≡ 24 = search rules in
+    let lp : length start.args.quantities ≡ 24 = search rules in
     let lq : length start.args.t3 ≡ 24 = search rules in
     hours-done _ _ _ start.requires lp lq _ c.loop-h.h c.loop-h-test.false c.loop-h.invariant.2
 

@@ -59,7 +59,7 @@ gains-at-requires c κs =
     let s = l in
     let p = s.requires in
     let few : l.change_weight-often.result ≤ 2 = omega (arith, l.change_weight-often.ensures, weight-small s.args.day change_hour p.0) in
-    record { blocks = (p.1.1.0, p.1.1.2); prices = (l.Limits-of.ensures, c.held-best.ensures, few) }
+    record { blocks = (p.1.1.0, p.1.1.2); prices = (l.limits_of-limits.ensures, c.held-best.ensures, few) }
 
 gaps-from-requires : tie.Need-gaps_from-requires invariant-loop decreases-loop
 gaps-from-requires c κs =
@@ -81,7 +81,7 @@ loop-holds c =
     let s = w in
     let p = s.requires.tables.0 in
     let few : w.change_weight-often.result ≤ 2 = omega (arith, w.change_weight-often.ensures, weight-small s.args.day change_hour s.requires.day) in
-    (omega arith, omega arith, root, root, λ i. omega (arith, p.0.1, p.2 i), few, l.Limits-of.ensures, b.bounds_of-bounds.ensures.0, b.bounds_of-bounds.ensures.1)
+    (omega arith, omega arith, root, root, λ i. omega (arith, p.0.1, p.2 i), few, l.limits_of-limits.ensures, b.bounds_of-bounds.ensures.0, b.bounds_of-bounds.ensures.1)
 
 moved-on-requires : tie.Need-moved_on-next-requires invariant-loop decreases-loop
 moved-on-requires c κs =

@@ -26,14 +26,14 @@ begun f = f
 abbrev unit_prices_of : tie.After-fill_tables → List ℕ
 unit_prices_of f = f.fill_tables.new.1.1.1.1.1.1.0
 
-prices-size : (f : tie.After-fill_tables) → length (unit_prices_of f) ≡ length (begun f).args.unit-prices.now
+prices-size : (f : tie.After-fill_tables) → length (unit_prices_of f) ≡ length (begun f).args.unit_prices.now
 prices-size f = f.fill_tables.auto.1.1.1.1.1.1.0
 
 prices-fit : (f : tie.After-fill_tables) → Small max_price (unit_prices_of f)
 prices-fit f = f.fill_tables.ensures.small
 
 -- the places that the blocks reach have room in the rows
-fits : (m : tie.After-traded_by_hour-most) → RowsFit (row_width (opened m).args.unit-prices.now) m.traded_by_hour-most.result
+fits : (m : tie.After-traded_by_hour-most) → RowsFit (row_width (opened m).args.unit_prices.now) m.traded_by_hour-most.result
 fits m = rows_fit _ _ _ _ _ _ m.traded_by_hour-most.ensures (opened m).requires.steps.1.1.1.1
 
 within : (m : tie.After-traded_by_hour-most) → (h : ℕ) → h < hour_places →

@@ -11,14 +11,14 @@ returns c =
     nothing-held a.own_val a.amount a.total c.if-total-eq0.true c.requires.0
 
 mul-result : tie.Need-overflow_mul-result
-mul-result c = omega (arith, product-fits c.args.own_val c.args.amount (omega arith) (omega arith))
+mul-result c = omega (arith, product-fits c.args.own c.args.amount (omega arith) (omega arith))
 
 div-result : tie.Need-nonzero_div-result
 div-result c = search rules
 
 cast-result : tie.Need-overflow_cast-result-2
 cast-result c =
-    omega (arith, quotient_fits c.args.own_val c.args.amount c.args.total (omega arith) (omega arith) (omega arith))
+    omega (arith, quotient_fits c.args.own c.args.amount c.args.total (omega arith) (omega arith) (omega arith))
 
 returns-2 : tie.Need-returns
 returns-2 c = search rules

@@ -26,59 +26,59 @@ put-decimal-below t =
 abbrev claims-put-decimal : ℕ → put-decimal-lts.Claims
 claims-put-decimal t = (put-decimal-below t, put-decimal.Post)
 
-put-decimal-add-out : (t : ℕ) → put-decimal-lts.Need-overflow-add-out (claims-put-decimal t) (put-decimal-at t) put-decimal.Post
+put-decimal-add-out : (t : ℕ) → put-decimal-lts.Need-overflow_add-out (claims-put-decimal t) (put-decimal-at t) put-decimal.Post
 put-decimal-add-out t c = search rules
 
-put-decimal-cast-out : (t : ℕ) → put-decimal-lts.Need-overflow-cast-out (claims-put-decimal t) (put-decimal-at t) put-decimal.Post
+put-decimal-cast-out : (t : ℕ) → put-decimal-lts.Need-overflow_cast-out (claims-put-decimal t) (put-decimal-at t) put-decimal.Post
 put-decimal-cast-out t c = search rules
 
-put-decimal-slice-write-out : (t : ℕ) → put-decimal-lts.Need-slice-write-out (claims-put-decimal t) (put-decimal-at t) put-decimal.Post
+put-decimal-slice-write-out : (t : ℕ) → put-decimal-lts.Need-bounds-out-at (claims-put-decimal t) (put-decimal-at t) put-decimal.Post
 put-decimal-slice-write-out t c =
     let start = c in
     digit_room _ _ start.args.n (omega (arith, c.if-n-lt10.true)) start.requires.1
 
-put-decimal-add-result : (t : ℕ) → put-decimal-lts.Need-overflow-add-result (claims-put-decimal t) (put-decimal-at t) put-decimal.Post
+put-decimal-add-result : (t : ℕ) → put-decimal-lts.Need-overflow_add-result (claims-put-decimal t) (put-decimal-at t) put-decimal.Post
 put-decimal-add-result t c =
     let start = c in
     omega (arith, digit_room _ _ start.args.n (omega (arith, c.if-n-lt10.true)) start.requires.1)
 
-put-decimal-same-length : (t : ℕ) → put-decimal-lts.Need-same-length (claims-put-decimal t) (put-decimal-at t) put-decimal.Post
+put-decimal-same-length : (t : ℕ) → put-decimal-lts.Need-shape_of-out-then-n-lt10 (claims-put-decimal t) (put-decimal-at t) put-decimal.Post
 put-decimal-same-length t c = search rules
 
-put-decimal-returns : (t : ℕ) → put-decimal-lts.Need-returns (claims-put-decimal t) (put-decimal-at t) put-decimal.Post
+put-decimal-returns : (t : ℕ) → put-decimal-lts.Need-returns-then-n-lt10 (claims-put-decimal t) (put-decimal-at t) put-decimal.Post
 put-decimal-returns t c =
     let start = c in
     put-digit _ _ start.args.n (omega (arith, c.if-n-lt10.true)) start.requires.1
 
-put-decimal-put-decimal-requires : (t : ℕ) → put-decimal-lts.Need-put-decimal-requires (claims-put-decimal t) (put-decimal-at t) put-decimal.Post
+put-decimal-put-decimal-requires : (t : ℕ) → put-decimal-lts.Need-put_decimal-last-requires (claims-put-decimal t) (put-decimal-at t) put-decimal.Post
 put-decimal-put-decimal-requires t c κs =
     let start = c in
     (omega (arith, start.requires.0), others-room _ _ start.args.n start.ranges.n.fits (omega (arith, c.if-n-lt10.false)) start.requires.1)
 
-put-decimal-add-out-2 : (t : ℕ) → put-decimal-lts.Need-overflow-add-out-2 (claims-put-decimal t) (put-decimal-at t) put-decimal.Post
+put-decimal-add-out-2 : (t : ℕ) → put-decimal-lts.Need-overflow_add-out-2 (claims-put-decimal t) (put-decimal-at t) put-decimal.Post
 put-decimal-add-out-2 t c = search rules
 
-put-decimal-cast-out-2 : (t : ℕ) → put-decimal-lts.Need-overflow-cast-out-2 (claims-put-decimal t) (put-decimal-at t) put-decimal.Post
+put-decimal-cast-out-2 : (t : ℕ) → put-decimal-lts.Need-overflow_cast-out-2 (claims-put-decimal t) (put-decimal-at t) put-decimal.Post
 put-decimal-cast-out-2 t c = search rules
 
-put-decimal-slice-write-out-2 : (t : ℕ) → put-decimal-lts.Need-slice-write-out-2 (claims-put-decimal t) (put-decimal-at t) put-decimal.Post
+put-decimal-slice-write-out-2 : (t : ℕ) → put-decimal-lts.Need-bounds-out-last (claims-put-decimal t) (put-decimal-at t) put-decimal.Post
 put-decimal-slice-write-out-2 t c =
     let start = c in
     let others = c.put_decimal-last.ensures in
     let several : 10 ≤ start.args.n = omega (arith, c.if-n-lt10.false) in
     last-room _ _ start.args.n start.ranges.n.fits several start.requires.1 _ _ others
 
-put-decimal-add-result-2 : (t : ℕ) → put-decimal-lts.Need-overflow-add-result-2 (claims-put-decimal t) (put-decimal-at t) put-decimal.Post
+put-decimal-add-result-2 : (t : ℕ) → put-decimal-lts.Need-overflow_add-result-2 (claims-put-decimal t) (put-decimal-at t) put-decimal.Post
 put-decimal-add-result-2 t c =
     let start = c in
     let others = c.put_decimal-last.ensures in
     let several : 10 ≤ start.args.n = omega (arith, c.if-n-lt10.false) in
     omega (arith, last-room _ _ start.args.n start.ranges.n.fits several start.requires.1 _ _ others)
 
-put-decimal-same-length-2 : (t : ℕ) → put-decimal-lts.Need-same-length-2 (claims-put-decimal t) (put-decimal-at t) put-decimal.Post
+put-decimal-same-length-2 : (t : ℕ) → put-decimal-lts.Need-shape_of-out (claims-put-decimal t) (put-decimal-at t) put-decimal.Post
 put-decimal-same-length-2 t c = simp length-set c.put_decimal-last.auto.0
 
-put-decimal-returns-2 : (t : ℕ) → put-decimal-lts.Need-returns-2 (claims-put-decimal t) (put-decimal-at t) put-decimal.Post
+put-decimal-returns-2 : (t : ℕ) → put-decimal-lts.Need-returns (claims-put-decimal t) (put-decimal-at t) put-decimal.Post
 put-decimal-returns-2 t c =
     let start = c in
     let others = c.put_decimal-last.ensures in

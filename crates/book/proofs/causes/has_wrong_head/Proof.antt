@@ -52,7 +52,7 @@ returns c =
       links.has_early_links.ensures,
       editions.is_within-2.ensures,
       edition.edition_of.ensures,
-      days.is_Within.ensures,
+      days.is_within.ensures,
       days.day_hours.ensures,
     )
 

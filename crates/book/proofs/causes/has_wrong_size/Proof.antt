@@ -30,7 +30,7 @@ is-within-requires c κs = search rules
 
 returns : tie.Need-returns
 unfolding wrong_size
-returns c = rw (c.is_Within.ensures, c.record_count-count.ensures)
+returns c = rw (c.is_within.ensures, c.record_count-count.ensures)
 
 pub has_wrong_size_spec : {M : Type 1} → statement M
 has_wrong_size_spec =

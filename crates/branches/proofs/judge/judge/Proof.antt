@@ -45,10 +45,10 @@ abbrev pricing : tie.After-keeps_limits → tie.After-bounds_at-bounds
 pricing c = priced c
 
 -- arrays of 24
-from-size : (f : tie.After-reach_at-reach) → length f.reach_at-reach.result.from-1 ≡ hour_places
+from-size : (f : tie.After-reach_at-reach) → length f.reach_at-reach.result.from ≡ hour_places
 from-size f = search rules
 
-to-size : (f : tie.After-reach_at-reach) → length f.reach_at-reach.result.to-1 ≡ hour_places
+to-size : (f : tie.After-reach_at-reach) → length f.reach_at-reach.result.to ≡ hour_places
 to-size f = search rules
 
 turn-size : (s : tie.Start) → length (gaps_turn s.args.hours.now) ≡ hour_places

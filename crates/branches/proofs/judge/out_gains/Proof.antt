@@ -16,7 +16,7 @@ abbrev decreases-loop : tie.decreases-loop-i
 decreases-loop blocks count at out gains₀ i₀ gains i = count - i
 
 -- THE STATES on the way: the loop and the start behind the choice of the gain
-abbrev at-loop : tie.After-choose-gain invariant-loop decreases-loop → tie.At-loop invariant-loop decreases-loop
+abbrev at-loop : tie.After-choose-gain invariant-loop decreases-loop → tie.At-loop-i invariant-loop decreases-loop
 at-loop c = c
 
 abbrev start : tie.After-choose-gain invariant-loop decreases-loop → tie.Start invariant-loop decreases-loop

@@ -28,7 +28,7 @@ returns : tie.Need-returns-then-i-eq0 invariant-loop decreases-loop
 unfolding has_block block_order some_in
 returns c =
     let v = c in
-    sym (rw (chain-end _ _ _ c.if-i-eq0.true, v.before.First-Block.ensures) at v.loop-left.invariant)
+    sym (rw (chain-end _ _ _ c.if-i-eq0.true, v.first_block-i.ensures) at v.loop-left.invariant)
 
 number-of-requires : tie.Need-number_of-requires invariant-loop decreases-loop
 number-of-requires c κs = search rules
@@ -40,7 +40,7 @@ returns-2 c =
     let v = u in
     sym (rw (
       chain_more _ _ _ u.loop-left-test.true u.if-i-eq0.false,
-      v.before.First-Block.ensures,
+      v.first_block-i.ensures,
       ← u.number_of.ensures,
       eq-eqb _ _ c.if-number_of-number.true,
     ) at v.loop-left.invariant)
@@ -69,7 +69,7 @@ loop-again c =
 
 returns-3 : tie.Need-returns invariant-loop decreases-loop
 unfolding has_block block_order some_in
-returns-3 c = let v = c in sym (rw (chain-none _ _ _ c.loop-left-test.false, v.before.First-Block.ensures) at v.loop-left.invariant)
+returns-3 c = let v = c in sym (rw (chain-none _ _ _ c.loop-left-test.false, v.first_block-i.ensures) at v.loop-left.invariant)
 
 pub has_block_spec : {M : Type 1} → statement M
 has_block_spec =

@@ -49,14 +49,14 @@ unfolding uncounted
 returns c =
     let arm = c in
     let record-read = arm in
-    rw (sym record-read.record_at-found.ensures ∙ arm.found-1.given.1, c.is_counted.ensures, record-read.day_hours-day.ensures)
+    rw (sym record-read.record_at-found.ensures ∙ arm.in-Step.is, c.is_counted.ensures, record-read.day_hours-day.ensures)
 
 returns-2 : tie.Need-returns-in-Block
 unfolding uncounted
 returns-2 c =
     let arm = c in
     let record-read = arm in
-    rw (sym record-read.record_at-found.ensures ∙ arm.found-in-Block-1.given.1, c.counted_hours.ensures, record-read.day_hours-day.ensures)
+    rw (sym record-read.record_at-found.ensures ∙ arm.in-Block.is, c.counted_hours.ensures, record-read.day_hours-day.ensures)
 
 returns-3 : tie.Need-returns-in-Link
 returns-3 c = rw (← c.record_at-found.ensures) (other _ c.record_at-found.result c.match.keys3)

@@ -22,13 +22,13 @@ first-link-requires : tie.Need-first_link-requires
 first-link-requires c κs = search rules
 
 returns : tie.Need-returns-in-Steps
-returns c = rw c.enum_told-1.given.1 c.first_step.ensures
+returns c = rw c.in-Steps.is c.first_step.ensures
 
 returns-2 : tie.Need-returns-in-Blocks
-returns-2 c = rw c.enum_told-in-Blocks-1.given.1 c.First-Block.ensures
+returns-2 c = rw c.in-Blocks.is c.first_block.ensures
 
 returns-3 : tie.Need-returns-in-Links
-returns-3 c = rw c.enum_told-in-Links-1.given.1 c.first_link.ensures
+returns-3 c = rw c.in-Links.is c.first_link.ensures
 
 pub first_on_spec : {M : Type 1} → statement M
 first_on_spec =

@@ -13,13 +13,13 @@ enum-told-3 : tie.Need-enum_told-in-Links
 enum-told-3 c = search rules
 
 returns : tie.Need-returns-in-Steps
-returns c = rw c.enum_told-1.given.1
+returns c = rw c.in-Steps.is
 
 returns-2 : tie.Need-returns-in-Blocks
-returns-2 c = rw c.enum_told-in-Blocks-1.given.1
+returns-2 c = rw c.in-Blocks.is
 
 returns-3 : tie.Need-returns-in-Links
-returns-3 c = rw c.enum_told-in-Links-1.given.1
+returns-3 c = rw c.in-Links.is
 
 pub kind_on_spec : {M : Type 1} → statement M
 kind_on_spec = tie.close (tie.spec enum_told enum-told-2 enum-told-3 returns returns-2 returns-3)

@@ -22,7 +22,7 @@ abbrev filled : tie.After-less-welfare → tie.After-fill_hours-sums
 filled c = c
 
 -- the values have room for the steps
-room : (f : tie.After-fill_hours-sums) → get_or (start f).args.steps.ends-1 24 0 ≤ length f.fill_hours-sums.new.1.1.1.1.1.1.1.0
+room : (f : tie.After-fill_hours-sums) → get_or (start f).args.steps.ends 24 0 ≤ length f.fill_hours-sums.new.1.1.1.1.1.1.1.0
 room f =
     let whole : length f.fill_hours-sums.new.1.1.1.1.1.1.1.0 ≡ 2048 = f.fill_hours-sums.auto.1.1.1.1.1.1.1.0 ∙ refl in
     omega (arith, (start f).requires.1.fit)

@@ -59,22 +59,22 @@ claims-visit t = (visit-children-below t, visit-children.Post)
 abbrev claims-visit-children : ℕ → visit-children-lts.Claims
 claims-visit-children t = (visit-children-below t, visit-children.Post, visit-below t, visit.Post)
 
-visit-mul-result : (t : ℕ) → visit-lts.Need-overflow-mul-result (claims-visit t) (visit-at t) visit.Post
+visit-mul-result : (t : ℕ) → visit-lts.Need-offset_bounds-gains-i (claims-visit t) (visit-at t) visit.Post
 visit-mul-result t c = search rules
 
-visit-shared-slice-read-result : (t : ℕ) → visit-lts.Need-shared-slice-read-result (claims-visit t) (visit-at t) visit.Post
+visit-shared-slice-read-result : (t : ℕ) → visit-lts.Need-bounds-gains-i (claims-visit t) (visit-at t) visit.Post
 visit-shared-slice-read-result t c = search rules
 
-visit-add-visit-children : (t : ℕ) → visit-lts.Need-overflow-add-visit-children (claims-visit t) (visit-at t) visit.Post
+visit-add-visit-children : (t : ℕ) → visit-lts.Need-overflow_add-i (claims-visit t) (visit-at t) visit.Post
 visit-add-visit-children t c = search rules
 
-visit-visit-children-requires : (t : ℕ) → visit-lts.Need-visit-children-requires (claims-visit t) (visit-at t) visit.Post
+visit-visit-children-requires : (t : ℕ) → visit-lts.Need-visit_children-requires (claims-visit t) (visit-at t) visit.Post
 visit-visit-children-requires t c κs =
     let start = c in
     let columns = start.requires.fits.0 in
     (omega (arith, start.requires.columns), ((columns.0, columns.1, omega arith), visit-part-fits _ _ _ _ _ start.requires.fits.1))
 
-visit-add-result : (t : ℕ) → visit-lts.Need-overflow-add-result (claims-visit t) (visit-at t) visit.Post
+visit-add-result : (t : ℕ) → visit-lts.Need-overflow_add-result (claims-visit t) (visit-at t) visit.Post
 visit-add-result t c =
     let start = c in
     record { fits = visit-sum-fits _ _ _ start.args.left start.args.i _ start.requires.fits.1 c.visit_children-later.ensures }
@@ -84,17 +84,17 @@ visit-returns t c =
     let start = c in
     rw c.visit_children-later.ensures (sym (visit-is _ _ start.args.left start.args.i))
 
-visit-children-returns : (t : ℕ) → visit-children-lts.Need-returns (claims-visit-children t) (visit-children-at t) visit-children.Post
+visit-children-returns : (t : ℕ) → visit-children-lts.Need-returns-then-left-eq0 (claims-visit-children t) (visit-children-at t) visit-children.Post
 visit-children-returns t c =
     sym (children-none _ _ _ _ _ c.if-left-eq0.true)
 
-visit-children-add-visit-children : (t : ℕ) → visit-children-lts.Need-overflow-add-visit-children (claims-visit-children t) (visit-children-at t) visit-children.Post
+visit-children-add-visit-children : (t : ℕ) → visit-children-lts.Need-overflow_add-j (claims-visit-children t) (visit-children-at t) visit-children.Post
 visit-children-add-visit-children t c = search rules
 
-visit-children-sub-visit-children : (t : ℕ) → visit-children-lts.Need-overflow-sub-visit-children (claims-visit-children t) (visit-children-at t) visit-children.Post
+visit-children-sub-visit-children : (t : ℕ) → visit-children-lts.Need-overflow_sub-left (claims-visit-children t) (visit-children-at t) visit-children.Post
 visit-children-sub-visit-children t c = search rules
 
-visit-children-visit-children-requires : (t : ℕ) → visit-children-lts.Need-visit-children-requires (claims-visit-children t) (visit-children-at t) visit-children.Post
+visit-children-visit-children-requires : (t : ℕ) → visit-children-lts.Need-visit_children-later-requires (claims-visit-children t) (visit-children-at t) visit-children.Post
 visit-children-visit-children-requires t c κs =
     let start = c in
     let some : 0 < start.args.left = omega (arith, c.if-left-eq0.false) in
@@ -103,20 +103,20 @@ visit-children-visit-children-requires t c κs =
       ((columns.0, omega (arith, columns.1), omega (arith, columns.2)), later-fits _ _ _ _ _ _ some start.requires.fits.1),
     )
 
-visit-children-mul-if2 : (t : ℕ) → visit-children-lts.Need-overflow-mul-if2 (claims-visit-children t) (visit-children-at t) visit-children.Post
+visit-children-mul-if2 : (t : ℕ) → visit-children-lts.Need-offset_bounds-parents-j (claims-visit-children t) (visit-children-at t) visit-children.Post
 visit-children-mul-if2 t c = search rules
 
-visit-children-shared-slice-read-if2 : (t : ℕ) → visit-children-lts.Need-shared-slice-read-if2 (claims-visit-children t) (visit-children-at t) visit-children.Post
+visit-children-shared-slice-read-if2 : (t : ℕ) → visit-children-lts.Need-bounds-parents-j (claims-visit-children t) (visit-children-at t) visit-children.Post
 visit-children-shared-slice-read-if2 t c = search rules
 
-visit-children-cast-if2 : (t : ℕ) → visit-children-lts.Need-overflow-cast-if2 (claims-visit-children t) (visit-children-at t) visit-children.Post
+visit-children-cast-if2 : (t : ℕ) → visit-children-lts.Need-overflow_cast-parents (claims-visit-children t) (visit-children-at t) visit-children.Post
 visit-children-cast-if2 t c =
     omega (arith, c.shared_slice_known-1.given c.args.j)
 
-visit-children-add-if2 : (t : ℕ) → visit-children-lts.Need-overflow-add-if2 (claims-visit-children t) (visit-children-at t) visit-children.Post
+visit-children-add-if2 : (t : ℕ) → visit-children-lts.Need-overflow_add-i (claims-visit-children t) (visit-children-at t) visit-children.Post
 visit-children-add-if2 t c = search rules
 
-visit-children-sub-visit : (t : ℕ) → visit-children-lts.Need-overflow-sub-visit (claims-visit-children t) (visit-children-at t) visit-children.Post
+visit-children-sub-visit : (t : ℕ) → visit-children-lts.Need-overflow_sub-left-then-parents-j (claims-visit-children t) (visit-children-at t) visit-children.Post
 visit-children-sub-visit t c = search rules
 
 visit-children-visit-requires : (t : ℕ) → visit-children-lts.Need-visit-requires (claims-visit-children t) (visit-children-at t) visit-children.Post
@@ -128,20 +128,20 @@ visit-children-visit-requires t c κs =
       ((columns.0, omega (arith, columns.1)), child_fits _ _ _ _ _ _ some c.if-parents-j.true start.requires.fits.1),
     )
 
-visit-children-add-result : (t : ℕ) → visit-children-lts.Need-overflow-add-result (claims-visit-children t) (visit-children-at t) visit-children.Post
+visit-children-add-result : (t : ℕ) → visit-children-lts.Need-overflow_add-result (claims-visit-children t) (visit-children-at t) visit-children.Post
 visit-children-add-result t c =
     let start = c in
     let some : 0 < start.args.left = omega (arith, c.if-left-eq0.false) in
     let later = c.visit_children-later.ensures in
     record { fits = child-sum-fits _ _ _ _ _ _ _ _ some c.if-parents-j.true start.requires.fits.1 c.visit.ensures later }
 
-visit-children-returns-2 : (t : ℕ) → visit-children-lts.Need-returns-2 (claims-visit-children t) (visit-children-at t) visit-children.Post
+visit-children-returns-2 : (t : ℕ) → visit-children-lts.Need-returns-then-parents-j (claims-visit-children t) (visit-children-at t) visit-children.Post
 visit-children-returns-2 t c =
     let start = c in
     let some : 0 < start.args.left = omega (arith, c.if-left-eq0.false) in
     rw (c.visit.ensures, c.visit_children-later.ensures) (sym (children-child _ _ _ _ _ some c.if-parents-j.true))
 
-visit-children-returns-3 : (t : ℕ) → visit-children-lts.Need-returns-3 (claims-visit-children t) (visit-children-at t) visit-children.Post
+visit-children-returns-3 : (t : ℕ) → visit-children-lts.Need-returns (claims-visit-children t) (visit-children-at t) visit-children.Post
 visit-children-returns-3 t c =
     let start = c in
     let some : 0 < start.args.left = omega (arith, c.if-left-eq0.false) in

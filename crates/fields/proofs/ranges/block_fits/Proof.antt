@@ -35,7 +35,7 @@ returns c = let m = c in
       m.most_block_quantity.ensures,
       p.is_within-2.ensures,
       h.hour_count.ensures,
-      h.before.is_Within.ensures,
+      h.is_within.ensures,
     )
 
 pub block_fits_spec : {M : Type 1} → statement M

@@ -29,7 +29,7 @@ returns c =
     let hour = edition in
     let side = hour in
     rw (
-      side.is_Within.ensures,
+      side.is_within.ensures,
       side.side_byte.ensures,
       hour.hour_byte.ensures,
       c.block_fits.ensures,

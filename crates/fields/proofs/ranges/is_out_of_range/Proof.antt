@@ -33,23 +33,23 @@ returns : tie.Need-returns-in-Step
 unfolding out_of_range record_in_range
 returns c =
     let arm = c in
-    rw (sym arm.record_at-found.ensures ∙ arm.found-1.given.1, c.is_step_in_range.ensures)
+    rw (sym arm.record_at-found.ensures ∙ arm.in-Step.is, c.is_step_in_range.ensures)
 
 returns-2 : tie.Need-returns-in-Block
 unfolding out_of_range record_in_range
 returns-2 c =
     let arm = c in
-    rw (sym arm.record_at-found.ensures ∙ arm.found-in-Block-1.given.1, c.is_block_in_range.ensures)
+    rw (sym arm.record_at-found.ensures ∙ arm.in-Block.is, c.is_block_in_range.ensures)
 
 returns-3 : tie.Need-returns-in-Link
 unfolding out_of_range record_in_range
 returns-3 c =
     let arm = c in
-    rw (sym arm.record_at-found.ensures ∙ c.enum_told-1.given.1, c.is_link_in_range.ensures)
+    rw (sym arm.record_at-found.ensures ∙ c.in-Link.is, c.is_link_in_range.ensures)
 
 returns-4 : tie.Need-returns-in-Other
 unfolding out_of_range record_in_range
-returns-4 c = rw (sym c.record_at-found.ensures ∙ c.enum_told-in-Other-1.given.1)
+returns-4 c = rw (sym c.record_at-found.ensures ∙ c.in-Other.is)
 
 pub is_out_of_range_spec : {M : Type 1} → statement M
 is_out_of_range_spec =

@@ -19,7 +19,7 @@ step-fits-requires c κs = search rules
 returns : tie.Need-returns
 unfolding step_in_range
 returns c =
-    rw (c.before.is_Within.ensures, c.side_byte.ensures, c.step_fits.ensures)
+    rw (c.is_within.ensures, c.side_byte.ensures, c.step_fits.ensures)
 
 pub is_step_in_range_spec : {M : Type 1} → statement M
 is_step_in_range_spec =

@@ -26,7 +26,7 @@ returns : tie.Need-returns
 unfolding step_fits
 returns c = let p = c in
     let q = p in
-    rw (c.is_within-4.ensures, p.is_within-3.ensures, q.is_within-2.ensures, q.before.before.is_Within.ensures)
+    rw (c.is_within-4.ensures, p.is_within-3.ensures, q.is_within-2.ensures, q.is_within.ensures)
 
 pub step_fits_spec : {M : Type 1} → statement M
 step_fits_spec =

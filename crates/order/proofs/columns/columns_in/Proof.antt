@@ -17,7 +17,7 @@ abbrev decreases-loop : tie.decreases-loop-k
 decreases-loop blocks count order r₀ k₀ r k = parent_column - k
 
 -- the number of the block at place k % most_blocks fits
-block-fits : (c : tie.Then-j-count invariant-loop decreases-loop) → get_or c.args.t2 (c.loop-k.k % most_blocks) 0 < most_blocks
+block-fits : (c : tie.Then-j-count invariant-loop decreases-loop) → get_or c.args.count (c.loop-k.k % most_blocks) 0 < most_blocks
 block-fits c =
     let start = c in
     omega (arith, start.requires.2 (c.loop-k.k % most_blocks) c.if-j-count.true, start.requires.1)

@@ -16,7 +16,7 @@ decreases-loop blocks place count order r₀ j₀ r j = count - j
 
 -- the number of the block at place j
 abbrev block-at : tie.In-loop-j invariant-loop decreases-loop → ℕ
-block-at c = get_or c.args.t3 c.loop-j.j 0
+block-at c = get_or c.args.place c.loop-j.j 0
 
 -- it fits
 block-fits : (c : tie.In-loop-j invariant-loop decreases-loop) → block-at c < most_blocks

@@ -16,7 +16,7 @@ abbrev decreases-loop : tie.decreases-loop-k
 decreases-loop blocks count order r₀ k₀ r k = hour_places * count - k
 
 -- the number of the block whose row it is fits
-block-fits : (c : tie.In-loop-k invariant-loop decreases-loop) → get_or c.args.t3 (c.loop-k.k / hour_places) 0 < most_blocks
+block-fits : (c : tie.In-loop-k invariant-loop decreases-loop) → get_or c.args.count (c.loop-k.k / hour_places) 0 < most_blocks
 block-fits c =
     let start = c in
     omega (arith, start.requires.2 (c.loop-k.k / hour_places) (omega (arith, c.loop-k-test.true)), start.requires.1)

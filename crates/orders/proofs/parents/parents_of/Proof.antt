@@ -48,7 +48,7 @@ slice-aggregate-parent-place c = sym (length-take-le _ _ c.follow-found.ensures.
 parent-place-requires : tie.Need-parent_place-requires invariant-loop decreases-loop
 parent-place-requires c κs =
     let f = c.follow-found in
-    rw (length-take-le f.result.count f.result.index-1 f.ensures.fits) f.ensures.few
+    rw (length-take-le f.result.count f.result.index f.ensures.fits) f.ensures.few
 
 mul-parents : tie.Need-offset_bounds-parents-i invariant-loop decreases-loop
 mul-parents c = search rules
@@ -67,7 +67,7 @@ loop-again c =
     let v = c.loop-i in
     let f = c.follow-found in
     let n = f.result.count in
-    let l = f.result.index-1 in
+    let l = f.result.index in
     let h : v.i < n = omega arith in
     let room : v.i < 32 = omega (arith, f.ensures.few) in
     (omega arith, filled-front 32 _ n l v.i v.parents _ h f.ensures.fits room c.parent_place.ensures v.invariant.1)
@@ -76,7 +76,7 @@ returns-2 : tie.Need-returns invariant-loop decreases-loop
 returns-2 c =
     let v = c.loop-i in
     let f = c.follow-found in
-    parents-filled _ _ f.result.count v.i f.result.index-1 v.parents c.before.before.before.before.First-Block.ensures (omega arith)
+    parents-filled _ _ f.result.count v.i f.result.index v.parents c.first_block.ensures (omega arith)
     f.ensures v.invariant.1
 
 pub parents_of_spec : {M : Type 1} → statement M

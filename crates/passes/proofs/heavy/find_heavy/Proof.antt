@@ -21,14 +21,14 @@ abbrev decreases-loop : tie.decreases-loop-limit
 decreases-loop unit-prices gap hours blocks sides prices quantities ends count guessed from table₀ limit₀ table limit = 2 * last_limit - limit
 
 -- the start behind the loop
-abbrev start : tie.At-loop invariant-loop decreases-loop → tie.Start invariant-loop decreases-loop
+abbrev start : tie.At-loop-limit invariant-loop decreases-loop → tie.Start invariant-loop decreases-loop
 start c = c
 
 -- the elements of the blocks' list and of the gaps are numbers of 32 bits
-blocks-fit : (c : tie.At-loop invariant-loop decreases-loop) (i : ℕ) → get_or (start c).args.blocks.now i 0 < 2 ^ 32
+blocks-fit : (c : tie.At-loop-limit invariant-loop decreases-loop) (i : ℕ) → get_or (start c).args.blocks.now i 0 < 2 ^ 32
 blocks-fit c i = omega (arith, c.shared_slice_known-4-1.given i)
 
-gaps-fit : (c : tie.At-loop invariant-loop decreases-loop) (i : ℕ) → get_or (start c).args.gap.now i 0 < 2 ^ 32
+gaps-fit : (c : tie.At-loop-limit invariant-loop decreases-loop) (i : ℕ) → get_or (start c).args.gap.now i 0 < 2 ^ 32
 gaps-fit c i = omega (arith, c.shared_slice_known-2-1.given i)
 
 loop-holds : tie.Need-loop-limit-init invariant-loop decreases-loop

@@ -31,7 +31,7 @@ cell-inside c =
     let v = a.loop-h in
     let k = c.loop-h-test.true in
     let near = rw c.larger.ensures at c.smaller-place.ensures in
-    let below = (smaller-below (larger (get_or s.args.turn.now v.h 0) (get_or s.args.t3 v.h 0)) (get_or s.args.t4 v.h 0)).1 in
+    let below = (smaller-below (larger (get_or s.args.turn.now v.h 0) (get_or s.args.to v.h 0)) (get_or s.args.t4 v.h 0)).1 in
     place_inside s.args.gap.now v.h c.smaller-place.result s.requires.0 k (omega (arith, s.requires.2 v.h k))
 
 loop-holds : tie.Need-loop-h-init invariant-loop decreases-loop

@@ -17,12 +17,12 @@ abbrev decreases-loop : tie.decreases-loop-h
 decreases-loop unit-prices places width prices₀ h₀ prices h = hour_places - h
 
 -- the two cells of an hour are within the table
-cells-inside : (a : tie.At-loop invariant-loop decreases-loop) → a.loop-h.h < hour_places → let g = a.args in
+cells-inside : (a : tie.At-loop-h invariant-loop decreases-loop) → a.loop-h.h < hour_places → let g = a.args in
     (a.loop-h.h * row_width g.unit-prices.now + get_or g.t2 a.loop-h.h 0 + 1 < length g.unit-prices.now)
     × (length g.unit-prices.now < hour_places * (last_place + 3))
 cells-inside a k =
     let s = a in
-    place_inside s.args.unit-prices.now a.loop-h.h (get_or s.args.t2 a.loop-h.h 0) s.requires.0 k (s.requires.2 a.loop-h.h)
+    place_inside s.args.unit_prices.now a.loop-h.h (get_or s.args.t2 a.loop-h.h 0) s.requires.0 k (s.requires.2 a.loop-h.h)
 
 loop-holds : tie.Need-loop-h-init invariant-loop decreases-loop
 loop-holds c = prices-start middle _ _
@@ -60,7 +60,7 @@ shared-slice-read-prices-2 c = omega (arith, cells-inside c c.loop-h-test.true)
 add-prices-2 : tie.Need-overflow_add-prices-in-loop-h invariant-loop decreases-loop
 add-prices-2 c =
     let a = c in
-    let at = a.loop-h.h * row_width a.args.unit-prices.now + get_or a.args.t2 a.loop-h.h 0 in
+    let at = a.loop-h.h * row_width a.args.unit_prices.now + get_or a.args.t2 a.loop-h.h 0 in
     omega (arith, a.requires.1 at, a.requires.1 (at + 1))
 
 mul-prices-3 : tie.Need-offset_bounds-prices-h invariant-loop decreases-loop

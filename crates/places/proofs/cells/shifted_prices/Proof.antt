@@ -17,12 +17,12 @@ abbrev decreases-loop : tie.decreases-loop-h
 decreases-loop unit-prices t places width prices₀ h₀ prices h = hour_places - h
 
 -- the two cells of an hour are within the table
-cells-inside : (a : tie.At-loop invariant-loop decreases-loop) → a.loop-h.h < hour_places → let g = a.args in
+cells-inside : (a : tie.At-loop-h invariant-loop decreases-loop) → a.loop-h.h < hour_places → let g = a.args in
     (a.loop-h.h * row_width g.unit-prices.now + get_or g.t2 a.loop-h.h 0 + 1 < length g.unit-prices.now)
     × (length g.unit-prices.now < hour_places * (last_place + 3))
 cells-inside a k =
     let s = a in
-    place_inside s.args.unit-prices.now a.loop-h.h (get_or s.args.t2 a.loop-h.h 0) s.requires.0 k (s.requires.2 a.loop-h.h)
+    place_inside s.args.unit_prices.now a.loop-h.h (get_or s.args.t a.loop-h.h 0) s.requires.0 k (s.requires.2 a.loop-h.h)
 
 loop-holds : tie.Need-loop-h-init invariant-loop decreases-loop
 loop-holds c = prices-start _ _ _

@@ -46,7 +46,7 @@ loop-again : tie.Need-loop-i-preserved invariant-loop decreases-loop
 loop-again c =
     let v = c.loop-i in
     let s = c in
-    let moves = rw c.is_out.ensures at c.before.before.before.Moves-of.ensures in
+    let moves = rw c.is_out.ensures at c.moves_of-moves.ensures in
     rest-next _ _ _ _ _ _ _ _ _ _ _ _ v.invariant c.loop-i-test.true (s.requires.0.rows_fit (v.i - 1))
     (rw (moves.0, moves.1) at c.with_moves-more.ensures)
 

@@ -21,7 +21,7 @@ loop-holds c = (omega arith, omega arith)
 mul-row : tie.Need-overflow_mul-row invariant-loop decreases-loop
 mul-row c =
     let s = c in
-    let row = row-held s.args.unit-prices.now c.loop-h.h s.requires.tables.0 c.loop-h-test.true in
+    let row = row-held s.args.unit_prices.now c.loop-h.h s.requires.tables.0 c.loop-h-test.true in
     omega (arith, row.inside, row.table_fits)
 
 mul-from : tie.Need-offset_bounds-off-h invariant-loop decreases-loop
@@ -44,7 +44,7 @@ gap-up-requires c κs =
     let v = c.loop-h in
     let s = c in
     let rows = s.requires.tables.0 in
-    (row-held s.args.unit-prices.now v.h rows c.loop-h-test.true, s.requires.tables.1, omega (arith, rows.0, s.requires.tables.2 v.h))
+    (row-held s.args.unit_prices.now v.h rows c.loop-h-test.true, s.requires.tables.1, omega (arith, rows.0, s.requires.tables.2 v.h))
 
 mul-gap-down : tie.Need-offset_bounds-prices-h-in-loop-h invariant-loop decreases-loop
 mul-gap-down c = search rules
@@ -57,7 +57,7 @@ gap-down-requires c κs =
     let v = c.loop-h in
     let s = c in
     let rows = s.requires.tables.0 in
-    let row = row-held s.args.unit-prices.now v.h rows c.loop-h-test.true in
+    let row = row-held s.args.unit_prices.now v.h rows c.loop-h-test.true in
     let off = s.requires.tables.2 v.h in
     (omega (arith, row.inside, rows.0, off), row.table_fits, omega (arith, rows.1, off), s.requires.prices.0 v.h)
 

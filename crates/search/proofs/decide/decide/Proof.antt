@@ -40,7 +40,7 @@ abbrev priced : tie.After-keeps_limits → tie.After-prices_at-middles
 priced c = (counting c).before
 
 -- an array of 24
-size : (s : tie.Start) → length s.args.node.places-1 ≡ hour_places
+size : (s : tie.Start) → length s.args.node.places ≡ hour_places
 size s = search rules
 
 -- a number that is not 0
@@ -97,7 +97,7 @@ prices-at-requires c κs =
     let s = start g in (
       s.pre.0.price_rows,
       s.pre.0.prices_fit,
-      places-small _ (clears_first s.args.hours.now) (clears_last s.args.hours.now) s.args.node.places-1
+      places-small _ (clears_first s.args.hours.now) (clears_last s.args.hours.now) s.args.node.places
           (g.counted_gaps-gaps.ensures.in_range (not-false _ (clear c).if-not-gaps.false)) s.pre.0.last_in_prices (size s),
     )
 
@@ -163,7 +163,7 @@ decide-at-shift-requires c κs =
       record {
         rows = s.pre.0.price_rows;
         prices_fit = s.pre.0.prices_fit;
-        places_fit = places-small _ (clears_first s.args.hours.now) (clears_last s.args.hours.now) s.args.node.places-1
+        places_fit = places-small _ (clears_first s.args.hours.now) (clears_last s.args.hours.now) s.args.node.places
             (g.counted_gaps-gaps.ensures.in_range (not-false _ (clear less).if-not-gaps.left)) s.pre.0.last_in_prices (size s);
         columns = s.pre.0.blocks_fit.columns;
         count_fits = s.pre.0.few;

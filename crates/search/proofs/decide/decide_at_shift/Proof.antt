@@ -14,7 +14,7 @@ shift-of-requires c κs = search rules
 returns : tie.Need-returns-then-shift-gt-LAST_SHIFT
 returns c =
     let s = c in
-    record { kept = kept_same 0 _ s.requires.6; decided = λ gaps. shift-missing c.before.Shift-of.ensures c.if-shift-gt-LAST_SHIFT.true }
+    record { kept = kept_same 0 _ s.requires.6; decided = λ gaps. shift-missing c.shift_of-shift.ensures c.if-shift-gt-LAST_SHIFT.true }
 
 shifted-prices-requires : tie.Need-shifted_prices-shifted-requires
 shifted-prices-requires c κs = search rules
@@ -26,7 +26,7 @@ returns-2 : tie.Need-returns
 returns-2 c =
     let else = c in
     let s = else in
-    let found = c.found_at.ensures in record { kept = kept-found _ _ _ _ found.limit_is found.tie_is found.fuel_is s.requires.5 s.requires.7; decided = λ gaps. shift-found else.before.Shift-of.ensures else.if-shift-gt-LAST_SHIFT.false c.shifted_prices-shifted.ensures found s.requires.5 s.requires.7 }
+    let found = c.found_at.ensures in record { kept = kept-found _ _ _ _ found.limit_is found.tie_is found.fuel_is s.requires.5 s.requires.7; decided = λ gaps. shift-found else.shift_of-shift.ensures else.if-shift-gt-LAST_SHIFT.false c.shifted_prices-shifted.ensures found s.requires.5 s.requires.7 }
 
 pub decide_at_shift_spec : {M : Type 1} → statement M
 decide_at_shift_spec =

@@ -87,13 +87,13 @@ free : (t : ℕ) (c : explore-lts.Else-is_out-is_barred (claims-explore t) (expl
     (first t (left t c)).args.node.set ≡ false
 free t c = sym c.is_barred.ensures ∙ (neither c.is_out.result c.is_barred.result c.if-is_out-is_barred.false).1
 
-explore-limit-at-requires : (t : ℕ) → explore-lts.Need-limit-at-requires (claims-explore t) (explore-at t) explore.Post
+explore-limit-at-requires : (t : ℕ) → explore-lts.Need-limit_at-limit-requires (claims-explore t) (explore-at t) explore.Post
 explore-limit-at-requires t c κs = search rules
 
-explore-judge-requires : (t : ℕ) → explore-lts.Need-judge-requires (claims-explore t) (explore-at t) explore.Post
+explore-judge-requires : (t : ℕ) → explore-lts.Need-judge-judged-requires (claims-explore t) (explore-at t) explore.Post
 explore-judge-requires t c κs = search rules
 
-explore-returns : (t : ℕ) → explore-lts.Need-returns (claims-explore t) (explore-at t) explore.Post
+explore-returns : (t : ℕ) → explore-lts.Need-returns-then-judged (claims-explore t) (explore-at t) explore.Post
 explore-returns t c =
     let j = c.before in
     let held = (start t j).requires.1.6 in
@@ -104,20 +104,20 @@ explore-decide-requires t c κs =
     let p = (start t c.before.before).pre.1 in
     (p.0, p.1, p.2, p.3, omega (arith, p.0.few, p.5.loss_fits), omega (arith, p.0.few, p.5.tie_fits), p.6)
 
-explore-returns-2 : (t : ℕ) → explore-lts.Need-returns-2 (claims-explore t) (explore-at t) explore.Post
+explore-returns-2 : (t : ℕ) → explore-lts.Need-returns-then-left-eq0 (claims-explore t) (explore-at t) explore.Post
 explore-returns-2 t c =
     let none = c.before in
     let s = start t none.before.before in
     let e : s.args.count - s.args.left ≡ s.args.count = omega (arith, none.if-left-eq0.true) in
     (rw none.if-left-eq0.true c.decide.ensures.kept, explored-decided none.if-left-eq0.true (rw e at s.pre.1.5.set_fits) c.decide.ensures.decided)
 
-explore-is-rivalled-requires : (t : ℕ) → explore-lts.Need-is-rivalled-requires (claims-explore t) (explore-at t) explore.Post
+explore-is-rivalled-requires : (t : ℕ) → explore-lts.Need-is_rivalled-requires (claims-explore t) (explore-at t) explore.Post
 explore-is-rivalled-requires t c κs = search rules
 
-explore-same-length : (t : ℕ) → explore-lts.Need-same-length (claims-explore t) (explore-at t) explore.Post
+explore-same-length : (t : ℕ) → explore-lts.Need-shape_of-table-then-is_rivalled (claims-explore t) (explore-at t) explore.Post
 explore-same-length t c = search rules
 
-explore-returns-3 : (t : ℕ) → explore-lts.Need-returns-3 (claims-explore t) (explore-at t) explore.Post
+explore-returns-3 : (t : ℕ) → explore-lts.Need-returns-then-is_rivalled (claims-explore t) (explore-at t) explore.Post
 explore-returns-3 t c =
     let else = c.before.before.before.before.before in
     let j = else.before.before in (
@@ -126,25 +126,25 @@ explore-returns-3 t c =
           (explored-rivalled (c.is_rivalled.ensures c.if-is_rivalled.true _ refl refl)),
     )
 
-explore-sub-at : (t : ℕ) → explore-lts.Need-overflow-sub-at (claims-explore t) (explore-at t) explore.Post
+explore-sub-at : (t : ℕ) → explore-lts.Need-overflow_sub-at (claims-explore t) (explore-at t) explore.Post
 explore-sub-at t c = search rules
 
-explore-sub-after : (t : ℕ) → explore-lts.Need-overflow-sub-after (claims-explore t) (explore-at t) explore.Post
+explore-sub-after : (t : ℕ) → explore-lts.Need-overflow_sub-after (claims-explore t) (explore-at t) explore.Post
 explore-sub-after t c = search rules
 
-explore-leave-requires : (t : ℕ) → explore-lts.Need-leave-requires (claims-explore t) (explore-at t) explore.Post
+explore-leave-requires : (t : ℕ) → explore-lts.Need-leave-without-requires (claims-explore t) (explore-at t) explore.Post
 explore-leave-requires t c κs =
     let none = c.before in
     let s = start t (judged t none) in
     (s.pre.1.0.blocks_fit, omega (arith, s.pre.1.0.few, s.pre.1.4, some_left t none), s.pre.1.5)
 
-explore-is-out-requires : (t : ℕ) → explore-lts.Need-is-out-requires (claims-explore t) (explore-at t) explore.Post
+explore-is-out-requires : (t : ℕ) → explore-lts.Need-is_out-requires (claims-explore t) (explore-at t) explore.Post
 explore-is-out-requires t c κs = search rules
 
-explore-cast-is-barred : (t : ℕ) → explore-lts.Need-overflow-cast-is-barred (claims-explore t) (explore-at t) explore.Post
+explore-cast-is-barred : (t : ℕ) → explore-lts.Need-overflow_cast-at (claims-explore t) (explore-at t) explore.Post
 explore-cast-is-barred t c = let s = first t c.before in omega (arith, s.pre.1.0.few)
 
-explore-is-barred-requires : (t : ℕ) → explore-lts.Need-is-barred-requires (claims-explore t) (explore-at t) explore.Post
+explore-is-barred-requires : (t : ℕ) → explore-lts.Need-is_barred-requires (claims-explore t) (explore-at t) explore.Post
 explore-is-barred-requires t c κs =
     let l = c.before in
     let s = first t l in
@@ -158,10 +158,10 @@ explore-explore-requires t c κs =
     let some = some_left t (unrivalled t l) in
     (omega (arith, s.pre.0), (p.0, p.1, p.2, p.3, omega (arith, p.4), rw (one_more t l) at l.leave-without.ensures.0, p.6))
 
-explore-same-length-2 : (t : ℕ) → explore-lts.Need-same-length-2 (claims-explore t) (explore-at t) explore.Post
+explore-same-length-2 : (t : ℕ) → explore-lts.Need-shape_of-table-then-is_out-is_barred (claims-explore t) (explore-at t) explore.Post
 explore-same-length-2 t c = search rules
 
-explore-returns-4 : (t : ℕ) → explore-lts.Need-returns-4 (claims-explore t) (explore-at t) explore.Post
+explore-returns-4 : (t : ℕ) → explore-lts.Need-returns-then-is_out-is_barred (claims-explore t) (explore-at t) explore.Post
 explore-returns-4 t c =
     let called = c.before.before in
     let only = called.before.before in
@@ -176,13 +176,13 @@ explore-returns-4 t c =
           (rw (only.is_out.ensures, only.is_barred.ensures) at only.if-is_out-is_barred.true) l.leave-without.ensures.1 called.explore.ensures.explored),
     )
 
-explore-take-requires : (t : ℕ) → explore-lts.Need-take-requires (claims-explore t) (explore-at t) explore.Post
+explore-take-requires : (t : ℕ) → explore-lts.Need-take-with-requires (claims-explore t) (explore-at t) explore.Post
 explore-take-requires t c κs =
     let l = left t c in
     let s = first t l in
     (s.pre.1.0.blocks_fit, omega (arith, s.pre.1.0.few, s.pre.1.4, some_left t (unrivalled t l)), s.pre.1.5)
 
-explore-explore-requires-2 : (t : ℕ) → explore-lts.Need-explore-requires-2 (claims-explore t) (explore-at t) explore.Post
+explore-explore-requires-2 : (t : ℕ) → explore-lts.Need-explore-taken-requires (claims-explore t) (explore-at t) explore.Post
 explore-explore-requires-2 t c κs =
     let took = c.before in
     let l = left t took.before in
@@ -191,13 +191,13 @@ explore-explore-requires-2 t c κs =
     let some = some_left t (unrivalled t l) in
     (omega (arith, s.pre.0), (p.0, p.1, p.2, p.3, omega (arith, p.4), rw (one_more t l) at took.take-with.ensures.0, p.6))
 
-explore-same-length-3 : (t : ℕ) → explore-lts.Need-same-length-3 (claims-explore t) (explore-at t) explore.Post
+explore-same-length-3 : (t : ℕ) → explore-lts.Need-shape_of-table-then-taken-eq0 (claims-explore t) (explore-at t) explore.Post
 explore-same-length-3 t c =
     let called = c.before.before.before.before in
     let none = unrivalled t (left t called.before.before.before) in
     called.explore-taken.auto.1.1.1.1.1.1.1.1.0 ∙ none.is_rivalled.kept.1.0
 
-explore-returns-5 : (t : ℕ) → explore-lts.Need-returns-5 (claims-explore t) (explore-at t) explore.Post
+explore-returns-5 : (t : ℕ) → explore-lts.Need-returns-then-taken-eq0 (claims-explore t) (explore-at t) explore.Post
 explore-returns-5 t c =
     let called = c.before.before.before.before in
     let took = called.before.before in
@@ -212,22 +212,22 @@ explore-returns-5 t c =
           called.explore-taken.ensures.explored),
     )
 
-explore-cast-is-due : (t : ℕ) → explore-lts.Need-overflow-cast-is-due (claims-explore t) (explore-at t) explore.Post
+explore-cast-is-due : (t : ℕ) → explore-lts.Need-overflow_cast-at-2 (claims-explore t) (explore-at t) explore.Post
 explore-cast-is-due t c = let s = first t (left t c.before.before.before.before.before.before.before) in omega (arith, s.pre.1.0.few)
 
-explore-is-due-requires : (t : ℕ) → explore-lts.Need-is-due-requires (claims-explore t) (explore-at t) explore.Post
+explore-is-due-requires : (t : ℕ) → explore-lts.Need-is_due-requires (claims-explore t) (explore-at t) explore.Post
 explore-is-due-requires t c κs =
     let l = left t c.before.before.before.before.before.before.before in
     let s = first t l in
     (s.pre.1.0.blocks_fit, omega (arith, s.pre.1.0.few, s.pre.1.4, some_left t (unrivalled t l)))
 
-explore-same-length-4 : (t : ℕ) → explore-lts.Need-same-length-4 (claims-explore t) (explore-at t) explore.Post
+explore-same-length-4 : (t : ℕ) → explore-lts.Need-shape_of-table-then-is_due (claims-explore t) (explore-at t) explore.Post
 explore-same-length-4 t c =
     let called = c.before.before.before.before.before.before in
     let none = unrivalled t (left t called.before.before.before) in
     called.explore-taken.auto.1.1.1.1.1.1.1.1.0 ∙ none.is_rivalled.kept.1.0
 
-explore-returns-6 : (t : ℕ) → explore-lts.Need-returns-6 (claims-explore t) (explore-at t) explore.Post
+explore-returns-6 : (t : ℕ) → explore-lts.Need-returns-then-is_due (claims-explore t) (explore-at t) explore.Post
 explore-returns-6 t c =
     let called = c.before.before.before.before.before.before in
     let took = called.before.before in
@@ -242,10 +242,10 @@ explore-returns-6 t c =
           (sym c.is_due.ensures ∙ c.if-is_due.true) took.take-with.ensures.1 called.explore-taken.ensures.explored),
     )
 
-explore-sub-taken : (t : ℕ) → explore-lts.Need-overflow-sub-taken (claims-explore t) (explore-at t) explore.Post
+explore-sub-taken : (t : ℕ) → explore-lts.Need-overflow_sub-taken (claims-explore t) (explore-at t) explore.Post
 explore-sub-taken t c = search rules
 
-explore-explore-requires-3 : (t : ℕ) → explore-lts.Need-explore-requires-3 (claims-explore t) (explore-at t) explore.Post
+explore-explore-requires-3 : (t : ℕ) → explore-lts.Need-explore-requires-2 (claims-explore t) (explore-at t) explore.Post
 explore-explore-requires-3 t c κs =
     let called = c.before.before.before.before.before.before.before.before in
     let took = called.before.before in
@@ -257,14 +257,14 @@ explore-explore-requires-3 t c κs =
       (p.0, p.1, p.2, p.3, omega (arith, p.4), rw (one_more t l) at l.leave-without.ensures.0, held-spent _ _ _ p.6 called.explore-taken.ensures.kept),
     )
 
-explore-same-length-5 : (t : ℕ) → explore-lts.Need-same-length-5 (claims-explore t) (explore-at t) explore.Post
+explore-same-length-5 : (t : ℕ) → explore-lts.Need-shape_of-table (claims-explore t) (explore-at t) explore.Post
 explore-same-length-5 t c =
     let last = c.before.before in
     let called = last.before.before.before.before.before.before.before.before.before in
     let none = unrivalled t (left t called.before.before.before) in
     last.explore-2.auto.1.1.1.1.1.1.1.1.0 ∙ called.explore-taken.auto.1.1.1.1.1.1.1.1.0 ∙ none.is_rivalled.kept.1.0
 
-explore-returns-7 : (t : ℕ) → explore-lts.Need-returns-7 (claims-explore t) (explore-at t) explore.Post
+explore-returns-7 : (t : ℕ) → explore-lts.Need-returns (claims-explore t) (explore-at t) explore.Post
 explore-returns-7 t c =
     let last = c.before.before in
     let else = last.before.before.before.before.before in

@@ -20,8 +20,8 @@ abbrev decreases-loop : tie.decreases-loop-h
 decreases-loop sides prices quantities unit_prices gap₀ ends off most root width first₀ last₀ turn₀ h₀ gap first last turn h = hour_places - h
 
 -- the row of an hour has room in the tables
-room : (a : tie.At-loop invariant-loop decreases-loop) → a.loop-h.h < hour_places → let s = a in
-    a.loop-h.h * row_width s.args.gap.now + row_places (get_or s.args.t6 a.loop-h.h 0) ≤ length s.args.gap.now
+room : (a : tie.At-loop-h invariant-loop decreases-loop) → a.loop-h.h < hour_places → let s = a in
+    a.loop-h.h * row_width s.args.gap.now + row_places (get_or s.args.root a.loop-h.h 0) ≤ length s.args.gap.now
 room a k =
     let s = a in
     row_fits s.args.gap.now a.loop-h.h _ k (s.requires.held.4 a.loop-h.h k)
@@ -120,10 +120,10 @@ fill-hour-requires c κs =
     let k = c.loop-h-test.true in
     let q = s.requires.held in
     let t = s.requires.within.1 in
-    let table = s.args.unit-prices.now in
+    let table = s.args.unit_prices.now in
     let w = row_width s.args.gap.now in
-    let in_gap : v.h * w + row_places (get_or s.args.t6 v.h 0) ≤ length v.gap-1 = omega (arith, room a k, v.invariant.size) in
-    let in_prices : v.h * w + row_places (get_or s.args.t6 v.h 0) ≤ length table = omega (arith, room a k, t.0) in record { held = (part_held _ _ _ _ q.0 v.h k, s.requires.within.0 v.h k, q.1 v.h, q.2 v.h, part_length w v.gap-1 v.h _ in_gap); table = (part_length w table v.h _ in_prices, rw (part-row w table v.h _) (t.1 v.h k)) }
+    let in_gap : v.h * w + row_places (get_or s.args.root v.h 0) ≤ length v.gap = omega (arith, room a k, v.invariant.size) in
+    let in_prices : v.h * w + row_places (get_or s.args.root v.h 0) ≤ length table = omega (arith, room a k, t.0) in record { held = (part_held _ _ _ _ q.0 v.h k, s.requires.within.0 v.h k, q.1 v.h, q.2 v.h, part_length w v.gap v.h _ in_gap); table = (part_length w table v.h _ in_prices, rw (part-row w table v.h _) (t.1 v.h k)) }
 
 cast-first : tie.Need-overflow_cast-first invariant-loop decreases-loop
 cast-first c =
@@ -177,10 +177,10 @@ loop-again c =
     let k = after-loop-test.loop-h-test.true in
     let f = after-fill-hour.fill_hour-range in
     let w = row_width start.args.gap.now in
-    let in_gap : v.h * w + row_places (get_or start.args.t6 v.h 0) ≤ length v.gap-1 = omega (arith, room after-loop k, v.invariant.size) in
+    let in_gap : v.h * w + row_places (get_or start.args.root v.h 0) ≤ length v.gap = omega (arith, room after-loop k, v.invariant.size) in
     ranges-next _ _ _ _ _ _ _ _ _ start.requires.held.4 _ _ _ _ _ v.h _ _ _ _ v.invariant k
-    (f.auto.1.1.1.1.1.1.1.1.1.0 ∙ part_length w v.gap-1 v.h _ in_gap) (row-wide w v.h _)
-    f.ensures.0.1 (rw (part-row w start.args.unit-prices.now v.h _) at f.ensures.1)
+    (f.auto.1.1.1.1.1.1.1.1.1.0 ∙ part_length w v.gap v.h _ in_gap) (row-wide w v.h _)
+    f.ensures.0.1 (rw (part-row w start.args.unit_prices.now v.h _) at f.ensures.1)
 
 same_length : tie.Need-shape_of-gap invariant-loop decreases-loop
 same_length c = c.loop-h.invariant.size

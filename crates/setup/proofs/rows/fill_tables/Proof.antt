@@ -19,11 +19,11 @@ abbrev decreases-loop : tie.decreases-loop-h
 decreases-loop sides prices quantities unitPrices₀ ends off most width h₀ unit_prices h = hour_places - h
 
 -- the row of an hour has room in the table
-room : (a : tie.At-loop invariant-loop decreases-loop) → a.loop-h.h < hour_places → let s = a in
-    a.loop-h.h * row_width s.args.unit-prices.now + row_places (get_or s.args.t6 a.loop-h.h 0) ≤ length s.args.unit-prices.now
+room : (a : tie.At-loop-h invariant-loop decreases-loop) → a.loop-h.h < hour_places → let s = a in
+    a.loop-h.h * row_width s.args.unit_prices.now + row_places (get_or s.args.unit_prices a.loop-h.h 0) ≤ length s.args.unit_prices.now
 room a k =
     let s = a in
-    row_fits s.args.unit-prices.now a.loop-h.h _ k (s.requires.table.1 a.loop-h.h k)
+    row_fits s.args.unit_prices.now a.loop-h.h _ k (s.requires.table.1 a.loop-h.h k)
 
 loop-holds : tie.Need-loop-h-init invariant-loop decreases-loop
 loop-holds c = rows_start _ _ _ _ _ _ _ c.requires.table.2
@@ -93,9 +93,9 @@ fill-row-requires c κs =
     let k = c.loop-h-test.true in
     let q = s.requires.steps in
     let most = q.2 v.h in
-    let here : v.h * row_width s.args.unit-prices.now + row_places (get_or s.args.t6 v.h 0) ≤ length v.unit_prices-1 =
+    let here : v.h * row_width s.args.unit_prices.now + row_places (get_or s.args.unit_prices v.h 0) ≤ length v.unit-prices =
     omega (arith, room a k, v.invariant.size) in
-    (part_held _ _ _ _ q.0 v.h k, q.1 v.h, omega (arith, part_length (row_width s.args.unit-prices.now) v.unit_prices-1 v.h _ here, most))
+    (part_held _ _ _ _ q.0 v.h k, q.1 v.h, omega (arith, part_length (row_width s.args.unit_prices.now) v.unit-prices v.h _ here, most))
 
 add-h : tie.Need-overflow_add-h-in-loop-h invariant-loop decreases-loop
 add-h c = search rules
@@ -110,10 +110,10 @@ loop-again c =
     let s = a in
     let k = c.loop-h-test.true in
     let f = c.fill_row in
-    let here : v.h * row_width s.args.unit-prices.now + row_places (get_or s.args.t6 v.h 0) ≤ length v.unit_prices-1 =
+    let here : v.h * row_width s.args.unit_prices.now + row_places (get_or s.args.unit_prices v.h 0) ≤ length v.unit-prices =
     omega (arith, room a k, v.invariant.size) in
     rows_next _ _ _ _ _ _ _ s.requires.table.1 _ f.new.1.1.1.1.1.1.0 _ _ v.invariant k
-    (f.auto.1.1.1.1.1.1.0 ∙ part_length (row_width s.args.unit-prices.now) v.unit_prices-1 v.h _ here) (row-wide _ v.h _) f.ensures
+    (f.auto.1.1.1.1.1.1.0 ∙ part_length (row_width s.args.unit_prices.now) v.unit-prices v.h _ here) (row-wide _ v.h _) f.ensures
 
 same_length : tie.Need-shape_of-unit_prices invariant-loop decreases-loop
 same_length c = c.loop-h.invariant.size

@@ -8,13 +8,13 @@ use Rattle.shares.proofs.leftover.rest_of.Statement.{statement}
 use Rattle.shares.proofs.leftover.rest_of.Tie as tie
 
 mul-result : tie.Need-overflow_mul-result
-mul-result c = omega (arith, product-fits c.args.own_val c.args.amount (omega arith) (omega arith))
+mul-result c = omega (arith, product-fits c.args.own c.args.amount (omega arith) (omega arith))
 
 rem-result : tie.Need-nonzero_rem-result
 rem-result c = search rules
 
 cast-result : tie.Need-overflow_cast-result-2
-cast-result c = omega (arith, mod-lt (c.args.own_val * c.args.amount) c.requires.1)
+cast-result c = omega (arith, mod-lt (c.args.own * c.args.amount) c.requires.1)
 
 returns : tie.Need-returns
 returns c = search rules
