@@ -63,13 +63,12 @@ returns-2 c =
     )
 
 prices-at-requires : tie.Need-prices_at-middles-requires
-prices-at-requires c κs =
-    (
-      c.requires.0.price_rows,
-      c.requires.0.prices_fit,
-      places-small _ (clears_first c.args.hours.now) (clears_last c.args.hours.now) c.args.node.places
-          (c.counted_gaps-gaps.ensures.in_range (not-false _ c.if-not-gaps.false)) c.requires.0.last_in_prices (search rules),
-    )
+prices-at-requires c κs = (
+  c.requires.0.price_rows,
+  c.requires.0.prices_fit,
+  places-small _ (clears_first c.args.hours.now) (clears_last c.args.hours.now) c.args.node.places
+      (c.counted_gaps-gaps.ensures.in_range (not-false _ c.if-not-gaps.false)) c.requires.0.last_in_prices (search rules),
+)
 
 counted-prices-requires : tie.Need-counted_prices-counted-requires
 counted-prices-requires c κs = (c.prices_at-middles.ensures.small, c.requires.0.change_few)
@@ -102,34 +101,32 @@ shared-slice-read-if4 : tie.Need-bounds-hours-73
 shared-slice-read-if4 c = omega (arith, c.requires.1)
 
 returns-4 : tie.Need-returns-then-hours-eq0
-returns-4 c =
-    (
-      kept_same 0 _ c.requires.6,
-      decided-broken c.counted_gaps-gaps.ensures (not-false _ c.if-not-gaps.false) c.prices_at-middles.ensures
-          (rw c.counted_prices-counted.ensures.0 at (sym c.keeps_limits.ensures ∙ c.if-keeps_limits.false))
-          (rw c.if-hours-eq0.true refl),
-    )
+returns-4 c = (
+  kept_same 0 _ c.requires.6,
+  decided-broken c.counted_gaps-gaps.ensures (not-false _ c.if-not-gaps.false) c.prices_at-middles.ensures
+      (rw c.counted_prices-counted.ensures.0 at (sym c.keeps_limits.ensures ∙ c.if-keeps_limits.false))
+      (rw c.if-hours-eq0.true refl),
+)
 
 decide-at-shift-requires : tie.Need-decide_at_shift-requires
-decide-at-shift-requires c κs =
-    (
-      record {
-        rows = c.requires.0.price_rows;
-        prices_fit = c.requires.0.prices_fit;
-        places_fit = places-small _ (clears_first c.args.hours.now) (clears_last c.args.hours.now) c.args.node.places
-            (c.counted_gaps-gaps.ensures.in_range (not-false _ c.if-not-gaps.false)) c.requires.0.last_in_prices (search rules);
-        columns = c.requires.0.blocks_fit.columns;
-        count_fits = c.requires.0.few;
-        often_fits = c.requires.0.change_few;
-      },
-      c.requires.1,
-      c.requires.0.blocks_fit,
-      c.requires.2,
-      c.requires.3,
-      c.requires.5,
-      c.requires.6,
-      rw c.limit_at.ensures at c.if-limit_at-total.false,
-    )
+decide-at-shift-requires c κs = (
+  record {
+    rows = c.requires.0.price_rows;
+    prices_fit = c.requires.0.prices_fit;
+    places_fit = places-small _ (clears_first c.args.hours.now) (clears_last c.args.hours.now) c.args.node.places
+        (c.counted_gaps-gaps.ensures.in_range (not-false _ c.if-not-gaps.false)) c.requires.0.last_in_prices (search rules);
+    columns = c.requires.0.blocks_fit.columns;
+    count_fits = c.requires.0.few;
+    often_fits = c.requires.0.change_few;
+  },
+  c.requires.1,
+  c.requires.0.blocks_fit,
+  c.requires.2,
+  c.requires.3,
+  c.requires.5,
+  c.requires.6,
+  rw c.limit_at.ensures at c.if-limit_at-total.false,
+)
 
 returns-5 : tie.Need-returns
 returns-5 c =
