@@ -1,11 +1,8 @@
 -- `branches::judge::judge` meets its contract: one law for each reason to drop a branch, and one for what is out of it. Assumes nothing.
-use Prim.Native.Nat.{◌+◌, ◌≤◌}
-use mathlib.Core.Path.{◌≡◌, sym, ◌∙◌}
-use lib.ListN.{length, length-take, length-drop}
+use mathlib.Core.Path.{sym, ◌∙◌}
+use lib.ListN.{length-take, length-drop}
 use native.Mathlib.Omega.{arith}
 use borrow.Author.Tests.{not-true, not-false}
-use Rattle.places.specs.Layout.{hour_places, most_charged}
-use Rattle.places.specs.Hours.{gaps_turn}
 use Rattle.branches.proofs.DropLaws.{dropped-by-loss, dropped-unbalanced, dropped-by-gaps, dropped-by-limit, judged-dropped, judged-as-it-was, judged-open}
 use Rattle.places.proofs.ReachLaws.{to-fits, to-small, from-small}
 use borrow.Author.Rules.{rules}

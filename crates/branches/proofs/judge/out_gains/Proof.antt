@@ -1,9 +1,8 @@
 -- `branches::judge::out_gains` meets its contract: none is out, or what the blocks up to number i would gain, of them that are. Assumes nothing.
-use Prim.Native.Nat.{◌+◌, ◌-◌, ◌^◌, ◌<◌}
+use Prim.Native.Nat.{◌+◌, ◌-◌}
 use mathlib.Core.Path.{refl, sym}
 use native.Mathlib.Omega.{arith}
 use Rattle.places.specs.Layout.{gain_column}
-use Rattle.places.specs.Blocks.{gain_at}
 use Rattle.branches.proofs.DecisionLaws.{GainsTo, gains-none, gains-start, gains-next, gains-all}
 use borrow.Author.Rules.{rules}
 use Rattle.branches.proofs.judge.out_gains.Statement.{statement}

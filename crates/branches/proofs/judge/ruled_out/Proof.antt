@@ -1,11 +1,8 @@
 -- `branches::judge::ruled_out` meets its contract: the bits of the blocks up to number i, a parent's before its children's, and what they would gain. Assumes
 -- nothing.
-use Prim.Native.Nat.{◌+◌, ◌-◌, ◌^◌, ◌<◌}
-use mathlib.Core.Bool.{cond}
-use mathlib.Core.Path.{◌≡◌}
+use Prim.Native.Nat.{◌+◌, ◌-◌}
 use native.Mathlib.Omega.{arith}
 use Rattle.places.specs.Layout.{gain_column}
-use Rattle.places.specs.Blocks.{gain_at}
 use Rattle.branches.proofs.DecisionLaws.{RuledTo, ruled-start, ruled-next, ruled-room, ruled-all, gains-all}
 use borrow.Author.Rules.{rules}
 use Rattle.branches.proofs.judge.ruled_out.Statement.{statement}

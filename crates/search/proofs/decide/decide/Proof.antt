@@ -1,15 +1,12 @@
 -- `search::decide::decide` meets its contract: one law for each way out. Assumes nothing.
-use Prim.Native.Nat.{ℕ, ◌+◌, ◌<◌}
+use Prim.Native.Nat.{ℕ}
 use mathlib.Core.Bool.{true, false, not}
 use mathlib.Core.Path.{◌≡◌, refl, sym, ◌∙◌}
 use lib.Dec.{eqb}
-use lib.ListN.{length}
 use native.Mathlib.Omega.{arith}
 use borrow.Author.Tests.{ne_eqb, not-true, not-false}
-use Rattle.places.specs.Layout.{hour_places}
 use Rattle.places.specs.Hours.{clears_first, clears_last}
 use Rattle.places.proofs.CellLaws.{places-small}
-use Rattle.search.specs.Meaning.{limit_at}
 use Rattle.search.proofs.LimitLaws.{kept_same, kept-found}
 use Rattle.search.proofs.DecidedLaws.{decided-unclear, decided-worse, decided-broken, decided-better, decided-at-shift}
 use borrow.Author.Rules.{rules}
