@@ -41,7 +41,7 @@ clear-accepted-requires c κs =
 
 returns : tie.Need-returns-in-Refused
 returns c =
-    let k = c.before in
+    let k = c in
     let e = answer-refused _ _ (sym k.read-reading.ensures ∙ k.in-Refused.is) in
     promise-refused _ _ _ _ (refused-book _ _ _ e.0 e.1) e.1 refl
 

@@ -27,12 +27,12 @@ row-needed-requires c κs = blocks-held _ _ _ _ _ _ _ c.blocks_of-blocks.ensures
 clear-small-requires : tie.Need-clear_small-requires
 clear-small-requires c κs =
     let n = c.before.before in
-    (held n.before, λ h first last. le_trans (n.row_needed.ensures.fits h first last) c.if-row_needed-le-SMALL_ROW.true)
+    (held n.before, λ h first last. le_trans (n.row_needed.ensures.0 h first last) c.if-row_needed-le-SMALL_ROW.true)
 
 clear-large-requires : tie.Need-clear_large-requires
 clear-large-requires c κs =
     let n = c.before.before in
-    (held n.before, λ h first last. le_trans (n.row_needed.ensures.fits h first last) n.row_needed.ensures.narrow)
+    (held n.before, λ h first last. le_trans (n.row_needed.ensures.0 h first last) n.row_needed.ensures.1)
 
 same_length : tie.Need-shape_of-res-then-row_needed-le-SMALL_ROW
 same_length c = search rules

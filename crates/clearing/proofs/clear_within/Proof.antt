@@ -25,7 +25,7 @@ abbrev linked : tie.After-prepare-prepared → tie.After-parents_of-parents
 linked c = c.before.before.before.before.before.before
 
 abbrev prepared : tie.After-find-best → tie.After-prepare-prepared
-prepared c = c.before.before.before.before.before.before.before.before.before.before.before.before.before.before.before.before
+prepared c = c.before.before.before.before.before.before.before.before.before.before.before.before.before.before
 
 -- the lengths of the step columns
 size-sides : (s : tie.Start) → length s.args.steps.sides ≡ 2048
@@ -107,33 +107,33 @@ slice-aggregate-find-2 : tie.Need-slice_bounds-find-end-2
 slice-aggregate-find-2 c = search rules
 
 slice-aggregate-find-3 : tie.Need-slice_bounds-find-end-3
-slice-aggregate-find-3 c = sym (size-sides (start c.before.before.before.before.before.before.before.before.before.before.before))
+slice-aggregate-find-3 c = sym (size-sides (start c.before.before.before.before.before.before.before.before.before))
 
 slice-aggregate-find-4 : tie.Need-slice_bounds-find-end-4
-slice-aggregate-find-4 c = sym (size-prices (start c.before.before.before.before.before.before.before.before.before.before.before.before))
+slice-aggregate-find-4 c = sym (size-prices (start c.before.before.before.before.before.before.before.before.before.before))
 
 slice-aggregate-find-5 : tie.Need-slice_bounds-find-end-5
-slice-aggregate-find-5 c = sym (size-quantities (start c.before.before.before.before.before.before.before.before.before.before.before.before.before))
+slice-aggregate-find-5 c = sym (size-quantities (start c.before.before.before.before.before.before.before.before.before.before.before))
 
 slice-aggregate-find-6 : tie.Need-slice_bounds-find-end-6
-slice-aggregate-find-6 c = sym (size-ends (start c.before.before.before.before.before.before.before.before.before.before.before.before.before.before))
+slice-aggregate-find-6 c = sym (size-ends (start c.before.before.before.before.before.before.before.before.before.before.before.before))
 
 cast-find : tie.Need-overflow_cast-blocks
 cast-find c = search rules
 
 find-requires : tie.Need-find-best-requires
 find-requires c κs =
-    let m = c.before.before.before.before.before.before.before.before.before.before.before.before.before.before.before in
+    let m = c.before.before.before.before.before.before.before.before.before.before.before.before.before in
     let s = start m in
-    (m.prepare-prepared.ensures.sized, hours-size m, size-ends s, steps-in s)
+    (m.prepare-prepared.ensures.0, hours-size m, size-ends s, steps-in s)
 
 publish-requires : tie.Need-publish-requires
 publish-requires c κs =
-    let best = c.before in
+    let best = c.before.before in
     let m = prepared best in
     let s = start m in
     let h = s.requires.0 in
-    let ready = m.prepare-prepared.ensures.ready _ _ h.accepted (edition-is m) (day-is m) h.steps_are h.blocks_are (parents-are m) in
+    let ready = m.prepare-prepared.ensures.1 _ _ h.accepted (edition-is m) (day-is m) h.steps_are h.blocks_are (parents-are m) in
     let steps = columns-steps _ _ _ _ _ _ h.steps_are h.accepted in
     let is = best.find-best.ensures _ ready.p ready.rest steps ready.known ready.turning (links-stand _ h.accepted).numbers in
     let e = m.record_count-count.ensures in
@@ -150,10 +150,10 @@ same-length-3 c = search rules
 
 returns : tie.Need-returns
 returns c =
-    let best = c.before.before.before.before in
+    let best = c.before.before.before.before.before in
     let m = prepared best in
     let h = (start m).requires.0 in
-    let ready = m.prepare-prepared.ensures.ready _ _ h.accepted (edition-is m) (day-is m) h.steps_are h.blocks_are (parents-are m) in
+    let ready = m.prepare-prepared.ensures.1 _ _ h.accepted (edition-is m) (day-is m) h.steps_are h.blocks_are (parents-are m) in
     let steps = columns-steps _ _ _ _ _ _ h.steps_are h.accepted in
     let is = best.find-best.ensures _ ready.p ready.rest steps ready.known ready.turning (links-stand _ h.accepted).numbers in
     let e = m.record_count-count.ensures in
