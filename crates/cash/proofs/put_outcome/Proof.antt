@@ -24,14 +24,14 @@ number_is k =
     let start = k in
     let rows = k.rows_of in
     k.refusal_of-number.ensures
-    ∙ number-told start.args.book.now start.args.space.now rows.result rows.ensures.0 (rows_are _ _ _ k.record_count.ensures rows.ensures.1) start.requires.1 _ _
+    ∙ number-told start.args.book.now start.args.space.now rows.result rows.ensures.0 (rows_are k.before.before.before.before.before.before rows.result rows.ensures.1) start.requires.1 _ _
     k.clear.ensures
 
 accepted-is : (k : tie.After-refusal_of-number) → k.refusal_of-number.result ≡ 0 → Accepted k.args.book.now
 accepted-is k none = accepted _ (sym (number_is k) ∙ none)
 
 rows-read : (k : tie.After-refusal_of-number) → (a : Accepted k.args.book.now) → k.rows_of.result ≡ record_count k.args.book.now
-rows-read k a = rows_are _ _ _ k.record_count.ensures k.rows_of.ensures.1 (record-count _ a).1
+rows-read k a = rows_are k.before.before.before.before.before.before k.rows_of.result k.rows_of.ensures.1 (record-count _ a).1
 
 record-count-requires : tie.Need-record_count-requires
 record-count-requires c κs = search rules
@@ -48,13 +48,13 @@ add-length c = search rules
 slice-relend-prefix-clear : tie.Need-slice_bounds-clear-end
 slice-relend-prefix-clear c =
     let start = c in
-    space-fits start.args.book.now start.args.space.now c.rows_of.result c.rows_of.ensures.0 (rows_are _ _ _ c.record_count.ensures c.rows_of.ensures.1) start.requires.1
+    space-fits start.args.book.now start.args.space.now c.rows_of.result c.rows_of.ensures.0 (rows_are c.before c.rows_of.result c.rows_of.ensures.1) start.requires.1
 
 slice-aggregate-clear : tie.Need-slice_bounds-clear-end-2
 slice-aggregate-clear c =
     let start = c in
     let rows = c.rows_of in
-    space-length start.args.book.now start.args.space.now rows.result rows.ensures.0 (rows_are _ _ _ c.record_count.ensures rows.ensures.1) start.requires.1
+    space-length start.args.book.now start.args.space.now rows.result rows.ensures.0 (rows_are c.before.before rows.result rows.ensures.1) start.requires.1
 
 clear-requires : tie.Need-clear-requires
 clear-requires c κs = search rules
