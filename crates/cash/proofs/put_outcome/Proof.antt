@@ -1,7 +1,6 @@
 -- `put_outcome` meets its contract: one way out for an accepted book, one for a refused one. Assumes nothing.
 use Prim.Native.Nat.{ℕ, ◌≤◌}
 use mathlib.Core.Path.{◌≡◌, sym, ◌∙◌}
-use mathlib.Core.List.{List}
 use Rattle.records.specs.Records.{record_count}
 use Rattle.book.specs.Refusals.{refusal, Accepted}
 use Rattle.book.proofs.Accepted.{accepted, record-count}
@@ -15,8 +14,9 @@ use Rattle.cash.proofs.put_outcome.Statement.{statement}
 use Rattle.cash.proofs.put_outcome.Tie as tie
 
 -- the rows that the result has, where the book is accepted
-rows_are : (b : List ℕ) (count rows : ℕ) → count ≡ record_count b → (count ≤ 2048 → rows ≡ count) → record_count b ≤ 2048 → rows ≡ record_count b
-rows_are b count rows is told few = told (rw is few) ∙ is
+rows_are : (k : tie.After-record_count) (rows : ℕ) → (k.record_count.result ≤ 2048 → rows ≡ k.record_count.result) →
+    record_count k.args.book.now ≤ 2048 → rows ≡ record_count k.args.book.now
+rows_are k rows told few = told (rw k.record_count.ensures few) ∙ k.record_count.ensures
 
 -- the clearing tells the book's refusal
 number_is : (k : tie.After-refusal_of-number) → k.refusal_of-number.result ≡ refusal k.args.book.now
