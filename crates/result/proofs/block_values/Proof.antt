@@ -46,8 +46,8 @@ loop-again c =
     let loop = c.loop-i in (
       search rules,
       elim c.if-set-i-eq1.branch [
-        then-set-i-eq1 w ↦ rw w.values-is (valued-taken _ _ _ _ loop.invariant.1 (search rules) w.if-set-i-eq1.true)
-      | else-set-i-eq1 w ↦ rw w.values-is (valued-passed _ _ _ _ loop.invariant.1 w.if-set-i-eq1.false)
+        | then-set-i-eq1 w ↦ rw w.values-is (valued-taken _ _ _ _ loop.invariant.1 (search rules) w.if-set-i-eq1.true)
+        | else-set-i-eq1 w ↦ rw w.values-is (valued-passed _ _ _ _ loop.invariant.1 w.if-set-i-eq1.false)
       ],
     )
 
