@@ -9,7 +9,7 @@ use native.Mathlib.Nat.{lt_of_not-le}
 use native.Mathlib.Numerals.{add-one}
 use lib.ListN.{length, get_or, set, replicate, length-set}
 use lib.Seq.{get_or-set_same, get_or-set_other}
-use Rattle.rules.proofs.TieLaws.{rank_of, rank-small}
+use Rattle.rules.proofs.Ranks.{rank_of, rank-small}
 use Rattle.book.specs.Bounds.{most_blocks}
 use Rattle.orders.proofs.ColumnLaws.{zeros}
 use Rattle.places.specs.Layout.{hour_places, most_added, parent_column, ahead_column, behind_column, rank_column, rows_column, block_list_size}

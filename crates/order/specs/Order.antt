@@ -1,7 +1,7 @@
 -- AN ORDER OF THE BLOCKS in which the search decides them, and the blocks' columns in that order. A list `order` has at each place the number of the block
 -- there, a list `place` has of each block its place. Any order is right; nothing here says which is chosen. Definitions only. Assumes nothing.
 use Rattle.std.specs.Prelude.{ℕ, suc, ◌-◌, ◌/◌, ◌%◌, ◌^◌, ◌≤◌, ◌<◌, cond, List, ◌≡◌, eqb, get_or}
-use Rattle.rules.proofs.TieLaws.{rank_of}
+use Rattle.rules.proofs.Ranks.{rank_of}
 use Rattle.places.specs.Layout.{hour_places}
 use Rattle.places.specs.Blocks.{side_at, hours_at, quantity_at, limit_at, against_at, gain_at, parent_at, ahead_at, behind_at, rank_at, row_quantity}
 

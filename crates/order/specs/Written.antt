@@ -2,7 +2,7 @@
 -- result needs them. Definitions only. Assumes nothing.
 use Rattle.std.specs.Prelude.{ℕ, zero, suc, ◌+◌, ◌-◌, ◌*◌, ◌%◌, ◌≤◌, ◌<◌, Bool, true, ◌&&◌, List, ◌≡◌, ltb, leb, eqb, length, get_or}
 use Rattle.rules.specs.Hour.{when}
-use Rattle.rules.proofs.TieLaws.{rank_of}
+use Rattle.rules.proofs.Ranks.{rank_of}
 use Rattle.book.specs.Bounds.{most_blocks}
 use Rattle.places.specs.Layout.{hour_places, parent_column, rows_column, block_list_size}
 use Rattle.places.specs.Blocks.{parent_at, ahead_at, behind_at, rank_at, row_quantity}

@@ -16,7 +16,8 @@ use Rattle.rules.proofs.BestLaws.{FirstBest, outcome-first}
 use Rattle.rules.proofs.DayLaws.{empty-lawful}
 use Rattle.rules.proofs.LinkLaws.{Parents}
 use Rattle.rules.proofs.TwinLaws.{Ahead, block-at, outcome-in-turn}
-use Rattle.rules.proofs.TieLaws.{ties, ties-same-rank, rank_of}
+use Rattle.rules.proofs.Ranks.{rank_of}
+use Rattle.rules.proofs.TieLaws.{ties, ties-same-rank}
 use Rattle.rules.proofs.CostLaws.{costs-apart, outcome-costs-least}
 use Rattle.rules.proofs.SetBits.{bits_at}
 use Rattle.rules.proofs.RearrangedLaws as other-order

@@ -25,7 +25,8 @@ use Rattle.rules.proofs.RearrangedLaws.{
   lawful-rearranged,
   welfare-rearranged,
 }
-use Rattle.rules.proofs.TieLaws.{ties, ties-fit, rank_of, rank-small, holds-ties, ties-apart, ties-rearranged}
+use Rattle.rules.proofs.Ranks.{rank_of, rank-small}
+use Rattle.rules.proofs.TieLaws.{ties, ties-fit, holds-ties, ties-apart, ties-rearranged}
 
 -- more than the ties of 32 blocks come to
 abbrev pub tie_room : ℕ

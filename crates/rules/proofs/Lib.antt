@@ -12,6 +12,7 @@ pub mod UncertainLaws
 pub mod HourSums
 pub mod ContenderCases
 pub mod NotBest
+pub mod OffMiddle
 pub mod OutcomeRulesCases
 pub mod ShiftedCases
 pub mod ShareLaws
@@ -39,6 +40,7 @@ pub mod LinkLaws
 pub mod TwinLaws
 pub mod SameBlocksLaws
 pub mod RearrangedLaws
+pub mod Ranks
 pub mod TieLaws
 pub mod CostLaws
 pub mod RivalLaws

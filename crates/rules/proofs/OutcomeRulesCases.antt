@@ -43,13 +43,10 @@ use Rattle.rules.specs.Cases.{
 use Rattle.rules.proofs.CurveLaws.{when-zero}
 use Rattle.rules.proofs.PricingLaws.{Clears, clears-means, LeastOf, least-is}
 use Rattle.rules.proofs.HourSums.{every_hour-at, HourByHour, each-hour, each-counted}
+use Rattle.rules.proofs.OffMiddle.{off-middle-between}
 use Rattle.rules.proofs.CertifiedHours.{computed, tested, tested-is, tested_prices, price-tested, hour-counts}
 
 -- EACH RULE BROKEN
-pub off-middle-between : Breaks off_middle_between (λ o. o.set_price)
-unfolding computed
-off-middle-between middle = omega (arith, rw price-tested at (middle 23 (hour-counts 23 refl)))
-
 pub off-middle : Breaks off_middle (λ o. o.set_price)
 unfolding computed
 off-middle middle = omega (arith, rw price-tested at (middle 1 (hour-counts 1 refl)))

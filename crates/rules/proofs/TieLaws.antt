@@ -8,9 +8,10 @@ use mathlib.Core.List.{List, [], ◌∷◌, ◌++◌}
 use native.Mathlib.Omega.{arith}
 use native.Mathlib.Nat.{suc_inj}
 use lib.ListN.{length, get_or}
-use lib.Pow.{pow_pos, pow_mono}
+use lib.Pow.{pow_pos}
 use Rattle.rules.specs.Hour.{when}
 use Rattle.rules.specs.Contender.{HoldsLowest}
+use Rattle.rules.proofs.Ranks.{rank_of}
 use Rattle.rules.proofs.RearrangedLaws.{by_order, IsOrder, sum_first, sum_same, sum-by-order, length-by, at-by}
 
 -- the ranks of the blocks that a set leaves out, together
@@ -116,15 +117,7 @@ same-ties (suc m) rank (false ∷ s) (true ∷ t) e fits halve h =
 same-ties (suc m) rank (false ∷ s) (false ∷ t) e fits halve h =
     ap (◌∷◌ false) (same-ties m (λ j. rank (suc j)) s t (suc_inj e) (omega arith) (later m rank (length s) halve) (omega arith))
 
--- THE RANK BY NUMBER, of at most 32 blocks that stand by number
-unfoldable pub rank_of : ℕ → ℕ
-rank_of i = 2 ^ (31 - i)
-
--- no rank is above the first
-pub rank-small : (i : ℕ) → rank_of i ≤ 2 ^ 31
-unfolding rank_of
-rank-small i = pow_mono {i = 31 - i} {j = 31} (omega arith)
-
+-- THE RANKS BY NUMBER
 ranks-halve : (n : ℕ) → Halve 32 rank_of n
 unfolding rank_of
 ranks-halve n j k = ap (λ e. 2 ^ e) (omega arith)
