@@ -60,47 +60,47 @@ cast-to : tie.Need-overflow_cast-to
 cast-to c = search rules
 
 sub-answer-of : tie.Need-slice_bounds-answer_of-count
-sub-answer-of c = let f = c in (hour-part f).0
+sub-answer-of c = let f = c.before.before.before.before in (hour-part f).0
 
 part-answer-of-start : tie.Need-slice_bounds-answer_of-start
-part-answer-of-start c = let f = c in let p = hour-part f in let s = size-sides f in omega arith
+part-answer-of-start c = let f = c.before.before.before.before in let p = hour-part f in let s = size-sides f in omega arith
 
 part-answer-of-end : tie.Need-slice_bounds-answer_of-end
-part-answer-of-end c = let f = c in omega (arith, hour-part f, size-sides f)
+part-answer-of-end c = let f = c.before.before.before.before in omega (arith, hour-part f, size-sides f)
 
 mul-answer-of : tie.Need-offset_bounds-prices-from
-mul-answer-of c = let f = c in omega (arith, hour-part f)
+mul-answer-of c = let f = c.before.before.before.before.before in omega (arith, hour-part f)
 
 sub-answer-of-2 : tie.Need-slice_bounds-answer_of-count-2
-sub-answer-of-2 c = let f = c in (hour-part f).0
+sub-answer-of-2 c = let f = c.before.before.before.before.before in (hour-part f).0
 
 part-answer-of-start-2 : tie.Need-slice_bounds-answer_of-start-2
-part-answer-of-start-2 c = let f = c in omega (arith, hour-part f, size-prices f)
+part-answer-of-start-2 c = let f = c.before.before.before.before.before in omega (arith, hour-part f, size-prices f)
 
 part-answer-of-end-2 : tie.Need-slice_bounds-answer_of-end-2
-part-answer-of-end-2 c = let f = c in omega (arith, hour-part f, size-prices f)
+part-answer-of-end-2 c = let f = c.before.before.before.before.before in omega (arith, hour-part f, size-prices f)
 
 mul-answer-of-2 : tie.Need-offset_bounds-quantities-from
-mul-answer-of-2 c = let f = c in omega (arith, hour-part f)
+mul-answer-of-2 c = let f = c.before.before.before.before.before.before in omega (arith, hour-part f)
 
 sub-answer-of-3 : tie.Need-slice_bounds-answer_of-count-3
-sub-answer-of-3 c = let f = c in (hour-part f).0
+sub-answer-of-3 c = let f = c.before.before.before.before.before.before in (hour-part f).0
 
 part-answer-of-start-3 : tie.Need-slice_bounds-answer_of-start-3
-part-answer-of-start-3 c = let f = c in omega (arith, hour-part f, size-quantities f)
+part-answer-of-start-3 c = let f = c.before.before.before.before.before.before in omega (arith, hour-part f, size-quantities f)
 
 part-answer-of-end-3 : tie.Need-slice_bounds-answer_of-end-3
-part-answer-of-end-3 c = let f = c in omega (arith, hour-part f, size-quantities f)
+part-answer-of-end-3 c = let f = c.before.before.before.before.before.before in omega (arith, hour-part f, size-quantities f)
 
 answer-of-requires : tie.Need-answer_of-requires
 answer-of-requires c κs =
-    let f = c in
+    let f = c.before.before.before.before.before.before.before in
     let sides = part-size f _ (size-sides f) in
     record { as_many_prices = sides ∙ sym (part-size f _ (size-prices f)); as_many_quantities = sides ∙ sym (part-size f _ (size-quantities f)); not_too_many = omega (arith, sides, hour-part f) }
 
 returns : tie.Need-returns
 returns c =
-    let f = c in
+    let f = c.before.before.before.before.before.before.before.before in
     let pre = f.requires in
     answer-is _ pre.0 _ _ _ _ _ f.steps_of-steps.ensures _ _ pre.1 pre.2 _ c.answer_of.ensures
 

@@ -35,28 +35,28 @@ blocks-of-requires : tie.Need-blocks_of-found-requires
 blocks-of-requires c κs = search rules
 
 array-share-prefix-sides : tie.Need-slice_bounds-sides-end
-array-share-prefix-sides c = let f = c in omega (arith, size-sides f, f.blocks_of-found.ensures.few)
+array-share-prefix-sides c = let f = c.before.before.before in omega (arith, size-sides f, f.blocks_of-found.ensures.few)
 
 slice-aggregate-trades-of : tie.Need-slice_bounds-trades_of-end
-slice-aggregate-trades-of c = let f = c in sym (length-take-le _ _ (omega (arith, size-sides f, f.blocks_of-found.ensures.few)))
+slice-aggregate-trades-of c = let f = c.before.before.before.before in sym (length-take-le _ _ (omega (arith, size-sides f, f.blocks_of-found.ensures.few)))
 
 array-share-prefix-hours : tie.Need-slice_bounds-hours-end
-array-share-prefix-hours c = let f = c in omega (arith, size-hours f, f.blocks_of-found.ensures.few)
+array-share-prefix-hours c = let f = c.before.before.before.before in omega (arith, size-hours f, f.blocks_of-found.ensures.few)
 
 slice-aggregate-trades-of-2 : tie.Need-slice_bounds-trades_of-end-2
 slice-aggregate-trades-of-2 c =
-    let f = c in sym (length-take-le _ _ (omega (arith, size-hours f, f.blocks_of-found.ensures.few)))
+    let f = c.before.before.before.before.before in sym (length-take-le _ _ (omega (arith, size-hours f, f.blocks_of-found.ensures.few)))
 
 array-share-prefix-quantities : tie.Need-slice_bounds-quantities-end
-array-share-prefix-quantities c = let f = c in omega (arith, size-quantities f, f.blocks_of-found.ensures.few)
+array-share-prefix-quantities c = let f = c.before.before.before.before.before in omega (arith, size-quantities f, f.blocks_of-found.ensures.few)
 
 slice-aggregate-trades-of-3 : tie.Need-slice_bounds-trades_of-end-3
 slice-aggregate-trades-of-3 c =
-    let f = c in sym (length-take-le _ _ (omega (arith, size-quantities f, f.blocks_of-found.ensures.few)))
+    let f = c.before.before.before.before.before.before in sym (length-take-le _ _ (omega (arith, size-quantities f, f.blocks_of-found.ensures.few)))
 
 trades-of-requires : tie.Need-trades_of-trades-requires
 trades-of-requires c κs =
-    let f = c in
+    let f = c.before.before.before.before.before.before in
     let few = f.blocks_of-found.ensures.few in
     let pre = f.requires in
     let sides = length-take-le f.blocks_of-found.result.count f.blocks_of-found.result.sides (omega (arith, size-sides f, few)) in
@@ -66,23 +66,23 @@ trades-of-requires c κs =
 
 fit : (t : Traded) → (t.trades_of-trades.result.sales ≤ most_traded) × (t.trades_of-trades.result.buys ≤ most_traded)
 fit t =
-    let f = t in
+    let f = t.before.before.before.before.before.before.before in
     trades-fit _ f.requires.0 _ _ _ _ _ _ f.blocks_of-found.ensures (size-records f) (size-sides f) (size-hours f) (size-prices f) (size-quantities f) _ _ _ _
     t.trades_of-trades.ensures
 
 add-result : tie.Need-overflow_add-result
-add-result c = omega (arith, fit c)
+add-result c = omega (arith, fit c.before)
 
 sub-result : tie.Need-overflow_sub-result
-sub-result c = omega (arith, fit c)
+sub-result c = omega (arith, fit c.before.before)
 
 cast-result : tie.Need-overflow_cast-result
-cast-result c = omega (arith, fit c)
+cast-result c = omega (arith, fit c.before.before)
 
 returns : tie.Need-returns
 returns c =
-    let t = c in
-    let f = t in
+    let t = c.before.before in
+    let f = t.before.before.before.before.before.before.before in
     net-is _ f.requires.0 _ _ _ _ _ _ f.blocks_of-found.ensures (size-records f) (size-sides f) (size-hours f) (size-prices f) (size-quantities f) _ _ _ _
     t.trades_of-trades.ensures
 

@@ -38,12 +38,12 @@ names-absent-requires : tie.Need-names_absent-requires
 names-absent-requires c κs = search rules
 
 -- what the reader's answer says on the accepting side
-book-accepted : (k : tie.In-Accepted-2) → Accepted k.args.book.now
+book-accepted : (k : tie.In-Accepted) → Accepted k.args.book.now
 book-accepted k = accepted _ (answer-accepted _ _ _ (sym k.read-reading.ensures ∙ k.in-Accepted.is)).0
 
 -- the reader's answer, on the way to the test
-abbrev reading-of : tie.After-names_absent → tie.In-Accepted-2
-reading-of n = n
+abbrev reading-of : tie.After-names_absent → tie.In-Accepted
+reading-of n = n.before.before.before
 
 -- the test for 8
 tested : (n : tie.After-names_absent) → (not n.has_hour.result || n.names_absent.result)
@@ -60,12 +60,12 @@ tested n =
 
 net-in-requires : tie.Need-net_in-requires
 net-in-requires c κs =
-    let n = c in
+    let n = c.before in
     let a = book-accepted (reading-of n) in
     let e = call-bounds _ a _ _ (sym (tested n) ∙ c.if-has_hour-names_absent.false) in (a, e.0, e.1)
 
 answer-in-requires : tie.Need-answer_in-requires
-answer-in-requires c κs = let r = net-in-requires c κs in (r.0, omega (arith, r.1), omega (arith, r.2))
+answer-in-requires c κs = let r = net-in-requires c.before κs in (r.0, omega (arith, r.1), omega (arith, r.2))
 
 returns : tie.Need-returns-in-Refused
 returns c =
@@ -75,12 +75,12 @@ returns c =
 
 returns-2 : tie.Need-returns-then-has_hour-names_absent
 returns-2 c =
-    let n = c in
+    let n = c.before in
     sym (call-wrong _ (book-accepted (reading-of n)) _ _ (sym (tested n) ∙ c.if-has_hour-names_absent.true))
 
 returns-3 : tie.Need-returns-else-has_hour-names_absent
 returns-3 c =
-    let n = c in
+    let n = c.before.before.before in
     let wrong = sym (tested n) ∙ c.if-has_hour-names_absent.false in
     c.answer_in.ensures ∙ hour-answered _ _ _ _ c.net_in.ensures ∙ sym (call-answered _ (book-accepted (reading-of n)) _ _ wrong)
 

@@ -66,18 +66,14 @@ loop-less c = search rules
 
 loop-again : tie.Need-loop-i-preserved invariant-loop decreases-loop
 loop-again c =
-    let least = c in
-    let side = least in
-    let fits = side in
-    let entry = fits in
-    let e = entry.entry_at-entry.ensures in
-    let v = entry.loop-i in
+    let e = c.entry_at-entry.ensures in
+    let v = c.loop-i in
     let room : v.i < 256 = omega arith in (
       omega arith,
-      tested-next _ v.i _ _ (fits.fits2.ensures ∙ ap entry_fits e) v.invariant.1,
-      filled_next side_number _ v.i v.sides _ room (side.side_number.ensures ∙ ap side_number e) v.invariant.2,
+      tested-next _ v.i _ _ (c.fits.ensures ∙ ap entry_fits e) v.invariant.1,
+      filled_next side_number _ v.i v.sides _ room (c.side_number.ensures ∙ ap side_number e) v.invariant.2,
       filled_next (λ e. e.price) _ v.i v.prices _ room (ap (λ e. e.price) e) v.invariant.3,
-      filled_next least_quantity _ v.i v.least _ room (least.least_quantity.ensures ∙ ap least_quantity e) v.invariant.4,
+      filled_next least_quantity _ v.i v.least _ room (c.least_quantity.ensures ∙ ap least_quantity e) v.invariant.4,
       filled_next greatest_quantity _ v.i v.greatest _ room (c.greatest_quantity.ensures ∙ ap greatest_quantity e) v.invariant.5,
     )
 

@@ -1,7 +1,8 @@
 -- `range::price_range` meets its contract: the list is refused, or the two corners are priced. Assumes nothing.
-use Prim.Native.Nat.{◌/◌, ◌≤◌}
+use Prim.Native.Nat.{ℕ, ◌/◌, ◌≤◌}
 use mathlib.Core.Path.{◌≡◌, sym, ◌∙◌}
-use mathlib.Core.Bool.{false}
+use mathlib.Core.Bool.{Bool, false}
+use mathlib.Core.List.{List}
 use native.Mathlib.Omega.{arith}
 use lib.ListN.{length}
 use lib.Seq.{length-take-le}
@@ -12,27 +13,12 @@ use Rattle.range.proofs.price_range.Statement.{statement}
 use Rattle.range.proofs.price_range.Tie as tie
 
 -- the list's size is right
-right-size : (c : tie.Else-has_wrong_size) → wrong_size c.args.list.now ≡ false
-right-size c = sym c.has_wrong_size.ensures ∙ c.if-has_wrong_size.false
+right-size : {r : Bool} (list : List ℕ) → r ≡ wrong_size list → r ≡ false → wrong_size list ≡ false
+right-size list tested passed = sym tested ∙ passed
 
 -- the entries, as many as there are places at most
-abbrev Found : Type 0
-Found = tie.After-entries_of-entries
-
-few : (f : Found) → length f.args.list.now / 16 ≤ 256
-few f = entries-few _ (right-size f)
-
-size-sides : (f : Found) → length f.entries_of-entries.result.sides ≡ 256
-size-sides f = search rules
-
-size-prices : (f : Found) → length f.entries_of-entries.result.prices ≡ 256
-size-prices f = search rules
-
-size-least : (f : Found) → length f.entries_of-entries.result.least ≡ 256
-size-least f = search rules
-
-size-greatest : (f : Found) → length f.entries_of-entries.result.greatest ≡ 256
-size-greatest f = search rules
+few : {r : Bool} (list : List ℕ) → r ≡ wrong_size list → r ≡ false → length list / 16 ≤ 256
+few list tested passed = entries-few _ (right-size list tested passed)
 
 has-wrong-size-requires : tie.Need-has_wrong_size-requires
 has-wrong-size-requires c κs = search rules
@@ -41,60 +27,89 @@ returns : tie.Need-returns-then-has_wrong_size
 returns c = refused-size _ (sym c.has_wrong_size.ensures ∙ c.if-has_wrong_size.true)
 
 entries-of-requires : tie.Need-entries_of-entries-requires
-entries-of-requires c κs = entries-few _ (right-size c)
+entries-of-requires c κs = few _ c.has_wrong_size.ensures c.if-has_wrong_size.false
 
 returns-2 : tie.Need-returns-then-entries
 returns-2 c =
-    let f = c in
-    refused-field _ (right-size f) (sym f.entries_of-entries.ensures.wrong_is ∙ c.if-entries.true)
+    refused-field _ (right-size _ c.has_wrong_size.ensures c.if-has_wrong_size.false) (sym c.entries_of-entries.ensures.wrong_is ∙ c.if-entries.true)
 
 array-share-prefix-sides : tie.Need-slice_bounds-sides-end
-array-share-prefix-sides c = let f = c in omega (arith, few f, size-sides f)
+array-share-prefix-sides c =
+    let size : length c.entries_of-entries.result.sides ≡ 256 = search rules in
+    omega (arith, few _ c.has_wrong_size.ensures c.if-has_wrong_size.false, size)
 
 slice-aggregate-price-of : tie.Need-slice_bounds-price_of-end
-slice-aggregate-price-of c = let f = c in sym (length-take-le _ _ (omega (arith, few f, size-sides f)))
+slice-aggregate-price-of c =
+    let size : length c.entries_of-entries.result.sides ≡ 256 = search rules in
+    sym (length-take-le _ _ (omega (arith, few _ c.has_wrong_size.ensures c.if-has_wrong_size.false, size)))
 
 array-share-prefix-prices : tie.Need-slice_bounds-prices-end
-array-share-prefix-prices c = let f = c in omega (arith, few f, size-prices f)
+array-share-prefix-prices c =
+    let size : length c.entries_of-entries.result.prices ≡ 256 = search rules in
+    omega (arith, few _ c.has_wrong_size.ensures c.if-has_wrong_size.false, size)
 
 slice-aggregate-price-of-2 : tie.Need-slice_bounds-price_of-end-2
-slice-aggregate-price-of-2 c = let f = c in sym (length-take-le _ _ (omega (arith, few f, size-prices f)))
+slice-aggregate-price-of-2 c =
+    let size : length c.entries_of-entries.result.prices ≡ 256 = search rules in
+    sym (length-take-le _ _ (omega (arith, few _ c.has_wrong_size.ensures c.if-has_wrong_size.false, size)))
 
 array-share-prefix-low : tie.Need-slice_bounds-low-end
-array-share-prefix-low c = let f = c in omega (arith, few f, size-least f)
+array-share-prefix-low c =
+    let size : length c.entries_of-entries.result.least ≡ 256 = search rules in
+    omega (arith, few _ c.has_wrong_size.ensures c.if-has_wrong_size.false, size)
 
 slice-aggregate-price-of-3 : tie.Need-slice_bounds-price_of-end-3
-slice-aggregate-price-of-3 c = let f = c in sym (length-take-le _ _ (omega (arith, few f, size-least f)))
+slice-aggregate-price-of-3 c =
+    let size : length c.entries_of-entries.result.least ≡ 256 = search rules in
+    sym (length-take-le _ _ (omega (arith, few _ c.has_wrong_size.ensures c.if-has_wrong_size.false, size)))
 
 price-of-requires : tie.Need-price_of-least-requires
-price-of-requires c κs = let f = c in columns-front _ _ _ _ (few f) (size-sides f) (size-prices f) (size-least f)
+price-of-requires c κs =
+    let sides : length c.entries_of-entries.result.sides ≡ 256 = search rules in
+    let prices : length c.entries_of-entries.result.prices ≡ 256 = search rules in
+    let figures : length c.entries_of-entries.result.least ≡ 256 = search rules in
+    columns-front _ _ _ _ (few _ c.has_wrong_size.ensures c.if-has_wrong_size.false) sides prices figures
 
 array-share-prefix-sides-2 : tie.Need-slice_bounds-sides-end-2
-array-share-prefix-sides-2 c = let f = c in omega (arith, few f, size-sides f)
+array-share-prefix-sides-2 c =
+    let size : length c.entries_of-entries.result.sides ≡ 256 = search rules in
+    omega (arith, few _ c.has_wrong_size.ensures c.if-has_wrong_size.false, size)
 
 slice-aggregate-price-of-4 : tie.Need-slice_bounds-price_of-end-4
-slice-aggregate-price-of-4 c = let f = c in sym (length-take-le _ _ (omega (arith, few f, size-sides f)))
+slice-aggregate-price-of-4 c =
+    let size : length c.entries_of-entries.result.sides ≡ 256 = search rules in
+    sym (length-take-le _ _ (omega (arith, few _ c.has_wrong_size.ensures c.if-has_wrong_size.false, size)))
 
 array-share-prefix-prices-2 : tie.Need-slice_bounds-prices-end-2
-array-share-prefix-prices-2 c = let f = c in omega (arith, few f, size-prices f)
+array-share-prefix-prices-2 c =
+    let size : length c.entries_of-entries.result.prices ≡ 256 = search rules in
+    omega (arith, few _ c.has_wrong_size.ensures c.if-has_wrong_size.false, size)
 
 slice-aggregate-price-of-5 : tie.Need-slice_bounds-price_of-end-5
-slice-aggregate-price-of-5 c = let f = c in sym (length-take-le _ _ (omega (arith, few f, size-prices f)))
+slice-aggregate-price-of-5 c =
+    let size : length c.entries_of-entries.result.prices ≡ 256 = search rules in
+    sym (length-take-le _ _ (omega (arith, few _ c.has_wrong_size.ensures c.if-has_wrong_size.false, size)))
 
 array-share-prefix-high : tie.Need-slice_bounds-high-end
-array-share-prefix-high c = let f = c in omega (arith, few f, size-greatest f)
+array-share-prefix-high c =
+    let size : length c.entries_of-entries.result.greatest ≡ 256 = search rules in
+    omega (arith, few _ c.has_wrong_size.ensures c.if-has_wrong_size.false, size)
 
 slice-aggregate-price-of-6 : tie.Need-slice_bounds-price_of-end-6
-slice-aggregate-price-of-6 c = let f = c in sym (length-take-le _ _ (omega (arith, few f, size-greatest f)))
+slice-aggregate-price-of-6 c =
+    let size : length c.entries_of-entries.result.greatest ≡ 256 = search rules in
+    sym (length-take-le _ _ (omega (arith, few _ c.has_wrong_size.ensures c.if-has_wrong_size.false, size)))
 
 price-of-requires-2 : tie.Need-price_of-greatest-requires
-price-of-requires-2 c κs = let f = c in columns-front _ _ _ _ (few f) (size-sides f) (size-prices f) (size-greatest f)
+price-of-requires-2 c κs =
+    let sides : length c.entries_of-entries.result.sides ≡ 256 = search rules in
+    let prices : length c.entries_of-entries.result.prices ≡ 256 = search rules in
+    let figures : length c.entries_of-entries.result.greatest ≡ 256 = search rules in
+    columns-front _ _ _ _ (few _ c.has_wrong_size.ensures c.if-has_wrong_size.false) sides prices figures
 
 returns-3 : tie.Need-returns
 returns-3 c =
-    let right = c in
-    let f = right in
-    range-answered _ _ _ _ _ (right-size f) _ right.if-entries.false f.entries_of-entries.ensures _ _ c.price_of-least.ensures
+    range-answered _ _ _ _ _ (right-size _ c.has_wrong_size.ensures c.if-has_wrong_size.false) _ c.if-entries.false c.entries_of-entries.ensures _ _ c.price_of-least.ensures
     c.price_of-greatest.ensures
 
 pub price_range_spec : {M : Type 1} → statement M

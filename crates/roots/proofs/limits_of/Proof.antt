@@ -44,7 +44,7 @@ mul-limits-2 : tie.Need-overflow_mul-limits invariant-loop decreases-loop
 mul-limits-2 c =
     let v = c.loop-i in
     let s = c in
-    let fits = limit-fits (get_or s.args.t4 v.i 0) s.args.day (get_or s.args.prices v.i 0) s.requires.day (s.requires.blocks.1 v.i c.loop-i-test.true) in
+    let fits = limit-fits (get_or s.args.prices v.i 0) s.args.day (get_or s.args.hours v.i 0) s.requires.0 (s.requires.1.1 v.i c.loop-i-test.true) in
     rw c.counted_hours.ensures (record { fits = omega (arith, fits) })
 
 mul-limits-3 : tie.Need-offset_bounds-limits-i invariant-loop decreases-loop
@@ -64,8 +64,8 @@ loop-again c =
     let v = c.loop-i in
     let s = c in
     let k = c.loop-i-test.true in
-    let inside : v.i < length v.limits = omega (arith, v.invariant.0, k, s.requires.blocks.0) in
-    let fits = limit-fits (get_or s.args.t4 v.i 0) s.args.day (get_or s.args.prices v.i 0) s.requires.day (s.requires.blocks.1 v.i k) in
+    let inside : v.i < length v.limits = omega (arith, v.invariant.0, k, s.requires.1.0) in
+    let fits = limit-fits (get_or s.args.prices v.i 0) s.args.day (get_or s.args.hours v.i 0) s.requires.0 (s.requires.1.1 v.i k) in
     (rw length-set v.invariant.0, set-small most_limit v.limits v.i _ inside (rw c.counted_hours.ensures fits) v.invariant.1)
 
 returns : tie.Need-returns invariant-loop decreases-loop

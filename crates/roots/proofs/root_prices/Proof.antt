@@ -1,6 +1,5 @@
 -- `roots::root_prices` meets its contract: the best so far are prices, and so are those on their way. Assumes nothing.
 use Prim.Native.Nat.{◌+◌, ◌-◌, ◌*◌, ◌≤◌}
-use mathlib.Core.Logic.{⊎_elim}
 use native.Mathlib.Omega.{arith}
 use Rattle.rules.specs.Orders.{max_price}
 use Rattle.rules.specs.Day.{change_hour}
@@ -13,6 +12,7 @@ use Rattle.roots.proofs.root_prices.Statement.{statement}
 use Rattle.roots.proofs.root_prices.Tie as tie
 use Rattle.roots.proofs.root_prices.Reads as reads
 use Rattle.roots.proofs.root_prices.Lts as lts
+use Rattle.roots.proofs.root_prices.Lts.{then-loss-least, else-loss-least}
 use Rattle.fields.proofs.hours.change_weight.Reads as change-weight-reads
 use Rattle.places.proofs.cells.prices_at.Reads as prices-at-reads
 use Rattle.roots.proofs.limits_of.Reads as limits-of-reads
@@ -35,15 +35,15 @@ change-weight-requires c κs = search rules
 limits-of-requires : tie.Need-limits_of-limits-requires invariant-loop decreases-loop
 limits-of-requires c κs =
     let p = c.requires in
-    record { day = p.0; blocks = (p.1.1.0, p.1.1.1) }
+    (p.0, (p.1.1.0, p.1.1.1))
 
 gives-way-requires : tie.Need-gives_way-requires invariant-loop decreases-loop
 gives-way-requires c κs = search rules
 
 bounds-of-requires : tie.Need-bounds_of-bounds-requires invariant-loop decreases-loop
 bounds-of-requires c κs =
-    let p = c.requires.tables in
-    record { tables = p.0; blocks = (p.1.0, p.1.1) }
+    let p = c.requires.1 in
+    (p.0, (p.1.0, p.1.1))
 
 prices-at-requires : tie.Need-prices_at-requires invariant-loop decreases-loop
 prices-at-requires c κs = search rules
@@ -59,14 +59,14 @@ gains-at-requires c κs =
     let s = l in
     let p = s.requires in
     let few : l.change_weight-often.result ≤ 2 = omega (arith, l.change_weight-often.ensures, weight-small s.args.day change_hour p.0) in
-    record { blocks = (p.1.1.0, p.1.1.2); prices = (l.limits_of-limits.ensures, c.held-best.ensures, few) }
+    ((p.1.1.0, p.1.1.2), (l.limits_of-limits.ensures, c.held-best.ensures, few))
 
 gaps-from-requires : tie.Need-gaps_from-requires invariant-loop decreases-loop
 gaps-from-requires c κs =
     let w = c in
     let s = w in
-    let few : w.change_weight-often.result ≤ 2 = omega (arith, w.change_weight-often.ensures, weight-small s.args.day change_hour s.requires.day) in
-    record { tables = s.requires.tables.0; prices = (c.held-best.ensures, few) }
+    let few : w.change_weight-often.result ≤ 2 = omega (arith, w.change_weight-often.ensures, weight-small s.args.day change_hour s.requires.0) in
+    (s.requires.1.0, (c.held-best.ensures, few))
 
 add-least : tie.Need-overflow_add-least invariant-loop decreases-loop
 add-least c = search rules
@@ -79,14 +79,14 @@ loop-holds c =
     let l = b in
     let w = l in
     let s = w in
-    let p = s.requires.tables.0 in
-    let few : w.change_weight-often.result ≤ 2 = omega (arith, w.change_weight-often.ensures, weight-small s.args.day change_hour s.requires.day) in
+    let p = s.requires.1.0 in
+    let few : w.change_weight-often.result ≤ 2 = omega (arith, w.change_weight-often.ensures, weight-small s.args.day change_hour s.requires.0) in
     (omega arith, omega arith, root, root, λ i. omega (arith, p.0.1, p.2 i), few, l.limits_of-limits.ensures, b.bounds_of-bounds.ensures.0, b.bounds_of-bounds.ensures.1)
 
 moved-on-requires : tie.Need-moved_on-next-requires invariant-loop decreases-loop
 moved-on-requires c κs =
     let v = c.loop-n in
-    let p = c.requires.tables in (
+    let p = c.requires.1 in (
       (p.0.0, p.0.1),
       ((p.1.0, p.1.2), ((v.invariant.0, omega (arith, c.loop-n-test.true), v.invariant.3, v.invariant.4), (v.invariant.5, (v.invariant.7, v.invariant.8)))),
     )
@@ -95,15 +95,15 @@ gains-at-requires-2 : tie.Need-gains_at-gains-requires invariant-loop decreases-
 gains-at-requires-2 c κs =
     let m = c in
     let v = m.loop-n in
-    let p = m.requires.tables.1 in
-    record { blocks = (p.0, p.2); prices = (v.invariant.6, m.moved_on-next.ensures.0, v.invariant.5) }
+    let p = m.requires.1.1 in
+    ((p.0, p.2), (v.invariant.6, m.moved_on-next.ensures.0, v.invariant.5))
 
 gaps-from-requires-2 : tie.Need-gaps_from-requires-in-loop-n invariant-loop decreases-loop
 gaps-from-requires-2 c κs =
     let m = c in
     let v = m.loop-n in
-    let p = m.requires.tables.0 in
-    record { tables = p; prices = (m.moved_on-next.ensures.0, v.invariant.5) }
+    let p = m.requires.1.0 in
+    (p, (m.moved_on-next.ensures.0, v.invariant.5))
 
 add-loss : tie.Need-overflow_add-loss invariant-loop decreases-loop
 add-loss c = search rules
@@ -121,7 +121,7 @@ loop-again c =
     let k = m.loop-n-test.true in (
       omega arith,
       omega (arith, k),
-      ⊎_elim (λ w. rw w.1 m.moved_on-next.ensures.0) (λ w. rw w.1 v.invariant.2) c.if-loss-least.branch,
+      elim c.if-loss-least.branch [ then-loss-least w ↦ rw w.best-is m.moved_on-next.ensures.0 | else-loss-least w ↦ rw w.best-is v.invariant.2 ],
       m.moved_on-next.ensures.0,
       m.moved_on-next.ensures.1,
       v.invariant.5,

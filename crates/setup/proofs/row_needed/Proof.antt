@@ -21,7 +21,7 @@ returns : tie.Need-returns
 returns c =
     let traded = c.traded_by_hour-most.ensures in
     let most = c.largest.ensures in
-    record { fits = λ h first last. omega (arith, traded.is h first last, most.0 (h - 1)); narrow = omega (arith, most.1 _ traded.small) }
+    (λ h first last. omega (arith, traded.is h first last, most.0 (h - 1)), omega (arith, most.1 _ traded.small))
 
 pub row_needed_spec : {M : Type 1} → statement M
 row_needed_spec = tie.close (tie.spec traded-by-hour-requires largest-requires cast-result add-result returns)

@@ -8,7 +8,7 @@ use Rattle.shares.proofs.quotient.Tie as tie
 returns : tie.Need-returns-then-total-eq0
 returns c =
     let a = c.args in
-    nothing-held a.own_val a.amount a.total c.if-total-eq0.true c.requires.0
+    nothing-held a.own a.amount a.total c.if-total-eq0.true c.requires.0
 
 mul-result : tie.Need-overflow_mul-result
 mul-result c = omega (arith, product-fits c.args.own c.args.amount (omega arith) (omega arith))

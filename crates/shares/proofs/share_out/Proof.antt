@@ -15,7 +15,7 @@ give-leftover-requires c κs =
     let t = c in
     let down = c.round_down-left in (
       t.requires.0,
-      omega (arith, t.requires.2, down.auto.1.1.1.1.1.0),
+      omega (arith, t.requires.2, down.auto.out),
       t.requires.3,
       buys-left-over _ _ _ _ _ _ _ _ t.requires.0 t.requires.4 t.requires.1 _ down.ensures.1.0,
       first-room _ _ _ _ _ _ _ _ t.requires.0 t.requires.4 t.requires.1 _ down.ensures.0,
@@ -27,8 +27,8 @@ give-leftover-requires-2 c κs =
     let down = c.round_down-left in
     let first = c.give_leftover in (
       t.requires.0,
-      omega (arith, t.requires.2, down.auto.1.1.1.1.1.0, first.auto.1.1.1.1.1.1.1.1.0),
-      omega (arith, t.requires.3, first.auto.1.1.1.1.1.1.1.1.1.0),
+      omega (arith, t.requires.2, down.auto.out, first.auto.out),
+      omega (arith, t.requires.3, first.auto.rests),
       sells-left-over _ _ _ _ _ _ _ _ t.requires.0 t.requires.4 t.requires.1 _ down.ensures.1.1,
       second-room _ _ _ _ _ _ _ _ t.requires.0 t.requires.4 t.requires.1 _ _ _ down.ensures.0 first.ensures,
     )

@@ -8,11 +8,11 @@ use Rattle.shift.proofs.last_before.Statement.{statement}
 use Rattle.shift.proofs.last_before.Tie as tie
 
 abbrev invariant-loop : tie.invariant-loop-from
-invariant-loop sells unit-prices blocks count set places often first last from₀ to₀ from to =
-    TurnsWithin (side_kept_at unit-prices blocks count set places often sells) sells first last from to
+invariant-loop sells unit_prices blocks count set places often first last from₀ to₀ from to =
+    TurnsWithin (side_kept_at unit_prices blocks count set places often sells) sells first last from to
 
 abbrev decreases-loop : tie.decreases-loop-from
-decreases-loop sells unit-prices blocks count set places often first last from₀ to₀ from to = to - from
+decreases-loop sells unit_prices blocks count set places often first last from₀ to₀ from to = to - from
 
 loop-holds : tie.Need-loop-from-init invariant-loop decreases-loop
 loop-holds c =
@@ -20,7 +20,7 @@ loop-holds c =
     record { starts = omega arith; apart = p.0.1; ends = omega arith; here = p.1.0; there = p.1.1 }
 
 add-loop : tie.Need-overflow_add-from invariant-loop decreases-loop
-add-loop c = omega (arith, c.requires.shift_sized, c.loop-from.invariant)
+add-loop c = omega (arith, c.requires.0, c.loop-from.invariant)
 
 sub-t : tie.Need-overflow_sub-t invariant-loop decreases-loop
 sub-t c = search rules

@@ -1,7 +1,6 @@
 -- `shift::lower_shift` meets its contract: a law for each way out. Assumes nothing.
 use mathlib.Core.Path.{sym, ◌∙◌}
 use native.Mathlib.Omega.{arith}
-use borrow.Author.Tests.{not-true, not-false}
 use Rattle.shift.proofs.ChosenLaws.{no-buys-way, apart-way, lower-way}
 use borrow.Author.Rules.{rules}
 use Rattle.shift.proofs.lower_shift.Statement.{statement}
@@ -11,12 +10,12 @@ side-kept-at-requires : tie.Need-side_kept_at-requires
 side-kept-at-requires c κs = search rules
 
 returns : tie.Need-returns-then-not-side_kept_at
-returns c = no-buys-way _ _ _ _ _ _ (sym c.side_kept_at.ensures ∙ not-true _ c.if-not-side_kept_at.true)
+returns c = no-buys-way _ _ _ _ _ _ (sym c.side_kept_at.ensures ∙ c.if-not-side_kept_at.true)
 
 last-before-requires : tie.Need-last_before-t-requires
 last-before-requires c κs =
     let s = c in
-    ((s.requires.shift_sized, omega arith, omega arith), (sym c.side_kept_at.ensures ∙ not-false _ c.if-not-side_kept_at.false, s.requires.middle_shift_value))
+    ((s.requires.0, omega arith, omega arith), (sym c.side_kept_at.ensures ∙ c.if-not-side_kept_at.false, s.requires.1))
 
 side-kept-at-requires-2 : tie.Need-side_kept_at-requires-2
 side-kept-at-requires-2 c κs = search rules
@@ -24,12 +23,12 @@ side-kept-at-requires-2 c κs = search rules
 returns-2 : tie.Need-returns-then-not-side_kept_at-2
 returns-2 c =
     let turns = c.last_before-t in
-    apart-way _ _ _ _ _ _ turns.result (sym c.side_kept_at-2.ensures ∙ not-true _ c.if-not-side_kept_at-2.true) turns.ensures.behind
+    apart-way _ _ _ _ _ _ turns.result (sym c.side_kept_at-2.ensures ∙ c.if-not-side_kept_at-2.true) turns.ensures.behind
 
 returns-3 : tie.Need-returns
 returns-3 c =
     let turns = c.last_before-t in
-    lower-way _ _ _ _ _ _ turns.result turns.ensures (sym c.side_kept_at-2.ensures ∙ not-false _ c.if-not-side_kept_at-2.false)
+    lower-way _ _ _ _ _ _ turns.result turns.ensures (sym c.side_kept_at-2.ensures ∙ c.if-not-side_kept_at-2.false)
 
 pub lower_shift_spec : {M : Type 1} → statement M
 lower_shift_spec =

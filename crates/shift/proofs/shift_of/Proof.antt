@@ -19,7 +19,7 @@ returns c =
 lower-shift-requires : tie.Need-lower_shift-requires
 lower-shift-requires c κs =
     let two = c in
-    record { shift_sized = two.requires; middle_shift_value = sym two.side_kept_at-bought.ensures ∙ second-fails _ _ c.if-sold-bought.false c.if-sold.true }
+    (two.requires, sym two.side_kept_at-bought.ensures ∙ second-fails _ _ c.if-sold-bought.false c.if-sold.true)
 
 returns-2 : tie.Need-returns-then-sold
 returns-2 c = search rules
@@ -27,7 +27,7 @@ returns-2 c = search rules
 higher-shift-requires : tie.Need-higher_shift-requires
 higher-shift-requires c κs =
     let two = c in
-    record { shift_sized = two.requires; middle_shift_value = sym two.side_kept_at-sold.ensures ∙ c.if-sold.false }
+    (two.requires, sym two.side_kept_at-sold.ensures ∙ c.if-sold.false)
 
 returns-3 : tie.Need-returns-then-bought
 returns-3 c = search rules

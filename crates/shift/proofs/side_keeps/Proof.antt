@@ -4,7 +4,6 @@ use mathlib.Core.Bool.{Bool, true, false, ◌&&◌}
 use lib.Dec.{eqb}
 use mathlib.Core.Path.{◌≡◌, refl, sym, ◌∙◌}
 use native.Mathlib.Omega.{arith}
-use borrow.Author.Tests.{not-true, not-false}
 use Rattle.book.specs.Bounds.{most_blocks}
 use Rattle.shift.specs.Columns.{held_of_side, side_keeps}
 use Rattle.shift.proofs.SideLaws.{held-is, side-none, side-fails, side-passes, side-skips}
@@ -75,8 +74,8 @@ returns : tie.Need-returns-then-not-keeps_limit invariant-loop decreases-loop
 returns c =
     let one = c in
     let v = one in
-    sym (v.loop-i.invariant.1 ∙ side-fails _ _ _ _ _ v.loop-i-test.true (held_of one true one.if-chosen-meant.true)
-    (sym c.keeps_limit.ensures ∙ not-true _ c.if-not-keeps_limit.true))
+    sym (v.loop-i.invariant.1 ∙ side-fails _ _ _ _ _ v.loop-i-test.true (held_of one.before.before.before.before.before true one.if-chosen-meant.true)
+    (sym c.keeps_limit.ensures ∙ c.if-not-keeps_limit.true))
 
 loop-less : tie.Need-loop-i-smaller-else-not-keeps_limit invariant-loop decreases-loop
 loop-less c = search rules
@@ -86,8 +85,8 @@ loop-again c =
     let one = c in
     let v = one in (
       omega (arith, v.loop-i.invariant.0),
-      v.loop-i.invariant.1 ∙ side-passes _ _ _ _ _ v.loop-i-test.true (held_of one true one.if-chosen-meant.true)
-          (sym c.keeps_limit.ensures ∙ not-false _ c.if-not-keeps_limit.false),
+      v.loop-i.invariant.1 ∙ side-passes _ _ _ _ _ v.loop-i-test.true (held_of one.before.before.before.before.before true one.if-chosen-meant.true)
+          (sym c.keeps_limit.ensures ∙ c.if-not-keeps_limit.false),
     )
 
 loop-less-2 : tie.Need-loop-i-smaller invariant-loop decreases-loop
@@ -97,7 +96,7 @@ loop-again-2 : tie.Need-loop-i-preserved invariant-loop decreases-loop
 loop-again-2 c =
     let v = c in (
       omega (arith, v.loop-i.invariant.0),
-      v.loop-i.invariant.1 ∙ side-skips _ _ _ _ _ v.loop-i-test.true (held_of c false c.if-chosen-meant.false),
+      v.loop-i.invariant.1 ∙ side-skips _ _ _ _ _ v.loop-i-test.true (held_of c.before false c.if-chosen-meant.false),
     )
 
 returns-2 : tie.Need-returns invariant-loop decreases-loop

@@ -23,7 +23,7 @@ returns : tie.Need-returns
 unfolding side_kept_at
 returns c =
     let a = c.args in
-    let made = column-is a.unit-prices.now a.places a.t _ c.shifted_prices.ensures in
+    let made = column-is a.unit_prices.now a.places a.t _ c.shifted_prices.ensures in
     c.side_keeps.ensures ∙ ap (λ prices. side_keeps a.sells a.blocks.now a.set prices a.count)
     (c.counted_prices-prices.ensures.0 ∙ ap (counted_column a.often) made)
 

@@ -76,7 +76,7 @@ put-decimal-add-result-2 t c =
     omega (arith, last-room _ _ start.args.n start.ranges.n.fits several start.requires.1 _ _ others)
 
 put-decimal-same-length-2 : (t : ℕ) → put-decimal-lts.Need-shape_of-out (claims-put-decimal t) (put-decimal-at t) put-decimal.Post
-put-decimal-same-length-2 t c = simp length-set c.put_decimal-last.auto.0
+put-decimal-same-length-2 t c = simp length-set c.put_decimal-last.auto.out
 
 put-decimal-returns-2 : (t : ℕ) → put-decimal-lts.Need-returns (claims-put-decimal t) (put-decimal-at t) put-decimal.Post
 put-decimal-returns-2 t c =

@@ -3,10 +3,10 @@
 use Rattle.chains.proofs.StepCounts.{Counted, counting-starts, counting-passes, counting_more, counting-over, counting-ends}
 use Rattle.chains.proofs.Laws.{chain-none, chain-end}
 use mathlib.Core.Path.{sym}
-use mathlib.Core.Logic.{⊎_elim}
 use native.Mathlib.Omega.{arith}
 use borrow.Author.Rules.{rules}
 use Rattle.chains.proofs.steps.has_more_steps.Statement.{statement}
+use Rattle.chains.proofs.steps.has_more_steps.Lts.{then-hour-lt-HOUR_NUMBERS+else-counts-at-ge-MOST_STEPS_IN_HOUR, else-hour-lt-HOUR_NUMBERS}
 use Rattle.chains.proofs.steps.has_more_steps.Tie as tie
 
 abbrev invariant-loop : tie.invariant-loop-left
@@ -94,12 +94,15 @@ loop-again c =
     let more = hour in
     let test = more in
     let v = test.loop-left in
-    ⊎_elim
-    (λ w. rw w.3 (counting_more _ v.counts v.left v.i _ _ _ v.invariant test.loop-left-test.true more.if-i-eq0.false
-    hour.hour_byte-hour.ensures w.1.ensures w.0.taken (search rules) w.2.left c.next_of-i.ensures))
-    (λ w. rw w.1 (counting-passes _ v.counts v.left v.i _ _ v.invariant test.loop-left-test.true more.if-i-eq0.false
-    hour.hour_byte-hour.ensures w.0.left c.next_of-i.ensures))
-    j.if-hour-lt-HOUR_NUMBERS.branch
+    elim j.if-hour-lt-HOUR_NUMBERS.branch [
+      | then-hour-lt-HOUR_NUMBERS+else-counts-at-ge-MOST_STEPS_IN_HOUR w ↦
+          rw w.counts-is (counting_more _ v.counts v.left v.i _ _ _ v.invariant test.loop-left-test.true more.if-i-eq0.false
+          hour.hour_byte-hour.ensures w.portfolio_of.ensures w.if-hour-lt-HOUR_NUMBERS.true (search rules)
+          w.if-counts-at-ge-MOST_STEPS_IN_HOUR.false c.next_of-i.ensures)
+      | else-hour-lt-HOUR_NUMBERS w ↦
+          rw w.counts-is (counting-passes _ v.counts v.left v.i _ _ v.invariant test.loop-left-test.true more.if-i-eq0.false
+          hour.hour_byte-hour.ensures w.if-hour-lt-HOUR_NUMBERS.false c.next_of-i.ensures)
+    ]
 
 returns-3 : tie.Need-returns invariant-loop decreases-loop
 returns-3 c = let v = c in sym (counting-ends _ _ _ _ v.loop-left.invariant (chain-none _ _ _ c.loop-left-test.false))

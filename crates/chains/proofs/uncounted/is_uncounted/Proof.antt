@@ -59,7 +59,7 @@ returns-2 c =
     rw (sym record-read.record_at-found.ensures ∙ arm.in-Block.is, c.counted_hours.ensures, record-read.day_hours-day.ensures)
 
 returns-3 : tie.Need-returns-in-Link
-returns-3 c = rw (← c.record_at-found.ensures) (other _ c.record_at-found.result c.match.keys3)
+returns-3 c = rw (← c.record_at-found.ensures) (other _ c.record_at-found.result c.in-Link.in-Link-own.keys3)
 
 pub is_uncounted_spec : {M : Type 1} → statement M
 is_uncounted_spec =

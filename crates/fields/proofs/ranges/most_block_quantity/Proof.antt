@@ -6,11 +6,11 @@ use Rattle.fields.proofs.ranges.most_block_quantity.Tie as tie
 
 returns : tie.Need-returns-then-edition-le-FIRST_EDITION
 unfolding limits
-returns c = rw (le-leb _ 1 c.if1.taken)
+returns c = rw (le-leb _ 1 c.if-edition-le-FIRST_EDITION.true)
 
 returns-2 : tie.Need-returns-else-edition-le-FIRST_EDITION
 unfolding limits
-returns-2 c = rw (lt-leb _ 1 c.if-edition-le-FIRST_EDITION.left)
+returns-2 c = rw (lt-leb _ 1 c.if-edition-le-FIRST_EDITION.false)
 
 pub most_block_quantity_spec : {M : Type 1} → statement M
 most_block_quantity_spec = tie.close (tie.spec returns returns-2)

@@ -6,11 +6,11 @@ use Rattle.fields.proofs.ranges.most_blocks_of_portfolio.Tie as tie
 
 returns : tie.Need-returns-then-edition-le-FIRST_EDITION
 unfolding limits
-returns c = rw (le-leb _ 1 c.if1.taken)
+returns c = rw (le-leb _ 1 c.if-edition-le-FIRST_EDITION.true)
 
 returns-2 : tie.Need-returns-else-edition-le-FIRST_EDITION
 unfolding limits
-returns-2 c = rw (lt-leb _ 1 c.if-edition-le-FIRST_EDITION.left)
+returns-2 c = rw (lt-leb _ 1 c.if-edition-le-FIRST_EDITION.false)
 
 pub most_blocks_of_portfolio_spec : {M : Type 1} → statement M
 most_blocks_of_portfolio_spec = tie.close (tie.spec returns returns-2)

@@ -1,7 +1,6 @@
 -- `guess::sets::closed` meets its contract: the first i blocks looked at; a parent's number is that of an earlier block. Assumes nothing.
 use Prim.Native.Nat.{◌+◌, ◌-◌, ◌≤◌}
 use mathlib.Core.Path.{◌≡◌, refl}
-use mathlib.Core.Logic.{⊎_elim}
 use native.Mathlib.Omega.{arith}
 use Rattle.places.specs.Layout.{parent_column}
 use Rattle.guess.specs.Sets.{all_with_parents}
@@ -9,6 +8,7 @@ use Rattle.guess.proofs.SetLaws.{with-parents-next, with-parents-none}
 use borrow.Author.Rules.{rules}
 use Rattle.guess.proofs.sets.closed.Statement.{statement}
 use Rattle.guess.proofs.sets.closed.Tie as tie
+use Rattle.guess.proofs.sets.closed.Lts.{then-parent-gt0, else-parent-gt0}
 
 abbrev invariant-loop : tie.invariant-loop-i
 invariant-loop blocks count r₀ i₀ r i = (i ≤ count) × (r ≡ all_with_parents blocks r₀ i)
@@ -58,10 +58,10 @@ loop-again c =
     let blocks = loop.args.blocks.now in
     let set = loop.args.set in (
       omega (arith, c.loop-i-test.true),
-      ⊎_elim
-          (λ w. rw w.1 (with-parents-next blocks set loop.loop-i.i loop.loop-i.r loop.loop-i.invariant.1 w.0.taken))
-          (λ w. rw w.1 (with-parents-none blocks set loop.loop-i.i loop.loop-i.r loop.loop-i.invariant.1 (omega (arith, w.0.left))))
-          c.if-parent-gt0.branch,
+      elim c.if-parent-gt0.branch [
+        | then-parent-gt0 w ↦ rw w.r-is (with-parents-next blocks set loop.loop-i.i loop.loop-i.r loop.loop-i.invariant.1 w.if-parent-gt0.true)
+        | else-parent-gt0 w ↦ rw w.r-is (with-parents-none blocks set loop.loop-i.i loop.loop-i.r loop.loop-i.invariant.1 (omega (arith, w.if-parent-gt0.false)))
+      ],
     )
 
 returns : tie.Need-returns invariant-loop decreases-loop

@@ -20,7 +20,7 @@ lost-small : (c : tie.After-choose invariant-loop decreases-loop) → c.choose.r
 lost-small c =
     let loop = c in
     let blocks = loop.args.blocks.now in
-    chosen_less (get_or loop.args.t3 loop.loop-i.i false) (get_or blocks (against_column + loop.loop-i.i) 0) (get_or blocks (gain_column + loop.loop-i.i) 0) (2 ^ 32) _ c.choose.ensures
+    chosen_less (get_or loop.args.set loop.loop-i.i false) (get_or blocks (against_column + loop.loop-i.i) 0) (get_or blocks (gain_column + loop.loop-i.i) 0) (2 ^ 32) _ c.choose.ensures
     (omega (arith, loop.shared_slice_known-1.given (against_column + loop.loop-i.i)))
     (omega (arith, loop.shared_slice_known-1.given (gain_column + loop.loop-i.i)))
 

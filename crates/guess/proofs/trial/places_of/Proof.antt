@@ -45,7 +45,7 @@ loop-less c = search rules
 loop-again : tie.Need-loop-i-preserved invariant-loop decreases-loop
 loop-again c =
     let loop = c in
-    (omega (arith, loop.loop-i.invariant.0, c.loop-i-test.true), places-moved loop.args.blocks.now loop.loop-i.places c.moved_where-more.result loop.loop-i.i c.if1.moves loop.requires.0 loop.loop-i.invariant.1 c.moved_where-more.ensures)
+    (omega (arith, loop.loop-i.invariant.0, c.loop-i-test.true), places-moved loop.args.blocks.now loop.loop-i.places c.moved_where-more.result loop.loop-i.i c.if-set-i.moves loop.requires.0 loop.loop-i.invariant.1 c.moved_where-more.ensures)
 
 returns : tie.Need-returns invariant-loop decreases-loop
 returns c = λ j. omega (arith, c.loop-i.invariant.1 j, c.loop-i.invariant.0, c.requires.1)

@@ -1,5 +1,5 @@
 -- `guess::trial::urgency_of` meets its contract: nothing where the block is not taken or misses nothing. Assumes nothing.
-use borrow.Author.Tests.{ne_eqb, not-true, not-false}
+use borrow.Author.Tests.{ne_eqb}
 use Rattle.guess.specs.Urgency.{urgency_in}
 use borrow.Author.Rules.{rules}
 use Rattle.guess.proofs.trial.urgency_of.Statement.{statement}
@@ -7,7 +7,7 @@ use Rattle.guess.proofs.trial.urgency_of.Tie as tie
 
 returns : tie.Need-returns-then-not-taken
 unfolding urgency_in
-returns c = rw (not-true c.args.taken c.if-not-taken.true)
+returns c = rw c.if-not-taken.true
 
 add-miss-of : tie.Need-overflow_add-i
 add-miss-of c = search rules
@@ -44,7 +44,7 @@ unfolding urgency_in
 returns-2 c =
     let missed = c in
     let chosen = missed in
-    rw (not-false chosen.args.taken chosen.if-not-taken.false, ← missed.miss_of-miss.ensures, c.if-miss-eq0.true)
+    rw (chosen.if-not-taken.false, ← missed.miss_of-miss.ensures, c.if-miss-eq0.true)
 
 add-urgency : tie.Need-overflow_add-i-4
 add-urgency c = search rules
@@ -68,7 +68,7 @@ returns-3 c =
     let missed = sized in
     let chosen = missed in
     rw (
-      not-false chosen.args.taken chosen.if-not-taken.false,
+      chosen.if-not-taken.false,
       ← missed.miss_of-miss.ensures,
       ne_eqb _ 0 sized.if-miss-eq0.false,
       ← sized.size_of.ensures,

@@ -1,8 +1,10 @@
 -- `order::columns::with_links` meets its contract: the parents, twins and ranks at the places before j stand. Assumes nothing.
-use Prim.Native.Nat.{ℕ, ◌-◌, ◌<◌}
+use Prim.Native.Nat.{ℕ, ◌-◌, ◌≤◌, ◌<◌}
+use mathlib.Core.List.{List}
 use native.Mathlib.Omega.{arith}
 use lib.ListN.{get_or}
 use Rattle.book.specs.Bounds.{most_blocks}
+use Rattle.order.specs.Order.{IsOrderOf}
 use Rattle.order.proofs.ColumnLaws.{LinksTo, links-start, links-next, links-all}
 use borrow.Author.Rules.{rules}
 use Rattle.order.proofs.columns.with_links.Statement.{statement}
@@ -14,15 +16,10 @@ invariant-loop blocks place count order r₀ j₀ r j = LinksTo count order plac
 abbrev decreases-loop : tie.decreases-loop-j
 decreases-loop blocks place count order r₀ j₀ r j = count - j
 
--- the number of the block at place j
-abbrev block-at : tie.In-loop-j invariant-loop decreases-loop → ℕ
-block-at c = get_or c.args.place c.loop-j.j 0
-
--- it fits
-block-fits : (c : tie.In-loop-j invariant-loop decreases-loop) → block-at c < most_blocks
-block-fits c =
-    let start = c in
-    omega (arith, start.requires.2.order_in c.loop-j.j c.loop-j-test.true, start.requires.1)
+-- the number of the block at place j fits
+block-fits : {blocks : List ℕ} {count : ℕ} {order place : List ℕ} → IsOrderOf blocks count order place → (j : ℕ) → j < count → count ≤ most_blocks →
+    get_or order j 0 < most_blocks
+block-fits of j less few = omega (arith, of.order_in j less)
 
 loop-holds : tie.Need-loop-j-init invariant-loop decreases-loop
 loop-holds c = links-start _ _ _ _ _ c.requires.3
@@ -34,19 +31,19 @@ array-read-i : tie.Need-bounds-order-j invariant-loop decreases-loop
 array-read-i c = search rules
 
 add-placed-name : tie.Need-overflow_add-i invariant-loop decreases-loop
-add-placed-name c = omega (arith, block-fits c)
+add-placed-name c = omega (arith, block-fits c.requires.2 c.loop-j.j c.loop-j-test.true c.requires.1)
 
 mul-placed-name : tie.Need-offset_bounds-blocks-i invariant-loop decreases-loop
-mul-placed-name c = omega (arith, block-fits c)
+mul-placed-name c = omega (arith, block-fits c.requires.2 c.loop-j.j c.loop-j-test.true c.requires.1)
 
 shared-slice-read-placed-name : tie.Need-bounds-blocks-i invariant-loop decreases-loop
-shared-slice-read-placed-name c = omega (arith, block-fits c)
+shared-slice-read-placed-name c = omega (arith, block-fits c.requires.2 c.loop-j.j c.loop-j-test.true c.requires.1)
 
 placed-name-requires : tie.Need-placed_name-requires invariant-loop decreases-loop
 placed-name-requires c κs =
     let turn = c in
     let start = turn in (
-      omega (arith, start.requires.0.parents_fit (block-at turn) (block-fits turn), block-fits turn),
+      omega (arith, start.requires.0.parents_fit (get_or c.args.order c.loop-j.j 0) (block-fits c.requires.2 c.loop-j.j c.loop-j-test.true c.requires.1), block-fits c.requires.2 c.loop-j.j c.loop-j-test.true c.requires.1),
       omega (arith, start.requires.2.parents_before turn.loop-j.j turn.loop-j-test.true, start.requires.1, turn.loop-j-test.true),
     )
 
@@ -60,19 +57,19 @@ array-write-r : tie.Need-bounds-r-j invariant-loop decreases-loop
 array-write-r c = search rules
 
 add-earlier-name : tie.Need-overflow_add-i-in-loop-j invariant-loop decreases-loop
-add-earlier-name c = omega (arith, block-fits c)
+add-earlier-name c = omega (arith, block-fits c.requires.2 c.loop-j.j c.loop-j-test.true c.requires.1)
 
 mul-earlier-name : tie.Need-offset_bounds-blocks-i-in-loop-j invariant-loop decreases-loop
-mul-earlier-name c = omega (arith, block-fits c)
+mul-earlier-name c = omega (arith, block-fits c.requires.2 c.loop-j.j c.loop-j-test.true c.requires.1)
 
 shared-slice-read-earlier-name : tie.Need-bounds-blocks-i-in-loop-j invariant-loop decreases-loop
-shared-slice-read-earlier-name c = omega (arith, block-fits c)
+shared-slice-read-earlier-name c = omega (arith, block-fits c.requires.2 c.loop-j.j c.loop-j-test.true c.requires.1)
 
 earlier-name-requires : tie.Need-earlier_name-requires invariant-loop decreases-loop
 earlier-name-requires c κs =
     let turn = c in
     let start = turn in
-    ((start.requires.0.twins_fit (block-at turn) (block-fits turn)).0, omega (arith, start.requires.1, turn.loop-j-test.true))
+    ((start.requires.0.twins_fit (get_or c.args.order c.loop-j.j 0) (block-fits c.requires.2 c.loop-j.j c.loop-j-test.true c.requires.1)).0, omega (arith, start.requires.1, turn.loop-j-test.true))
 
 add-r-2 : tie.Need-overflow_add-r-in-loop-j invariant-loop decreases-loop
 add-r-2 c = search rules
@@ -84,19 +81,19 @@ array-write-r-2 : tie.Need-bounds-r-j-in-loop-j invariant-loop decreases-loop
 array-write-r-2 c = search rules
 
 add-earlier-name-2 : tie.Need-overflow_add-i-in-loop-j-2 invariant-loop decreases-loop
-add-earlier-name-2 c = omega (arith, block-fits c)
+add-earlier-name-2 c = omega (arith, block-fits c.requires.2 c.loop-j.j c.loop-j-test.true c.requires.1)
 
 mul-earlier-name-2 : tie.Need-offset_bounds-blocks-i-in-loop-j-2 invariant-loop decreases-loop
-mul-earlier-name-2 c = omega (arith, block-fits c)
+mul-earlier-name-2 c = omega (arith, block-fits c.requires.2 c.loop-j.j c.loop-j-test.true c.requires.1)
 
 shared-slice-read-earlier-name-2 : tie.Need-bounds-blocks-i-in-loop-j-2 invariant-loop decreases-loop
-shared-slice-read-earlier-name-2 c = omega (arith, block-fits c)
+shared-slice-read-earlier-name-2 c = omega (arith, block-fits c.requires.2 c.loop-j.j c.loop-j-test.true c.requires.1)
 
 earlier-name-requires-2 : tie.Need-earlier_name-requires-in-loop-j invariant-loop decreases-loop
 earlier-name-requires-2 c κs =
     let turn = c in
     let start = turn in
-    ((start.requires.0.twins_fit (block-at turn) (block-fits turn)).1, omega (arith, start.requires.1, turn.loop-j-test.true))
+    ((start.requires.0.twins_fit (get_or c.args.order c.loop-j.j 0) (block-fits c.requires.2 c.loop-j.j c.loop-j-test.true c.requires.1)).1, omega (arith, start.requires.1, turn.loop-j-test.true))
 
 add-r-3 : tie.Need-overflow_add-r-in-loop-j-2 invariant-loop decreases-loop
 add-r-3 c = search rules
@@ -108,10 +105,10 @@ array-write-r-3 : tie.Need-bounds-r-j-in-loop-j-2 invariant-loop decreases-loop
 array-write-r-3 c = search rules
 
 cast-rank-of : tie.Need-overflow_cast-i invariant-loop decreases-loop
-cast-rank-of c = omega (arith, block-fits c)
+cast-rank-of c = omega (arith, block-fits c.requires.2 c.loop-j.j c.loop-j-test.true c.requires.1)
 
 rank-of-requires : tie.Need-rank_of-requires invariant-loop decreases-loop
-rank-of-requires c κs = block-fits c
+rank-of-requires c κs = block-fits c.requires.2 c.loop-j.j c.loop-j-test.true c.requires.1
 
 add-r-4 : tie.Need-overflow_add-r-in-loop-j-3 invariant-loop decreases-loop
 add-r-4 c = search rules

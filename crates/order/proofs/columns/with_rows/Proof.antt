@@ -1,9 +1,11 @@
 -- `order::columns::with_rows` meets its contract: the numbers before k of the rows stand. Assumes nothing.
-use Prim.Native.Nat.{◌-◌, ◌*◌, ◌/◌, ◌<◌}
+use Prim.Native.Nat.{ℕ, ◌-◌, ◌*◌, ◌/◌, ◌≤◌, ◌<◌}
+use mathlib.Core.List.{List}
 use native.Mathlib.Omega.{arith}
 use lib.ListN.{get_or}
 use Rattle.book.specs.Bounds.{most_blocks}
 use Rattle.places.specs.Layout.{hour_places}
+use Rattle.order.specs.Order.{EachBelow}
 use Rattle.order.proofs.ColumnLaws.{RowsTo, rows_start, rows_next, rows_all}
 use borrow.Author.Rules.{rules}
 use Rattle.order.proofs.columns.with_rows.Statement.{statement}
@@ -16,10 +18,9 @@ abbrev decreases-loop : tie.decreases-loop-k
 decreases-loop blocks count order r₀ k₀ r k = hour_places * count - k
 
 -- the number of the block whose row it is fits
-block-fits : (c : tie.In-loop-k invariant-loop decreases-loop) → get_or c.args.count (c.loop-k.k / hour_places) 0 < most_blocks
-block-fits c =
-    let start = c in
-    omega (arith, start.requires.2 (c.loop-k.k / hour_places) (omega (arith, c.loop-k-test.true)), start.requires.1)
+block-fits : (count : ℕ) (order : List ℕ) → EachBelow count count order → count ≤ most_blocks → (k : ℕ) → k < hour_places * count →
+    get_or order (k / hour_places) 0 < most_blocks
+block-fits count order below few k less = omega (arith, below (k / hour_places) (omega (arith, less)), few)
 
 loop-holds : tie.Need-loop-k-init invariant-loop decreases-loop
 loop-holds c = rows_start _ _ _ _ (search rules)
@@ -34,19 +35,19 @@ array-read-row : tie.Need-bounds-order-k invariant-loop decreases-loop
 array-read-row c = search rules
 
 mul-row-2 : tie.Need-overflow_mul-row invariant-loop decreases-loop
-mul-row-2 c = omega (arith, block-fits c)
+mul-row-2 c = omega (arith, block-fits c.args.count c.args.order c.requires.2 c.requires.1 c.loop-k.k c.loop-k-test.true)
 
 add_row : tie.Need-overflow_add-row invariant-loop decreases-loop
-add_row c = omega (arith, block-fits c)
+add_row c = omega (arith, block-fits c.args.count c.args.order c.requires.2 c.requires.1 c.loop-k.k c.loop-k-test.true)
 
 add_r : tie.Need-overflow_add-r invariant-loop decreases-loop
-add_r c = omega (arith, block-fits c)
+add_r c = omega (arith, block-fits c.args.count c.args.order c.requires.2 c.requires.1 c.loop-k.k c.loop-k-test.true)
 
 mul-r : tie.Need-offset_bounds-blocks-row invariant-loop decreases-loop
-mul-r c = omega (arith, block-fits c)
+mul-r c = omega (arith, block-fits c.args.count c.args.order c.requires.2 c.requires.1 c.loop-k.k c.loop-k-test.true)
 
 shared-slice-read-r : tie.Need-bounds-blocks-row invariant-loop decreases-loop
-shared-slice-read-r c = omega (arith, block-fits c)
+shared-slice-read-r c = omega (arith, block-fits c.args.count c.args.order c.requires.2 c.requires.1 c.loop-k.k c.loop-k-test.true)
 
 add-r-2 : tie.Need-overflow_add-r-in-loop-k invariant-loop decreases-loop
 add-r-2 c = search rules

@@ -2,7 +2,7 @@
 use Prim.Native.Nat.{◌≤◌}
 use mathlib.Core.Path.{sym, ◌∙◌}
 use native.Mathlib.Omega.{arith}
-use borrow.Author.Tests.{leb-true, not-true, not-false}
+use borrow.Author.Tests.{leb-true}
 use Rattle.order.specs.Order.{placed_name}
 use Rattle.order.proofs.NameLaws.{earlier-none, earlier-behind, earlier-kept}
 use borrow.Author.Rules.{rules}
@@ -16,20 +16,20 @@ stands-before-requires : tie.Need-stands_before-requires
 stands-before-requires c κs = search rules
 
 returns-2 : tie.Need-returns-then-not-stands_before
-returns-2 c = earlier-behind _ _ _ _ (sym c.stands_before.ensures ∙ not-true _ c.if-not-stands_before.true)
+returns-2 c = earlier-behind _ _ _ _ (sym c.stands_before.ensures ∙ c.if-not-stands_before.true)
 
 placed-name-requires : tie.Need-placed_name-requires
 placed-name-requires c κs =
     let start = c in
     let before : placed_name start.args.place start.args.name ≤ start.args.j =
-    leb-true _ _ (sym c.stands_before.ensures ∙ not-false _ c.if-not-stands_before.false) in
+    leb-true _ _ (sym c.stands_before.ensures ∙ c.if-not-stands_before.false) in
     (start.requires.0, omega (arith, start.requires.1))
 
 returns-3 : tie.Need-returns
 returns-3 c =
     let test = c in
     let few = test.if-count-name.false in
-    c.placed_name.ensures ∙ earlier-kept _ _ _ _ few (sym test.stands_before.ensures ∙ not-false _ test.if-not-stands_before.false)
+    c.placed_name.ensures ∙ earlier-kept _ _ _ _ few (sym test.stands_before.ensures ∙ test.if-not-stands_before.false)
 
 pub earlier_name_spec : {M : Type 1} → statement M
 earlier_name_spec =

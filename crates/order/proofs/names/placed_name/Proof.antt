@@ -8,7 +8,7 @@ use Rattle.order.proofs.names.placed_name.Tie as tie
 returns : tie.Need-returns-then-name-eq0
 returns c =
     let a = c.args in
-    rw (name-none a.t1 a.name (omega arith))
+    rw (name-none a.place a.name (omega arith))
 
 sub-result : tie.Need-overflow_sub-result
 sub-result c = search rules
@@ -25,17 +25,17 @@ array-read-result c = search rules
 add-result : tie.Need-overflow_add-result
 add-result c =
     let a = c.args in
-    omega (arith, name-some a.t1 a.name (omega arith))
+    omega (arith, name-some a.place a.name (omega arith))
 
 cast-result-2 : tie.Need-overflow_cast-result-2
 cast-result-2 c =
     let a = c.args in
-    omega (arith, name-some a.t1 a.name (omega arith))
+    omega (arith, name-some a.place a.name (omega arith))
 
 returns-2 : tie.Need-returns
 returns-2 c =
     let a = c.args in
-    omega (arith, name-some a.t1 a.name (omega arith))
+    omega (arith, name-some a.place a.name (omega arith))
 
 pub placed_name_spec : {M : Type 1} → statement M
 placed_name_spec =

@@ -9,7 +9,7 @@ use Rattle.order.proofs.names.stands_before.Tie as tie
 returns : tie.Need-returns-then-name-eq0
 returns c =
     let a = c.args in
-    rw (name-none a.t1 a.name (omega arith), le-leb 0 a.j (omega arith))
+    rw (name-none a.place a.name (omega arith), le-leb 0 a.j (omega arith))
 
 sub-result : tie.Need-overflow_sub-result
 sub-result c = search rules
@@ -26,7 +26,7 @@ array-read-result c = search rules
 returns-2 : tie.Need-returns
 returns-2 c =
     let a = c.args in
-    rw (name-some a.t1 a.name (omega arith))
+    rw (name-some a.place a.name (omega arith))
 
 pub stands_before_spec : {M : Type 1} → statement M
 stands_before_spec =

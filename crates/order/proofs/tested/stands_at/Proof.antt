@@ -50,7 +50,7 @@ shared-slice-read-stands-before c = search rules
 stands-before-requires : tie.Need-stands_before-requires
 stands-before-requires c κs =
     let start = c in
-    let i = get_or start.args.place start.args.j 0 in
+    let i = get_or start.args.order start.args.j 0 in
     let inside : i < most_blocks = omega (arith, c.if-count-i.false, start.requires.1) in
     omega (arith, start.requires.0.parents_fit i inside)
 

@@ -31,7 +31,7 @@ size : (s : tie.Start invariant-loop decreases-loop) → length s.args.places �
 size s = search rules
 
 -- what is added is at most the row
-added : (c : tie.After-shared_slice_known-in-loop-h-1 invariant-loop decreases-loop) →
+added : (c : tie.In-loop-h invariant-loop decreases-loop) →
     c.number_of-times.result * get_or c.args.blocks.now
     (rows_column + hour_places * c.args.i + c.loop-h.h) 0 ≤ most_added
 added c =
@@ -45,7 +45,7 @@ added c =
     )
 
 loop-holds : tie.Need-loop-h-init invariant-loop decreases-loop
-loop-holds c = row-start _ _ _ _ (size c)
+loop-holds c = row-start _ _ _ _ (size c.before.before)
 
 add_r : tie.Need-overflow_add-r invariant-loop decreases-loop
 add_r c = search rules
@@ -57,7 +57,7 @@ shared-slice-read-r : tie.Need-bounds-blocks-row invariant-loop decreases-loop
 shared-slice-read-r c = search rules
 
 mul-r-2 : tie.Need-overflow_mul-r invariant-loop decreases-loop
-mul-r-2 c = omega (arith, added c)
+mul-r-2 c = omega (arith, added c.before)
 
 mul-r-3 : tie.Need-offset_bounds-r-h invariant-loop decreases-loop
 mul-r-3 c = search rules
@@ -68,7 +68,7 @@ array-read-r c = search rules
 add-r-2 : tie.Need-overflow_add-r-in-loop-h invariant-loop decreases-loop
 add-r-2 c =
     let v = c.loop-h in
-    omega (arith, added c, v.invariant.ahead v.h (omega arith), c.requires.2 v.h)
+    omega (arith, added c.before, v.invariant.ahead v.h (omega arith), c.requires.2 v.h)
 
 array-write-r : tie.Need-bounds-r-h-in-loop-h invariant-loop decreases-loop
 array-write-r c = search rules

@@ -20,12 +20,12 @@ own-inside c =
     let s = c in
     let a = s.args in
     let near = rw c.larger.ensures at c.smaller-place.ensures in
-    let below = (smaller-below (larger (get_or a.turn.now change_row 0) (get_or a.t3 change_row 0)) (get_or a.t4 change_row 0)).1 in
-    place_inside a.gap.now change_row c.smaller-place.result s.pre.0 (omega arith) (omega (arith, s.pre.2 change_row (omega arith)))
+    let below = (smaller-below (larger (get_or a.turn.now change_row 0) (get_or a.from change_row 0)) (get_or a.to change_row 0)).1 in
+    place_inside a.gap.now change_row c.smaller-place.result s.requires.0 (omega arith) (omega (arith, s.requires.2 change_row (omega arith)))
 
 -- its gap is the one that counts
 own_is : (c : tie.After-smaller-place) → let a = c.args in
-    get_or a.gap.now (change_row * row_width a.gap.now + c.smaller-place.result) 0 ≡ least_gap a.gap.now a.turn.now a.t3 a.t4 change_hour
+    get_or a.gap.now (change_row * row_width a.gap.now + c.smaller-place.result) 0 ≡ least_gap a.gap.now a.turn.now a.from a.to change_hour
 own_is c = rw (c.smaller-place.ensures, c.larger.ensures)
 
 least-gaps-requires : tie.Need-least_gaps-once-requires
@@ -59,18 +59,18 @@ mul-own-2 : tie.Need-offset_bounds-gap-width
 mul-own-2 c = record { fits = omega (arith, own-inside c) }
 
 shared-slice-read-own : tie.Need-bounds-gap-width
-shared-slice-read-own c = omega (arith, own-inside c)
+shared-slice-read-own c = omega (arith, own-inside c.before)
 
 counted-sum-requires : tie.Need-counted_sum-requires
 counted-sum-requires c κs =
     let s = c in
     let once = s.least_gaps-once.ensures in
-    (rw (own_is s, once.0) (own-within _), once.1, s.pre.3)
+    (rw (own_is s.before, once.0) (own-within _), once.1, s.requires.3)
 
 returns : tie.Need-returns
 returns c =
     let s = c in
-    (counted_is _ _ _ _ _ s.least_gaps-once.ensures.0 (own_is s) c.counted_sum.ensures.0, c.counted_sum.ensures.1)
+    (counted_is _ _ _ _ _ s.least_gaps-once.ensures.0 (own_is s.before.before) c.counted_sum.ensures.0, c.counted_sum.ensures.1)
 
 pub counted_least_gaps_spec : {M : Type 1} → statement M
 counted_least_gaps_spec =

@@ -13,13 +13,13 @@ array-read-counted : tie.Need-bounds-prices-2
 array-read-counted c = search rules
 
 mul-counted : tie.Need-overflow_mul-counted
-mul-counted c = record { fits = omega (arith, product_le c.args.often (get_or c.args.often 2 0) 2 max_price c.requires.1 (c.requires.0 2)) }
+mul-counted c = record { fits = omega (arith, product_le c.args.often (get_or c.args.prices 2 0) 2 max_price c.requires.1 (c.requires.0 2)) }
 
 array-write-counted : tie.Need-bounds-counted-2
 array-write-counted c = search rules
 
 returns : tie.Need-returns
-returns c = (refl, counted-small c.args.often c.args.often c.requires.1 (search rules) c.requires.0)
+returns c = (refl, counted-small c.args.often c.args.prices c.requires.1 (search rules) c.requires.0)
 
 pub counted_prices_spec : {M : Type 1} → statement M
 counted_prices_spec =

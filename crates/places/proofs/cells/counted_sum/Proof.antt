@@ -9,7 +9,7 @@ use Rattle.places.proofs.cells.counted_sum.Statement.{statement}
 use Rattle.places.proofs.cells.counted_sum.Tie as tie
 
 room : (c : tie.Start) → let a = c.args in
-    (a.often * a.own_val < 2 ^ 34) × (a.sum - a.own_val + a.often * a.own_val + a.own_val ≡ a.sum + a.often * a.own_val) × (a.sum - a.own_val + a.often * a.own_val ≤ most_counted_gaps)
+    (a.often * a.own < 2 ^ 34) × (a.sum - a.own + a.often * a.own + a.own ≡ a.sum + a.often * a.own) × (a.sum - a.own + a.often * a.own ≤ most_counted_gaps)
 room c = counted-room c.args.sum c.args.own c.args.often c.requires.0 c.requires.1 (search rules) c.requires.2
 
 sub-result : tie.Need-overflow_sub-result

@@ -17,13 +17,13 @@ decreases-loop gap first last places width sum₀ h₀ sum h = hour_places - h
 
 -- the cell of an hour that clears at its place is within the table
 cell-inside : (c : tie.Else-place-first invariant-loop decreases-loop) → let a = c in let g = a.args in
-    (a.loop-h.h * row_width g.gap.now + get_or g.t4 a.loop-h.h 0 + 1 < length g.gap.now) × (length g.gap.now < hour_places * (last_place + 3))
+    (a.loop-h.h * row_width g.gap.now + get_or g.places a.loop-h.h 0 + 1 < length g.gap.now) × (length g.gap.now < hour_places * (last_place + 3))
 cell-inside c =
     let a = c in
     let s = a in
     let g = s.args in
-    place_inside g.gap.now a.loop-h.h (get_or g.t4 a.loop-h.h 0) s.requires.0 c.loop-h-test.true
-    (passed-fits g.gap.now g.first.now g.last.now g.t4 _ a.loop-h.h s.requires.3 c.if-place-first.false)
+    place_inside g.gap.now a.loop-h.h (get_or g.places a.loop-h.h 0) s.requires.0 c.loop-h-test.true
+    (passed-fits g.gap.now g.first.now g.last.now g.places _ a.loop-h.h s.requires.3 c.if-place-first.false)
 
 loop-holds : tie.Need-loop-h-init invariant-loop decreases-loop
 loop-holds c = gaps-start _ _ _ _
@@ -62,19 +62,19 @@ mul-cell-2 : tie.Need-offset_bounds-gap-h invariant-loop decreases-loop
 mul-cell-2 c = omega (arith, cell-inside c)
 
 shared-slice-read-cell : tie.Need-bounds-gap-h invariant-loop decreases-loop
-shared-slice-read-cell c = omega (arith, cell-inside c)
+shared-slice-read-cell c = omega (arith, cell-inside c.before)
 
 cast-sum : tie.Need-overflow_cast-sum invariant-loop decreases-loop
 cast-sum c =
     let a = c in
     let g = a.args in
-    omega (arith, c.shared_slice_known-in-loop-h-2-1.given (a.loop-h.h * row_width g.gap.now + get_or g.t4 a.loop-h.h 0))
+    omega (arith, c.shared_slice_known-in-loop-h-2-1.given (a.loop-h.h * row_width g.gap.now + get_or g.places a.loop-h.h 0))
 
 add-sum : tie.Need-overflow_add-sum invariant-loop decreases-loop
 add-sum c =
     let a = c in
     let g = a.args in
-    omega (arith, c.shared_slice_known-in-loop-h-2-1.given (a.loop-h.h * row_width g.gap.now + get_or g.t4 a.loop-h.h 0), a.loop-h.invariant.fits, a.loop-h.invariant.inside)
+    omega (arith, c.shared_slice_known-in-loop-h-2-1.given (a.loop-h.h * row_width g.gap.now + get_or g.places a.loop-h.h 0), a.loop-h.invariant.fits, a.loop-h.invariant.inside)
 
 add-h : tie.Need-overflow_add-h invariant-loop decreases-loop
 add-h c = search rules
@@ -86,7 +86,7 @@ loop-again : tie.Need-loop-h-preserved invariant-loop decreases-loop
 loop-again c =
     let a = c in
     gaps-next _ _ _ _ _ _ a.loop-h.invariant c.loop-h-test.true c.if-place-first.false
-    (omega (arith, c.shared_slice_known-in-loop-h-2-1.given (a.loop-h.h * row_width a.args.gap.now + get_or a.args.t4 a.loop-h.h 0)))
+    (omega (arith, c.shared_slice_known-in-loop-h-2-1.given (a.loop-h.h * row_width a.args.gap.now + get_or a.args.places a.loop-h.h 0)))
 
 returns-2 : tie.Need-returns invariant-loop decreases-loop
 returns-2 c = gaps-all _ _ _ _ _ _ c.loop-h.invariant c.loop-h-test.false

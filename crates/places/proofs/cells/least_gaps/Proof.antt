@@ -31,7 +31,7 @@ cell-inside c =
     let v = a.loop-h in
     let k = c.loop-h-test.true in
     let near = rw c.larger.ensures at c.smaller-place.ensures in
-    let below = (smaller-below (larger (get_or s.args.turn.now v.h 0) (get_or s.args.to v.h 0)) (get_or s.args.t4 v.h 0)).1 in
+    let below = (smaller-below (larger (get_or s.args.turn.now v.h 0) (get_or s.args.from v.h 0)) (get_or s.args.to v.h 0)).1 in
     place_inside s.args.gap.now v.h c.smaller-place.result s.requires.0 k (omega (arith, s.requires.2 v.h k))
 
 loop-holds : tie.Need-loop-h-init invariant-loop decreases-loop
@@ -74,7 +74,7 @@ mul-sum-2 : tie.Need-offset_bounds-gap-h invariant-loop decreases-loop
 mul-sum-2 c = omega (arith, cell-inside c)
 
 shared-slice-read-sum : tie.Need-bounds-gap-h invariant-loop decreases-loop
-shared-slice-read-sum c = omega (arith, cell-inside c)
+shared-slice-read-sum c = omega (arith, cell-inside c.before)
 
 cast-sum-2 : tie.Need-overflow_cast-sum-in-loop-h invariant-loop decreases-loop
 cast-sum-2 c = omega (arith, gap-small c)

@@ -11,24 +11,24 @@ use Rattle.places.proofs.cells.prices_at.Statement.{statement}
 use Rattle.places.proofs.cells.prices_at.Tie as tie
 
 abbrev invariant-loop : tie.invariant-loop-h
-invariant-loop unit-prices places width prices₀ h₀ prices h = PricesTo middle unit-prices places h prices
+invariant-loop unit_prices places width prices₀ h₀ prices h = PricesTo middle unit_prices places h prices
 
 abbrev decreases-loop : tie.decreases-loop-h
-decreases-loop unit-prices places width prices₀ h₀ prices h = hour_places - h
+decreases-loop unit_prices places width prices₀ h₀ prices h = hour_places - h
 
 -- the two cells of an hour are within the table
 cells-inside : (a : tie.At-loop-h invariant-loop decreases-loop) → a.loop-h.h < hour_places → let g = a.args in
-    (a.loop-h.h * row_width g.unit-prices.now + get_or g.t2 a.loop-h.h 0 + 1 < length g.unit-prices.now)
-    × (length g.unit-prices.now < hour_places * (last_place + 3))
+    (a.loop-h.h * row_width g.unit_prices.now + get_or g.places a.loop-h.h 0 + 1 < length g.unit_prices.now)
+    × (length g.unit_prices.now < hour_places * (last_place + 3))
 cells-inside a k =
     let s = a in
-    place_inside s.args.unit_prices.now a.loop-h.h (get_or s.args.t2 a.loop-h.h 0) s.requires.0 k (s.requires.2 a.loop-h.h)
+    place_inside s.args.unit_prices.now a.loop-h.h (get_or s.args.places a.loop-h.h 0) s.requires.0 k (s.requires.2 a.loop-h.h)
 
 loop-holds : tie.Need-loop-h-init invariant-loop decreases-loop
 loop-holds c = prices-start middle _ _
 
 mul_at : tie.Need-overflow_mul-at invariant-loop decreases-loop
-mul_at c = omega (arith, cells-inside c c.loop-h-test.true)
+mul_at c = omega (arith, cells-inside c.before c.loop-h-test.true)
 
 mul-at-2 : tie.Need-offset_bounds-places-h invariant-loop decreases-loop
 mul-at-2 c = search rules
@@ -40,27 +40,27 @@ cast-at : tie.Need-overflow_cast-at invariant-loop decreases-loop
 cast-at c = search rules
 
 add_at : tie.Need-overflow_add-at invariant-loop decreases-loop
-add_at c = omega (arith, cells-inside c c.loop-h-test.true)
+add_at c = omega (arith, cells-inside c.before c.loop-h-test.true)
 
 mul-prices : tie.Need-offset_bounds-unit_prices-at invariant-loop decreases-loop
-mul-prices c = omega (arith, cells-inside c c.loop-h-test.true)
+mul-prices c = omega (arith, cells-inside c.before c.loop-h-test.true)
 
 shared-slice-read-prices : tie.Need-bounds-unit_prices-at invariant-loop decreases-loop
-shared-slice-read-prices c = omega (arith, cells-inside c c.loop-h-test.true)
+shared-slice-read-prices c = omega (arith, cells-inside c.before.before c.loop-h-test.true)
 
 add-prices : tie.Need-overflow_add-prices invariant-loop decreases-loop
-add-prices c = omega (arith, cells-inside c c.loop-h-test.true)
+add-prices c = omega (arith, cells-inside c.before.before c.loop-h-test.true)
 
 mul-prices-2 : tie.Need-offset_bounds-unit_prices-at-in-loop-h invariant-loop decreases-loop
-mul-prices-2 c = omega (arith, cells-inside c c.loop-h-test.true)
+mul-prices-2 c = omega (arith, cells-inside c.before.before c.loop-h-test.true)
 
 shared-slice-read-prices-2 : tie.Need-bounds-unit_prices-at-in-loop-h invariant-loop decreases-loop
-shared-slice-read-prices-2 c = omega (arith, cells-inside c c.loop-h-test.true)
+shared-slice-read-prices-2 c = omega (arith, cells-inside c.before.before.before c.loop-h-test.true)
 
 add-prices-2 : tie.Need-overflow_add-prices-in-loop-h invariant-loop decreases-loop
 add-prices-2 c =
     let a = c in
-    let at = a.loop-h.h * row_width a.args.unit_prices.now + get_or a.args.t2 a.loop-h.h 0 in
+    let at = a.loop-h.h * row_width a.args.unit_prices.now + get_or a.args.places a.loop-h.h 0 in
     omega (arith, a.requires.1 at, a.requires.1 (at + 1))
 
 mul-prices-3 : tie.Need-offset_bounds-prices-h invariant-loop decreases-loop

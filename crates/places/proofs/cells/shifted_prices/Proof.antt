@@ -11,24 +11,24 @@ use Rattle.places.proofs.cells.shifted_prices.Statement.{statement}
 use Rattle.places.proofs.cells.shifted_prices.Tie as tie
 
 abbrev invariant-loop : tie.invariant-loop-h
-invariant-loop unit-prices t places width prices₀ h₀ prices h = PricesTo (shifted t) unit-prices places h prices
+invariant-loop unit_prices t places width prices₀ h₀ prices h = PricesTo (shifted t) unit_prices places h prices
 
 abbrev decreases-loop : tie.decreases-loop-h
-decreases-loop unit-prices t places width prices₀ h₀ prices h = hour_places - h
+decreases-loop unit_prices t places width prices₀ h₀ prices h = hour_places - h
 
 -- the two cells of an hour are within the table
 cells-inside : (a : tie.At-loop-h invariant-loop decreases-loop) → a.loop-h.h < hour_places → let g = a.args in
-    (a.loop-h.h * row_width g.unit-prices.now + get_or g.t2 a.loop-h.h 0 + 1 < length g.unit-prices.now)
-    × (length g.unit-prices.now < hour_places * (last_place + 3))
+    (a.loop-h.h * row_width g.unit_prices.now + get_or g.places a.loop-h.h 0 + 1 < length g.unit_prices.now)
+    × (length g.unit_prices.now < hour_places * (last_place + 3))
 cells-inside a k =
     let s = a in
-    place_inside s.args.unit_prices.now a.loop-h.h (get_or s.args.t a.loop-h.h 0) s.requires.0 k (s.requires.2 a.loop-h.h)
+    place_inside s.args.unit_prices.now a.loop-h.h (get_or s.args.places a.loop-h.h 0) s.requires.0 k (s.requires.2 a.loop-h.h)
 
 loop-holds : tie.Need-loop-h-init invariant-loop decreases-loop
 loop-holds c = prices-start _ _ _
 
 mul_at : tie.Need-overflow_mul-at invariant-loop decreases-loop
-mul_at c = omega (arith, cells-inside c c.loop-h-test.true)
+mul_at c = omega (arith, cells-inside c.before c.loop-h-test.true)
 
 mul-at-2 : tie.Need-offset_bounds-places-h invariant-loop decreases-loop
 mul-at-2 c = search rules
@@ -40,22 +40,22 @@ cast-at : tie.Need-overflow_cast-at invariant-loop decreases-loop
 cast-at c = search rules
 
 add_at : tie.Need-overflow_add-at invariant-loop decreases-loop
-add_at c = omega (arith, cells-inside c c.loop-h-test.true)
+add_at c = omega (arith, cells-inside c.before c.loop-h-test.true)
 
 add-shifted-price : tie.Need-overflow_add-at-in-loop-h invariant-loop decreases-loop
-add-shifted-price c = omega (arith, cells-inside c c.loop-h-test.true)
+add-shifted-price c = omega (arith, cells-inside c.before c.loop-h-test.true)
 
 mul-shifted-price : tie.Need-offset_bounds-unit_prices-at invariant-loop decreases-loop
-mul-shifted-price c = omega (arith, cells-inside c c.loop-h-test.true)
+mul-shifted-price c = omega (arith, cells-inside c.before c.loop-h-test.true)
 
 shared-slice-read-shifted-price : tie.Need-bounds-unit_prices-at invariant-loop decreases-loop
-shared-slice-read-shifted-price c = omega (arith, cells-inside c c.loop-h-test.true)
+shared-slice-read-shifted-price c = omega (arith, cells-inside c.before.before c.loop-h-test.true)
 
 mul-shifted-price-2 : tie.Need-offset_bounds-unit_prices-at-in-loop-h invariant-loop decreases-loop
-mul-shifted-price-2 c = omega (arith, cells-inside c c.loop-h-test.true)
+mul-shifted-price-2 c = omega (arith, cells-inside c.before.before c.loop-h-test.true)
 
 shared-slice-read-shifted-price-2 : tie.Need-bounds-unit_prices-at-in-loop-h invariant-loop decreases-loop
-shared-slice-read-shifted-price-2 c = omega (arith, cells-inside c c.loop-h-test.true)
+shared-slice-read-shifted-price-2 c = omega (arith, cells-inside c.before.before.before c.loop-h-test.true)
 
 shifted-price-requires : tie.Need-shifted_price-requires invariant-loop decreases-loop
 shifted-price-requires c κs =

@@ -2,7 +2,6 @@
 use Prim.Native.Nat.{◌≤◌}
 use mathlib.Core.Path.{◌≡◌, refl, sym, ◌∙◌}
 use native.Mathlib.Omega.{arith}
-use borrow.Author.Tests.{not-true, not-false}
 use Rattle.book.specs.Bounds.{most_blocks}
 use Rattle.places.specs.Blocks.{all_keep}
 use Rattle.places.proofs.LimitLaws.{keep-none, keep-fails, keep-passes, keep-skips}
@@ -62,7 +61,7 @@ returns : tie.Need-returns-then-not-keeps_limit invariant-loop decreases-loop
 returns c =
     let v = c in
     sym (v.loop-i.invariant.1 ∙ keep-fails _ _ _ _ _ v.loop-i-test.true c.if-chosen-eq1.true
-    (sym c.keeps_limit.ensures ∙ not-true _ c.if-not-keeps_limit.true))
+    (sym c.keeps_limit.ensures ∙ c.if-not-keeps_limit.true))
 
 loop-less : tie.Need-loop-i-smaller-else-not-keeps_limit invariant-loop decreases-loop
 loop-less c = search rules
@@ -72,7 +71,7 @@ loop-again c =
     let v = c in (
       omega (arith, v.loop-i.invariant.0),
       v.loop-i.invariant.1 ∙ keep-passes _ _ _ _ _ v.loop-i-test.true c.if-chosen-eq1.true
-          (sym c.keeps_limit.ensures ∙ not-false _ c.if-not-keeps_limit.false),
+          (sym c.keeps_limit.ensures ∙ c.if-not-keeps_limit.false),
     )
 
 loop-less-2 : tie.Need-loop-i-smaller invariant-loop decreases-loop

@@ -38,7 +38,7 @@ free-size : (s : tie.Start invariant-loop decreases-loop) → length s.args.free
 free-size s = search rules
 
 -- what is added is at most the row
-added : (c : tie.After-shared_slice_known-in-loop-h-1 invariant-loop decreases-loop) (t : Bool) (n : ℕ) → n ≡ cond t 1 0 →
+added : (c : tie.In-loop-h invariant-loop decreases-loop) (t : Bool) (n : ℕ) → n ≡ cond t 1 0 →
     n * get_or c.args.blocks.now
     (rows_column + hour_places * c.args.i + c.loop-h.h) 0 ≤ most_added
 added c t n e =
@@ -47,7 +47,7 @@ added c t n e =
     omega (arith, row, times-le t n (get_or s.args.blocks.now (rows_column + hour_places * s.args.i + c.loop-h.h) 0) e)
 
 loop-holds : tie.Need-loop-h-init invariant-loop decreases-loop
-loop-holds c = (row-start _ _ _ _ (least_size c), row-start _ _ _ _ (free-size c))
+loop-holds c = (row-start _ _ _ _ (least_size c.before.before.before), row-start _ _ _ _ (free-size c.before.before.before))
 
 add-traded : tie.Need-overflow_add-traded invariant-loop decreases-loop
 add-traded c = search rules
@@ -61,7 +61,7 @@ shared-slice-read-traded c = search rules
 mul-more : tie.Need-overflow_mul-more invariant-loop decreases-loop
 mul-more c = omega (
   arith,
-  added c c.args.moves.must
+  added c.before c.args.moves.must
       c.number_of-must.result c.number_of-must.ensures,
 )
 
@@ -77,7 +77,7 @@ add-more c =
     let s = c in
     omega (
       arith,
-      added c s.args.moves.must c.number_of-must.result
+      added c.before s.args.moves.must c.number_of-must.result
           c.number_of-must.ensures,
       v.invariant.0.ahead v.h (omega arith),
       s.requires.2 v.h,
@@ -89,7 +89,7 @@ array-write-more c = search rules
 mul-freer : tie.Need-overflow_mul-freer invariant-loop decreases-loop
 mul-freer c = omega (
   arith,
-  added c c.args.moves.may c.number_of-may.result
+  added c.before c.args.moves.may c.number_of-may.result
       c.number_of-may.ensures,
 )
 
@@ -105,7 +105,7 @@ add-freer c =
     let s = c in
     omega (
       arith,
-      added c s.args.moves.may c.number_of-may.result
+      added c.before s.args.moves.may c.number_of-may.result
           c.number_of-may.ensures,
       v.invariant.1.ahead v.h (omega arith),
       s.requires.3 v.h,

@@ -2,7 +2,6 @@
 -- is that of the hours 1 to h. Assumes nothing.
 use Prim.Native.Nat.{◌≤◌, ◌-◌, ◌/◌, ◌^◌}
 use mathlib.Core.Path.{◌≡◌, refl, sym}
-use mathlib.Core.Logic.{⊎_elim}
 use native.Mathlib.Nat.{div-one, div-div-eq-div-mul, pow-suc}
 use native.Mathlib.Numerals.{add-one}
 use native.Mathlib.Omega.{arith}
@@ -11,6 +10,7 @@ use Rattle.records.specs.Records.{hours_set}
 use Rattle.records.proofs.Laws.{hour-more}
 use borrow.Author.Rules.{rules}
 use Rattle.records.proofs.records.hour_count.Statement.{statement}
+use Rattle.records.proofs.records.hour_count.Lts.{then-rest-eq1, else-rest-eq1}
 use Rattle.records.proofs.records.hour_count.Tie as tie
 
 abbrev invariant-loop : tie.invariant-loop-h
@@ -34,20 +34,20 @@ loop-less c = search rules
 
 loop-again : tie.Need-loop-h-preserved invariant-loop decreases-loop
 loop-again c = let e = c.loop-h.invariant.1 in
-    ⊎_elim
-    (λ w. (
-      search rules,
-      rw (e, div-div-eq-div-mul, add-one, pow-suc),
-      rw (hour-more, ← e, eq-eqb _ _ w.0.taken) (omega arith),
-      omega arith,
-    ))
-    (λ w. (
-      search rules,
-      rw (e, div-div-eq-div-mul, add-one, pow-suc),
-      rw (hour-more, ← e, ne_eqb _ _ w.0.left) (omega arith),
-      omega arith,
-    ))
-    c.if-rest-eq1.branch
+    elim c.if-rest-eq1.branch [
+      | then-rest-eq1 w ↦ (
+        search rules,
+        rw (e, div-div-eq-div-mul, add-one, pow-suc),
+        rw (w.count-is, hour-more, ← e, eq-eqb _ _ w.if-rest-eq1.true) (omega arith),
+        omega (arith, w.count-is),
+      )
+      | else-rest-eq1 w ↦ (
+        search rules,
+        rw (e, div-div-eq-div-mul, add-one, pow-suc),
+        rw (w.count-is, hour-more, ← e, ne_eqb _ _ w.if-rest-eq1.false) (omega arith),
+        omega (arith, w.count-is),
+      )
+    ]
 
 returns : tie.Need-returns invariant-loop decreases-loop
 returns c = let e : c.loop-h.h ≡ 24 = omega arith in rw (← e) c.loop-h.invariant.2

@@ -21,11 +21,11 @@ use Rattle.places.proofs.numbers.choose.Reads as choose-reads
 use Rattle.roots.proofs.held.ends_of.Reads as ends-of-reads
 
 abbrev invariant-loop : tie.invariant-loop-h
-invariant-loop shifts unit-prices count ends highs lows least₀ most₀ h₀ least most h =
+invariant-loop shifts unit_prices count ends highs lows least₀ most₀ h₀ least most h =
     (length least ≡ hour_places) × Small max_price least × (length most ≡ hour_places) × Small max_price most × (ends.least ≤ max_price) × (ends.most ≤ max_price)
 
 abbrev decreases-loop : tie.decreases-loop-h
-decreases-loop shifts unit-prices count ends highs lows least₀ most₀ h₀ least most h = hour_places - h
+decreases-loop shifts unit_prices count ends highs lows least₀ most₀ h₀ least most h = hour_places - h
 
 ends-of-requires : tie.Need-ends_of-ends-requires invariant-loop decreases-loop
 ends-of-requires c κs = search rules

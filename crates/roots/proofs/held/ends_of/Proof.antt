@@ -51,7 +51,7 @@ loop-again c =
     let v = test.loop-i in
     let s = test in
     let price = s.requires.1 v.i test.loop-i-test.true in (
-      rw c.smaller-least.ensures (omega (arith, (smaller-below v.least (get_or s.args.t2 v.i 0)).0, v.invariant.0)),
+      rw c.smaller-least.ensures (omega (arith, (smaller-below v.least (get_or s.args.prices v.i 0)).0, v.invariant.0)),
       rw c.larger-most.ensures (larger-least v.most _ max_price v.invariant.1 price),
     )
 

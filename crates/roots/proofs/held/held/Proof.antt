@@ -69,7 +69,7 @@ loop-again c =
     let s = test in
     let p = s.requires in
     let k : v.h < length v.r = omega (arith, v.invariant.0, test.loop-h-test.true) in
-    let below : c.smaller.result ≤ max_price = rw c.smaller.ensures (omega (arith, (smaller-below (get_or s.args.bounds.most v.h 0) (get_or s.args.bounds v.h 0)).0, p.2 v.h)) in
+    let below : c.smaller.result ≤ max_price = rw c.smaller.ensures (omega (arith, (smaller-below (get_or s.args.bounds.most v.h 0) (get_or s.args.prices v.h 0)).0, p.2 v.h)) in
     let price : c.larger.result ≤ max_price = rw c.larger.ensures (larger-least _ _ max_price (p.1 v.h) below) in
     (rw length-set v.invariant.0, set-small max_price v.r v.h c.larger.result k price v.invariant.1)
 

@@ -54,7 +54,7 @@ gain-of-requires : tie.Need-gain_of-gain-requires invariant-loop decreases-loop
 gain-of-requires c κs =
     let v = c.loop-i in
     let s = c in
-    (s.requires.blocks.1 v.i c.loop-i-test.true, s.requires.prices.0 v.i, c.price_sum-sum.ensures.1)
+    (s.requires.0.1 v.i c.loop-i-test.true, s.requires.1.0 v.i, c.price_sum-sum.ensures.1)
 
 cast-gains : tie.Need-overflow_cast-gains invariant-loop decreases-loop
 cast-gains c = search rules
@@ -63,7 +63,7 @@ add-gains : tie.Need-overflow_add-gains invariant-loop decreases-loop
 add-gains c =
     let v = c.loop-i in
     let s = c in
-    omega (arith, v.invariant.0, v.invariant.1, s.requires.blocks.0, c.gain_of-gain.ensures)
+    omega (arith, v.invariant.0, v.invariant.1, s.requires.0.0, c.gain_of-gain.ensures)
 
 add-i : tie.Need-overflow_add-i invariant-loop decreases-loop
 add-i c = search rules
@@ -77,7 +77,7 @@ loop-again c =
     (omega (arith, c.loop-i-test.true), omega (arith, v.invariant.1, c.gain_of-gain.ensures))
 
 returns : tie.Need-returns invariant-loop decreases-loop
-returns c = omega (arith, c.loop-i.invariant.0, c.loop-i.invariant.1, c.requires.blocks.0)
+returns c = omega (arith, c.loop-i.invariant.0, c.loop-i.invariant.1, c.requires.0.0)
 
 pub gains_at_spec : {M : Type 1} → statement M
 gains_at_spec =

@@ -21,7 +21,7 @@ loop-holds c = (omega arith, omega arith)
 mul-row : tie.Need-overflow_mul-row invariant-loop decreases-loop
 mul-row c =
     let s = c in
-    let row = row-held s.args.unit_prices.now c.loop-h.h s.requires.tables.0 c.loop-h-test.true in
+    let row = row-held s.args.unit_prices.now c.loop-h.h s.requires.0.0 c.loop-h-test.true in
     omega (arith, row.inside, row.table_fits)
 
 mul-from : tie.Need-offset_bounds-off-h invariant-loop decreases-loop
@@ -43,8 +43,8 @@ gap-up-requires : tie.Need-gap_up-up-requires invariant-loop decreases-loop
 gap-up-requires c κs =
     let v = c.loop-h in
     let s = c in
-    let rows = s.requires.tables.0 in
-    (row-held s.args.unit_prices.now v.h rows c.loop-h-test.true, s.requires.tables.1, omega (arith, rows.0, s.requires.tables.2 v.h))
+    let rows = s.requires.0.0 in
+    (row-held s.args.unit_prices.now v.h rows c.loop-h-test.true, s.requires.0.1, omega (arith, rows.0, s.requires.0.2 v.h))
 
 mul-gap-down : tie.Need-offset_bounds-prices-h-in-loop-h invariant-loop decreases-loop
 mul-gap-down c = search rules
@@ -56,10 +56,10 @@ gap-down-requires : tie.Need-gap_down-down-requires invariant-loop decreases-loo
 gap-down-requires c κs =
     let v = c.loop-h in
     let s = c in
-    let rows = s.requires.tables.0 in
+    let rows = s.requires.0.0 in
     let row = row-held s.args.unit_prices.now v.h rows c.loop-h-test.true in
-    let off = s.requires.tables.2 v.h in
-    (omega (arith, row.inside, rows.0, off), row.table_fits, omega (arith, rows.1, off), s.requires.prices.0 v.h)
+    let off = s.requires.0.2 v.h in
+    (omega (arith, row.inside, rows.0, off), row.table_fits, omega (arith, rows.1, off), s.requires.1.0 v.h)
 
 choose-requires : tie.Need-choose-times-requires invariant-loop decreases-loop
 choose-requires c κs = search rules
@@ -77,7 +77,7 @@ mul-sum c =
     let v = c.loop-h in
     let s = c in
     let lost = lost-fits (eqb v.h change_row) s.args.often c.choose-times.result up.result down.result ((last_place + 2) * max_price)
-    c.choose-times.ensures s.requires.prices.1 up.ensures down.ensures in
+    c.choose-times.ensures s.requires.1.1 up.ensures down.ensures in
     record { fits = omega (arith, lost) }
 
 add-sum-2 : tie.Need-overflow_add-sum-in-loop-h invariant-loop decreases-loop
@@ -87,7 +87,7 @@ add-sum-2 c =
     let v = c.loop-h in
     let s = c in
     let lost = lost-fits (eqb v.h change_row) s.args.often c.choose-times.result up.result down.result ((last_place + 2) * max_price)
-    c.choose-times.ensures s.requires.prices.1 up.ensures down.ensures in
+    c.choose-times.ensures s.requires.1.1 up.ensures down.ensures in
     record { fits = omega (arith, v.invariant.0, v.invariant.1, lost) }
 
 add-h : tie.Need-overflow_add-h invariant-loop decreases-loop
@@ -103,7 +103,7 @@ loop-again c =
     let v = c.loop-h in
     let s = c in
     let lost = lost-fits (eqb v.h change_row) s.args.often c.choose-times.result up.result down.result ((last_place + 2) * max_price)
-    c.choose-times.ensures s.requires.prices.1 up.ensures down.ensures in
+    c.choose-times.ensures s.requires.1.1 up.ensures down.ensures in
     (omega (arith, c.loop-h-test.true), omega (arith, v.invariant.1, lost))
 
 returns : tie.Need-returns invariant-loop decreases-loop

@@ -64,10 +64,10 @@ moved-requires : tie.Need-moved-more-requires invariant-loop decreases-loop
 moved-requires c κs =
     let v = c.loop-i in
     let s = c in
-    let few = s.requires.blocks.1 v.i c.loop-i-test.true in
+    let few = s.requires.0.1 v.i c.loop-i-test.true in
     let fits : c.choose.result ≤ most_quantity = rw c.choose.ensures
-    (chosen-le (leb (get_or s.args.quantities v.i 0) c.price_sum.result) _ most_quantity few) in
-    (λ j. omega (arith, v.invariant.1 j, v.invariant.0, s.requires.blocks.0, s.requires.prices.0 j), omega (arith, fits))
+    (chosen-le (leb (get_or s.args.limits v.i 0) c.price_sum.result) _ most_quantity few) in
+    (λ j. omega (arith, v.invariant.1 j, v.invariant.0, s.requires.0.0, s.requires.1.0 j), omega (arith, fits))
 
 add-i : tie.Need-overflow_add-i invariant-loop decreases-loop
 add-i c = search rules
@@ -82,12 +82,12 @@ loop-again c =
     let s = o in
     let k = o.loop-i-test.true in
     let fits : o.choose.result ≤ most_quantity = rw o.choose.ensures
-    (chosen-le (leb (get_or s.args.quantities v.i 0) o.price_sum.result) _ most_quantity (s.requires.blocks.1 v.i k)) in
+    (chosen-le (leb (get_or s.args.limits v.i 0) o.price_sum.result) _ most_quantity (s.requires.0.1 v.i k)) in
     let m = moved-most _ _ v.places c.moved-more.result c.moved-more.ensures.0 c.moved-more.ensures.1 in
     (omega (arith, k), λ j. omega (arith, m j, fits, v.invariant.1 j))
 
 returns : tie.Need-returns invariant-loop decreases-loop
-returns c = λ j. omega (arith, c.loop-i.invariant.1 j, c.loop-i.invariant.0, c.requires.blocks.0)
+returns c = λ j. omega (arith, c.loop-i.invariant.1 j, c.loop-i.invariant.0, c.requires.0.0)
 
 pub added_places_spec : {M : Type 1} → statement M
 added_places_spec =

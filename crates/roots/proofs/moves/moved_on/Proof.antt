@@ -16,14 +16,14 @@ abbrev decreases-loop : tie.decreases-loop-k
 decreases-loop unit_prices count hours limits quantities n often bounds last root₀ sum₀ k₀ root sum k = n + round_moves - k
 
 sub-last : tie.Need-overflow_sub-last invariant-loop decreases-loop
-sub-last c = omega (arith, c.requires.tables.0)
+sub-last c = omega (arith, c.requires.0.0)
 
 cast-last : tie.Need-overflow_cast-last invariant-loop decreases-loop
-cast-last c = omega (arith, c.requires.tables.0)
+cast-last c = omega (arith, c.requires.0.0)
 
 loop-holds : tie.Need-loop-k-init invariant-loop decreases-loop
 loop-holds c =
-    let p = c.requires.blocks.1.0 in
+    let p = c.requires.1.1.0 in
     (p.0, omega arith, p.2, p.3)
 
 add-loop : tie.Need-overflow_add-n invariant-loop decreases-loop
@@ -34,7 +34,7 @@ added-places-requires c κs =
     let v = c.loop-k in
     let s = c in
     let k = c.loop-k-test.true in
-    record { blocks = s.requires.blocks.0; prices = (λ i. omega (arith, v.invariant.3 i, k, s.requires.blocks.1.0.1), v.invariant.2, s.requires.blocks.1.1.0) }
+    (s.requires.1.0, (λ i. omega (arith, v.invariant.3 i, k, s.requires.1.1.0.1), v.invariant.2, s.requires.1.1.1.0))
 
 add-averaged : tie.Need-overflow_add-k invariant-loop decreases-loop
 add-averaged c = search rules
@@ -48,7 +48,7 @@ prices-at-requires c κs = search rules
 held-requires : tie.Need-held-requires invariant-loop decreases-loop
 held-requires c κs =
     let test = c in
-    let bounds = test.requires.blocks.1.1.1 in
+    let bounds = test.requires.1.1.1.1 in
     (c.prices_at-there.ensures.small, bounds.0, bounds.1)
 
 closer-requires : tie.Need-closer-next-requires invariant-loop decreases-loop

@@ -37,7 +37,7 @@ mul-limit-2 : tie.Need-overflow_mul-limit invariant-loop decreases-loop
 mul-limit-2 c =
     let v = c.loop-i in
     let s = c in
-    let fits = limit-fits (get_or s.args.quantities v.i 0) s.args.day (get_or s.args.prices v.i 0) s.requires.2 (s.requires.0.prices_fit v.i c.loop-i-test.true) in
+    let fits = limit-fits (get_or s.args.prices v.i 0) s.args.day (get_or s.args.hours v.i 0) s.requires.2 (s.requires.0.prices_fit v.i c.loop-i-test.true) in
     rw c.counted_hours.ensures (record { fits = omega (arith, fits) })
 
 array-read-with-block : tie.Need-bounds-sides-i invariant-loop decreases-loop
@@ -76,7 +76,7 @@ with-block-requires c κs =
     let h = s.requires.0 in (
       omega (arith, h.few, k),
       h.quantities_fit v.i k,
-      rw b.counted_hours.ensures (limit-fits (get_or s.args.quantities v.i 0) s.args.day (get_or s.args.prices v.i 0) s.requires.2 (h.prices_fit v.i k)),
+      rw b.counted_hours.ensures (limit-fits (get_or s.args.prices v.i 0) s.args.day (get_or s.args.hours v.i 0) s.requires.2 (h.prices_fit v.i k)),
       c.price_sum.ensures.1,
     )
 

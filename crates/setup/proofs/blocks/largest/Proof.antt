@@ -1,7 +1,5 @@
 -- `setup::blocks::largest` meets its contract: the largest of the hours before h. Assumes nothing.
 use Prim.Native.Nat.{◌-◌}
-use mathlib.Core.Path.{◌≡◌}
-use lib.ListN.{length}
 use Rattle.places.specs.Layout.{hour_places}
 use Rattle.setup.proofs.SetupBlockLaws.{LargestTo, largest-start, largest-next, largest-all}
 use borrow.Author.Rules.{rules}
@@ -13,9 +11,6 @@ invariant-loop column most₀ h₀ most h = LargestTo column h most
 
 abbrev decreases-loop : tie.decreases-loop-h
 decreases-loop column most₀ h₀ most h = hour_places - h
-
-size : (s : tie.Start invariant-loop decreases-loop) → length s.args.t1 ≡ hour_places
-size s = search rules
 
 loop-holds : tie.Need-loop-h-init invariant-loop decreases-loop
 loop-holds c = largest-start _
@@ -39,7 +34,7 @@ loop-again : tie.Need-loop-h-preserved invariant-loop decreases-loop
 loop-again c = largest-next _ _ _ _ c.loop-h.invariant c.loop-h-test.true c.larger-most.ensures
 
 returns : tie.Need-returns invariant-loop decreases-loop
-returns c = largest-all _ _ _ (size c) c.loop-h.invariant c.loop-h-test.false
+returns c = largest-all _ _ _ (search rules) c.loop-h.invariant c.loop-h-test.false
 
 pub largest_spec : {M : Type 1} → statement M
 largest_spec =

@@ -43,7 +43,7 @@ moved-requires c κs =
       λ j. omega (arith, v.invariant.1.small j, s.requires.0, c.loop-i-test.true),
       omega (
         arith,
-        traded-fits s.args.hours s.args.quantities s.args.all s.args.all v.i _ _ (s.requires.1 v.i c.loop-i-test.true)
+        traded-fits s.args.sides s.args.hours s.args.quantities s.args.all v.i _ _ (s.requires.1 v.i c.loop-i-test.true)
             c.choose.ensures c.by_side-traded.ensures,
       ),
     )

@@ -46,7 +46,7 @@ array-read-r c = search rules
 mul-r-2 : tie.Need-overflow_mul-r invariant-loop decreases-loop
 mul-r-2 c =
     let s = c in
-    omega (arith, trade-small s.args.t2 s.args.count c.loop-k.k s.requires.1 s.requires.0 c.loop-k-test.true)
+    omega (arith, trade-small s.args.blocks s.args.count c.loop-k.k s.requires.1 s.requires.0 c.loop-k-test.true)
 
 add-r-2 : tie.Need-overflow_add-r-in-loop-k invariant-loop decreases-loop
 add-r-2 c = search rules

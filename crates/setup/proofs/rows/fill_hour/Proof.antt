@@ -3,15 +3,6 @@ use Rattle.setup.proofs.SetupTableLaws.{hour-room, hour-ranged}
 use borrow.Author.Rules.{rules}
 use Rattle.setup.proofs.rows.fill_hour.Statement.{statement}
 use Rattle.setup.proofs.rows.fill_hour.Tie as tie
-use Rattle.setup.proofs.rows.fill_hour.Reads as reads
-use Rattle.setup.proofs.rows.fill_hour.Lts as lts
-use Rattle.tables.proofs.all_totals.Reads as all-totals-reads
-use Rattle.tables.proofs.clear_range.Reads as clear-range-reads
-use Rattle.tables.proofs.fill_gaps.Reads as fill-gaps-reads
-
--- the start of the call, seen from after its range
-abbrev opened : tie.After-clear_range-range → tie.Start
-opened r = r.before.before.before.before.before.before.before.before.before.before
 
 sub-all-totals : tie.Need-slice_bounds-all_totals-count
 sub-all-totals c = search rules
@@ -54,10 +45,8 @@ clear-range-requires c κs = search rules
 
 fill-gaps-requires : tie.Need-fill_gaps-turn-requires
 fill-gaps-requires c κs =
-    let after-clear-range2 = c.before in
-    let s = opened after-clear-range2 in
-    let q = s.pre.0 in
-    let t = s.pre.1 in
+    let q = c.requires.0 in
+    let t = c.requires.1 in
     hour-room _ _ _ _ _ _ _ t.1 t.0 q.1 q.2 q.3 _ _ _ _ _ q.4 c.clear_range-range.ensures
 
 same_length : tie.Need-shape_of-gap
@@ -65,12 +54,10 @@ same_length c = search rules
 
 returns : tie.Need-returns
 returns c =
-    let r = c.before.before.before.before in
-    let s = opened r in
-    let q = s.pre.0 in
-    let t = s.pre.1 in
+    let q = c.requires.0 in
+    let t = c.requires.1 in
     let g = c.fill_gaps-turn in
-    hour-ranged _ _ _ _ _ _ _ t.1 t.0 q.1 q.2 q.3 _ _ _ _ g.result _ r.all_totals-all.ensures r.clear_range-range.ensures
+    hour-ranged _ _ _ _ _ _ _ t.1 t.0 q.1 q.2 q.3 _ _ _ _ g.result _ c.all_totals-all.ensures c.clear_range-range.ensures
     g.ensures.0
 
 pub fill_hour_spec : {M : Type 1} → statement M

@@ -1,11 +1,12 @@
 -- `setup::fill_ranges` meets its contract: the hours before this one have their ranges and their gaps. Assumes nothing.
-use Prim.Native.Nat.{◌+◌, ◌-◌, ◌*◌, ◌≤◌, ◌<◌}
+use Prim.Native.Nat.{ℕ, ◌+◌, ◌-◌, ◌*◌, ◌≤◌, ◌<◌}
+use mathlib.Core.List.{List}
 use mathlib.Core.Path.{◌∙◌}
 use lib.ListN.{length, get_or}
 use native.Mathlib.Omega.{arith}
 use Rattle.places.specs.Layout.{hour_places}
 use Rattle.places.specs.Hours.{row_width}
-use Rattle.setup.specs.Setup.{row_places}
+use Rattle.setup.specs.Setup.{row_places, RowsFit}
 use Rattle.places.proofs.CellLaws.{row_fits}
 use Rattle.setup.proofs.SetupTableLaws.{part_held, part_length, row-wide, part-row, RangesTo, ranges-start, ranges-next, ranges-all}
 use borrow.Author.Rules.{rules}
@@ -20,17 +21,14 @@ abbrev decreases-loop : tie.decreases-loop-h
 decreases-loop sides prices quantities unit_prices gap₀ ends off most root width first₀ last₀ turn₀ h₀ gap first last turn h = hour_places - h
 
 -- the row of an hour has room in the tables
-room : (a : tie.At-loop-h invariant-loop decreases-loop) → a.loop-h.h < hour_places → let s = a in
-    a.loop-h.h * row_width s.args.gap.now + row_places (get_or s.args.root a.loop-h.h 0) ≤ length s.args.gap.now
-room a k =
-    let s = a in
-    row_fits s.args.gap.now a.loop-h.h _ k (s.requires.held.4 a.loop-h.h k)
+room : (table most : List ℕ) (h : ℕ) → h < hour_places → RowsFit (row_width table) most → h * row_width table + row_places (get_or most h 0) ≤ length table
+room table most h k fit = row_fits table h _ k (fit h k)
 
 loop-holds : tie.Need-loop-h-init invariant-loop decreases-loop
 loop-holds c = ranges-start _ _ _ _ _ _ _ _ _
 
 mul-from : tie.Need-overflow_mul-from invariant-loop decreases-loop
-mul-from c = let s = c in omega (arith, room c c.loop-h-test.true, s.requires.held.3)
+mul-from c = omega (arith, room c.args.gap.now c.args.most c.loop-h.h c.loop-h-test.true c.requires.0.4, c.requires.0.3)
 
 mul-to : tie.Need-offset_bounds-most-h invariant-loop decreases-loop
 mul-to c = search rules
@@ -42,10 +40,10 @@ cast-to : tie.Need-overflow_cast-to invariant-loop decreases-loop
 cast-to c = search rules
 
 add-to : tie.Need-overflow_add-to invariant-loop decreases-loop
-add-to c = let s = c in omega (arith, room c c.loop-h-test.true, s.requires.held.3)
+add-to c = omega (arith, room c.args.gap.now c.args.most c.loop-h.h c.loop-h-test.true c.requires.0.4, c.requires.0.3)
 
 add-to-2 : tie.Need-overflow_add-to-in-loop-h invariant-loop decreases-loop
-add-to-2 c = let s = c in omega (arith, room c c.loop-h-test.true, s.requires.held.3)
+add-to-2 c = omega (arith, room c.args.gap.now c.args.most c.loop-h.h c.loop-h-test.true c.requires.0.4, c.requires.0.3)
 
 mul-fill-hour : tie.Need-offset_bounds-ends-h invariant-loop decreases-loop
 mul-fill-hour c = search rules
@@ -87,7 +85,7 @@ array-read-fill-hour-5 : tie.Need-bounds-root-h invariant-loop decreases-loop
 array-read-fill-hour-5 c = search rules
 
 mul-fill-hour-6 : tie.Need-offset_bounds-unit_prices-from invariant-loop decreases-loop
-mul-fill-hour-6 c = let s = c in omega (arith, room c c.loop-h-test.true, s.requires.held.3)
+mul-fill-hour-6 c = omega (arith, room c.args.gap.now c.args.most c.loop-h.h c.loop-h-test.true c.requires.0.4, c.requires.0.3)
 
 sub-fill-hour : tie.Need-slice_bounds-fill_hour-count invariant-loop decreases-loop
 sub-fill-hour c = search rules
@@ -98,10 +96,10 @@ part-fill-hour-start c = search rules
 part-fill-hour-end : tie.Need-slice_bounds-fill_hour-end invariant-loop decreases-loop
 part-fill-hour-end c =
     let s = c in
-    omega (arith, s.requires.within.1.0, room c c.loop-h-test.true)
+    omega (arith, s.requires.1.1.0, room c.args.gap.now c.args.most c.loop-h.h c.loop-h-test.true c.requires.0.4)
 
 mul-fill-hour-7 : tie.Need-offset_bounds-gap-from invariant-loop decreases-loop
-mul-fill-hour-7 c = let s = c in omega (arith, room c c.loop-h-test.true, s.requires.held.3)
+mul-fill-hour-7 c = omega (arith, room c.args.gap.now c.args.most c.loop-h.h c.loop-h-test.true c.requires.0.4, c.requires.0.3)
 
 sub-fill-hour-2 : tie.Need-slice_bounds-fill_hour-count-in-loop-h invariant-loop decreases-loop
 sub-fill-hour-2 c = search rules
@@ -110,7 +108,7 @@ part-fill-hour-start-2 : tie.Need-slice_bounds-fill_hour-start-in-loop-h invaria
 part-fill-hour-start-2 c = search rules
 
 part-fill-hour-end-2 : tie.Need-slice_bounds-fill_hour-end-in-loop-h invariant-loop decreases-loop
-part-fill-hour-end-2 c = omega (arith, c.loop-h.invariant.size, room c c.loop-h-test.true)
+part-fill-hour-end-2 c = omega (arith, c.loop-h.invariant.size, room c.args.gap.now c.args.most c.loop-h.h c.loop-h-test.true c.requires.0.4)
 
 fill-hour-requires : tie.Need-fill_hour-range-requires invariant-loop decreases-loop
 fill-hour-requires c κs =
@@ -118,18 +116,21 @@ fill-hour-requires c κs =
     let v = a.loop-h in
     let s = a in
     let k = c.loop-h-test.true in
-    let q = s.requires.held in
-    let t = s.requires.within.1 in
+    let q = s.requires.0 in
+    let t = s.requires.1.1 in
     let table = s.args.unit_prices.now in
     let w = row_width s.args.gap.now in
-    let in_gap : v.h * w + row_places (get_or s.args.root v.h 0) ≤ length v.gap = omega (arith, room a k, v.invariant.size) in
-    let in_prices : v.h * w + row_places (get_or s.args.root v.h 0) ≤ length table = omega (arith, room a k, t.0) in record { held = (part_held _ _ _ _ q.0 v.h k, s.requires.within.0 v.h k, q.1 v.h, q.2 v.h, part_length w v.gap v.h _ in_gap); table = (part_length w table v.h _ in_prices, rw (part-row w table v.h _) (t.1 v.h k)) }
+    let in_gap : v.h * w + row_places (get_or s.args.most v.h 0) ≤ length v.gap = omega (arith, room s.args.gap.now s.args.most v.h k s.requires.0.4, v.invariant.size) in
+    let in_prices : v.h * w + row_places (get_or s.args.most v.h 0) ≤ length table = omega (arith, room s.args.gap.now s.args.most v.h k s.requires.0.4, t.0) in (
+      (part_held _ _ _ _ q.0 v.h k, s.requires.1.0 v.h k, q.1 v.h, q.2 v.h, part_length w v.gap v.h _ in_gap),
+      (part_length w table v.h _ in_prices, rw (part-row w table v.h _) (t.1 v.h k)),
+    )
 
 cast-first : tie.Need-overflow_cast-first invariant-loop decreases-loop
 cast-first c =
     let l = c in
     let s = l in
-    omega (arith, l.loop-h-test.true, s.requires.held.1 l.loop-h.h, c.fill_hour-range.ensures.fits)
+    omega (arith, l.loop-h-test.true, s.requires.0.1 l.loop-h.h, c.fill_hour-range.ensures.0)
 
 mul-first : tie.Need-offset_bounds-first-h invariant-loop decreases-loop
 mul-first c = omega (arith, c.loop-h-test.true)
@@ -141,7 +142,7 @@ cast-last : tie.Need-overflow_cast-last invariant-loop decreases-loop
 cast-last c =
     let l = c in
     let s = l in
-    omega (arith, l.loop-h-test.true, s.requires.held.1 l.loop-h.h, c.fill_hour-range.ensures.fits)
+    omega (arith, l.loop-h-test.true, s.requires.0.1 l.loop-h.h, c.fill_hour-range.ensures.0)
 
 mul-last : tie.Need-offset_bounds-last-h invariant-loop decreases-loop
 mul-last c = omega (arith, c.loop-h-test.true)
@@ -153,7 +154,7 @@ cast-turn : tie.Need-overflow_cast-turn invariant-loop decreases-loop
 cast-turn c =
     let l = c in
     let s = l in
-    omega (arith, l.loop-h-test.true, s.requires.held.1 l.loop-h.h, c.fill_hour-range.ensures.fits)
+    omega (arith, l.loop-h-test.true, s.requires.0.1 l.loop-h.h, c.fill_hour-range.ensures.0)
 
 mul-turn : tie.Need-offset_bounds-turn-h invariant-loop decreases-loop
 mul-turn c = omega (arith, c.loop-h-test.true)
@@ -177,9 +178,9 @@ loop-again c =
     let k = after-loop-test.loop-h-test.true in
     let f = after-fill-hour.fill_hour-range in
     let w = row_width start.args.gap.now in
-    let in_gap : v.h * w + row_places (get_or start.args.root v.h 0) ≤ length v.gap = omega (arith, room after-loop k, v.invariant.size) in
-    ranges-next _ _ _ _ _ _ _ _ _ start.requires.held.4 _ _ _ _ _ v.h _ _ _ _ v.invariant k
-    (f.auto.1.1.1.1.1.1.1.1.1.0 ∙ part_length w v.gap v.h _ in_gap) (row-wide w v.h _)
+    let in_gap : v.h * w + row_places (get_or start.args.most v.h 0) ≤ length v.gap = omega (arith, room start.args.gap.now start.args.most v.h k start.requires.0.4, v.invariant.size) in
+    ranges-next _ _ _ _ _ _ _ _ _ start.requires.0.4 _ _ _ _ _ v.h _ _ _ _ v.invariant k
+    (f.auto.gap ∙ part_length w v.gap v.h _ in_gap) (row-wide w v.h _)
     f.ensures.0.1 (rw (part-row w start.args.unit_prices.now v.h _) at f.ensures.1)
 
 same_length : tie.Need-shape_of-gap invariant-loop decreases-loop

@@ -1,11 +1,12 @@
 -- `setup::fill_tables` meets its contract: the rows before that of the hour are filled. Assumes nothing.
-use Prim.Native.Nat.{◌+◌, ◌-◌, ◌*◌, ◌≤◌, ◌<◌}
+use Prim.Native.Nat.{ℕ, ◌+◌, ◌-◌, ◌*◌, ◌≤◌, ◌<◌}
+use mathlib.Core.List.{List}
 use mathlib.Core.Path.{◌∙◌}
 use lib.ListN.{length, get_or}
 use native.Mathlib.Omega.{arith}
 use Rattle.places.specs.Layout.{hour_places}
 use Rattle.places.specs.Hours.{row_width}
-use Rattle.setup.specs.Setup.{row_places}
+use Rattle.setup.specs.Setup.{row_places, RowsFit}
 use Rattle.places.proofs.CellLaws.{row_fits}
 use Rattle.setup.proofs.SetupTableLaws.{part_held, part_length, row-wide, RowsTo, rows_start, rows_next, rows_all}
 use borrow.Author.Rules.{rules}
@@ -19,17 +20,14 @@ abbrev decreases-loop : tie.decreases-loop-h
 decreases-loop sides prices quantities unitPrices₀ ends off most width h₀ unit_prices h = hour_places - h
 
 -- the row of an hour has room in the table
-room : (a : tie.At-loop-h invariant-loop decreases-loop) → a.loop-h.h < hour_places → let s = a in
-    a.loop-h.h * row_width s.args.unit_prices.now + row_places (get_or s.args.unit_prices a.loop-h.h 0) ≤ length s.args.unit_prices.now
-room a k =
-    let s = a in
-    row_fits s.args.unit_prices.now a.loop-h.h _ k (s.requires.table.1 a.loop-h.h k)
+room : (table most : List ℕ) (h : ℕ) → h < hour_places → RowsFit (row_width table) most → h * row_width table + row_places (get_or most h 0) ≤ length table
+room table most h k fit = row_fits table h _ k (fit h k)
 
 loop-holds : tie.Need-loop-h-init invariant-loop decreases-loop
-loop-holds c = rows_start _ _ _ _ _ _ _ c.requires.table.2
+loop-holds c = rows_start _ _ _ _ _ _ _ c.requires.1.2
 
 mul-from : tie.Need-overflow_mul-from invariant-loop decreases-loop
-mul-from c = let s = c in omega (arith, room c c.loop-h-test.true, s.requires.table.0)
+mul-from c = omega (arith, room c.args.unit_prices.now c.args.most c.loop-h.h c.loop-h-test.true c.requires.1.1, c.requires.1.0)
 
 mul-to : tie.Need-offset_bounds-most-h invariant-loop decreases-loop
 mul-to c = search rules
@@ -41,10 +39,10 @@ cast-to : tie.Need-overflow_cast-to invariant-loop decreases-loop
 cast-to c = search rules
 
 add-to : tie.Need-overflow_add-to invariant-loop decreases-loop
-add-to c = let s = c in omega (arith, room c c.loop-h-test.true, s.requires.table.0)
+add-to c = omega (arith, room c.args.unit_prices.now c.args.most c.loop-h.h c.loop-h-test.true c.requires.1.1, c.requires.1.0)
 
 add-to-2 : tie.Need-overflow_add-to-in-loop-h invariant-loop decreases-loop
-add-to-2 c = let s = c in omega (arith, room c c.loop-h-test.true, s.requires.table.0)
+add-to-2 c = omega (arith, room c.args.unit_prices.now c.args.most c.loop-h.h c.loop-h-test.true c.requires.1.1, c.requires.1.0)
 
 mul-fill-row : tie.Need-offset_bounds-ends-h invariant-loop decreases-loop
 mul-fill-row c = search rules
@@ -74,7 +72,7 @@ array-read-fill-row-3 : tie.Need-bounds-off-h invariant-loop decreases-loop
 array-read-fill-row-3 c = search rules
 
 mul-fill-row-4 : tie.Need-offset_bounds-unit_prices-from invariant-loop decreases-loop
-mul-fill-row-4 c = let s = c in omega (arith, room c c.loop-h-test.true, s.requires.table.0)
+mul-fill-row-4 c = omega (arith, room c.args.unit_prices.now c.args.most c.loop-h.h c.loop-h-test.true c.requires.1.1, c.requires.1.0)
 
 sub-fill-row : tie.Need-slice_bounds-fill_row-count invariant-loop decreases-loop
 sub-fill-row c = search rules
@@ -83,7 +81,7 @@ part-fill-row-start : tie.Need-slice_bounds-fill_row-start invariant-loop decrea
 part-fill-row-start c = search rules
 
 part-fill-row-end : tie.Need-slice_bounds-fill_row-end invariant-loop decreases-loop
-part-fill-row-end c = omega (arith, c.loop-h.invariant.size, room c c.loop-h-test.true)
+part-fill-row-end c = omega (arith, c.loop-h.invariant.size, room c.args.unit_prices.now c.args.most c.loop-h.h c.loop-h-test.true c.requires.1.1)
 
 fill-row-requires : tie.Need-fill_row-requires invariant-loop decreases-loop
 fill-row-requires c κs =
@@ -91,11 +89,11 @@ fill-row-requires c κs =
     let v = a.loop-h in
     let s = a in
     let k = c.loop-h-test.true in
-    let q = s.requires.steps in
+    let q = s.requires.0 in
     let most = q.2 v.h in
-    let here : v.h * row_width s.args.unit_prices.now + row_places (get_or s.args.unit_prices v.h 0) ≤ length v.unit-prices =
-    omega (arith, room a k, v.invariant.size) in
-    (part_held _ _ _ _ q.0 v.h k, q.1 v.h, omega (arith, part_length (row_width s.args.unit_prices.now) v.unit-prices v.h _ here, most))
+    let here : v.h * row_width s.args.unit_prices.now + row_places (get_or s.args.most v.h 0) ≤ length v.unit_prices =
+    omega (arith, room s.args.unit_prices.now s.args.most v.h k s.requires.1.1, v.invariant.size) in
+    (part_held _ _ _ _ q.0 v.h k, q.1 v.h, omega (arith, part_length (row_width s.args.unit_prices.now) v.unit_prices v.h _ here, most))
 
 add-h : tie.Need-overflow_add-h-in-loop-h invariant-loop decreases-loop
 add-h c = search rules
@@ -110,10 +108,10 @@ loop-again c =
     let s = a in
     let k = c.loop-h-test.true in
     let f = c.fill_row in
-    let here : v.h * row_width s.args.unit_prices.now + row_places (get_or s.args.unit_prices v.h 0) ≤ length v.unit-prices =
-    omega (arith, room a k, v.invariant.size) in
-    rows_next _ _ _ _ _ _ _ s.requires.table.1 _ f.new.1.1.1.1.1.1.0 _ _ v.invariant k
-    (f.auto.1.1.1.1.1.1.0 ∙ part_length (row_width s.args.unit_prices.now) v.unit-prices v.h _ here) (row-wide _ v.h _) f.ensures
+    let here : v.h * row_width s.args.unit_prices.now + row_places (get_or s.args.most v.h 0) ≤ length v.unit_prices =
+    omega (arith, room s.args.unit_prices.now s.args.most v.h k s.requires.1.1, v.invariant.size) in
+    rows_next _ _ _ _ _ _ _ s.requires.1.1 _ f.new.row _ _ v.invariant k
+    (f.auto.row ∙ part_length (row_width s.args.unit_prices.now) v.unit_prices v.h _ here) (row-wide _ v.h _) f.ensures
 
 same_length : tie.Need-shape_of-unit_prices invariant-loop decreases-loop
 same_length c = c.loop-h.invariant.size

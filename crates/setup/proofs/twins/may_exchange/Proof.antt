@@ -1,7 +1,6 @@
 -- `setup::may_exchange` meets its contract: two tests, the second of them by who is ahead. Assumes nothing.
 use mathlib.Core.Path.{refl}
 use Rattle.rules.proofs.Tests.{clash}
-use borrow.Author.Tests.{not-false}
 use borrow.Author.Rules.{rules}
 use Rattle.setup.proofs.twins.may_exchange.Statement.{statement}
 use Rattle.setup.proofs.twins.may_exchange.Tie as tie
@@ -19,10 +18,10 @@ may-stand-in-requires-2 : tie.Need-may_stand_in-requires-else-ahead
 may-stand-in-requires-2 c κs = search rules
 
 returns-2 : tie.Need-returns-then-ahead
-returns-2 c e = let t = c in rw t.if-ahead.true (t.are_twins.ensures (not-false _ t.if-not-are_twins.false), c.may_stand_in.ensures e)
+returns-2 c e = let t = c in rw t.if-ahead.true (t.are_twins.ensures t.if-not-are_twins.false, c.may_stand_in.ensures e)
 
 returns-3 : tie.Need-returns-else-ahead
-returns-3 c e = let t = c in rw t.if-ahead.false (t.are_twins.ensures (not-false _ t.if-not-are_twins.false), c.may_stand_in-else-ahead.ensures e)
+returns-3 c e = let t = c in rw t.if-ahead.false (t.are_twins.ensures t.if-not-are_twins.false, c.may_stand_in-else-ahead.ensures e)
 
 pub may_exchange_spec : {M : Type 1} → statement M
 may_exchange_spec =

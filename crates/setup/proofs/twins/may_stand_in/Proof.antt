@@ -34,7 +34,7 @@ shared-slice-read-result c = search rules
 returns : tie.Need-returns
 returns c =
     let s = c in
-    stands-in _ s.args.marks.now _ _ s.requires.marks.1
+    stands-in _ s.args.marks.now _ _ s.requires.1.1
 
 pub may_stand_in_spec : {M : Type 1} → statement M
 may_stand_in_spec =

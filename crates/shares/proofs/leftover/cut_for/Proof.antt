@@ -51,7 +51,7 @@ returns : tie.Need-returns invariant-loop decreases-loop
 returns c =
     let l = c.loop-low in
     let e : l.high ≡ l.low = omega arith in
-    record { above = rw e at l.invariant.2; from = l.invariant.3 }
+    (rw e at l.invariant.2, l.invariant.3)
 
 pub cut_for_spec : {M : Type 1} → statement M
 cut_for_spec =

@@ -7,16 +7,12 @@ use Rattle.pricing.proofs.TotalsLaws.{order-added, added-le}
 use Rattle.pricing.proofs.hour.Totals.add.Statement.{statement}
 use Rattle.pricing.proofs.hour.Totals.add.Tie as tie
 
--- the start behind the two numbers
-abbrev start : tie.After-number_of-sold → tie.Start
-start c = c
-
 -- what is bought, and sold, is at most the quantity
-bought : (c : tie.After-number_of-sold) → c.number_of-bought.result * (start c).args.quantity ≤ (start c).args.quantity
-bought c = added-le _ (start c).args.quantity c.number_of-bought.ensures.1
+bought : (c : tie.After-number_of-sold) → c.number_of-bought.result * c.args.quantity ≤ c.args.quantity
+bought c = added-le _ c.args.quantity c.number_of-bought.ensures.1
 
-sold : (c : tie.After-number_of-sold) → c.number_of-sold.result * (start c).args.quantity ≤ (start c).args.quantity
-sold c = added-le _ (start c).args.quantity c.number_of-sold.ensures.1
+sold : (c : tie.After-number_of-sold) → c.number_of-sold.result * c.args.quantity ≤ c.args.quantity
+sold c = added-le _ c.args.quantity c.number_of-sold.ensures.1
 
 number-of-requires : tie.Need-number_of-bought-requires
 number-of-requires c κs = search rules
@@ -28,18 +24,18 @@ mul-self : tie.Need-overflow_mul-self
 mul-self c = omega (arith, bought c)
 
 add-self : tie.Need-overflow_add-self
-add-self c = omega (arith, bought c, (start c).requires.0)
+add-self c = omega (arith, bought c.before, c.requires.0)
 
 mul-self-2 : tie.Need-overflow_mul-self-2
-mul-self-2 c = omega (arith, sold c)
+mul-self-2 c = omega (arith, sold c.before)
 
 add-self-2 : tie.Need-overflow_add-self-2
-add-self-2 c = omega (arith, sold c, (start c).requires.1)
+add-self-2 c = omega (arith, sold c.before.before, c.requires.1)
 
 returns : tie.Need-returns
 returns c =
     let both = c in
-    let a = (start both).args in
+    let a = both.args in
     let t = order-added a.self.over a.self.to a.price a.quantity a.self.above a.self.upto a.side _ _
     both.number_of-bought.ensures.0 both.number_of-sold.ensures.0 in
     (refl, refl, t.0, t.1)
