@@ -11,7 +11,7 @@ put-outcome-requires : tie.Need-put_outcome-requires
 put-outcome-requires c κs = search rules
 
 returns : tie.Need-returns
-returns c = record { put = c.put_outcome.ensures; fits = put-short _ _ _ _ c.put_outcome.ensures }
+returns c = (c.put_outcome.ensures, put-short _ _ _ _ c.put_outcome.ensures)
 
 pub cash_spec : {M : Type 1} → statement M
 cash_spec = tie.close (tie.spec slice-aggregate-put-outcome put-outcome-requires returns)

@@ -24,14 +24,14 @@ number_is k =
     let start = k in
     let rows = k.rows_of in
     k.refusal_of-number.ensures
-    ∙ number-told start.args.book.now start.args.space.now rows.result rows.ensures.0 (rows_are k rows.result rows.ensures.1) start.requires.1 _ _
+    ∙ number-told start.args.book.now start.args.space.now rows.result rows.ensures.0 (rows_are k.before.before.before.before.before.before rows.result rows.ensures.1) start.requires.1 _ _
     k.clear.ensures
 
 accepted-is : (k : tie.After-refusal_of-number) → k.refusal_of-number.result ≡ 0 → Accepted k.args.book.now
 accepted-is k none = accepted _ (sym (number_is k) ∙ none)
 
 rows-read : (k : tie.After-refusal_of-number) → (a : Accepted k.args.book.now) → k.rows_of.result ≡ record_count k.args.book.now
-rows-read k a = rows_are k k.rows_of.result k.rows_of.ensures.1 (record-count _ a).1
+rows-read k a = rows_are k.before.before.before.before.before.before k.rows_of.result k.rows_of.ensures.1 (record-count _ a).1
 
 record-count-requires : tie.Need-record_count-requires
 record-count-requires c κs = search rules
@@ -48,13 +48,13 @@ add-length c = search rules
 slice-relend-prefix-clear : tie.Need-slice_bounds-clear-end
 slice-relend-prefix-clear c =
     let start = c in
-    space-fits start.args.book.now start.args.space.now c.rows_of.result c.rows_of.ensures.0 (rows_are c c.rows_of.result c.rows_of.ensures.1) start.requires.1
+    space-fits start.args.book.now start.args.space.now c.rows_of.result c.rows_of.ensures.0 (rows_are c.before c.rows_of.result c.rows_of.ensures.1) start.requires.1
 
 slice-aggregate-clear : tie.Need-slice_bounds-clear-end-2
 slice-aggregate-clear c =
     let start = c in
     let rows = c.rows_of in
-    space-length start.args.book.now start.args.space.now rows.result rows.ensures.0 (rows_are c rows.result rows.ensures.1) start.requires.1
+    space-length start.args.book.now start.args.space.now rows.result rows.ensures.0 (rows_are c.before.before rows.result rows.ensures.1) start.requires.1
 
 clear-requires : tie.Need-clear-requires
 clear-requires c κs = search rules
@@ -64,21 +64,21 @@ refusal-of-requires c κs = search rules
 
 slice-reshare-prefix-put-sheet : tie.Need-slice_bounds-put_sheet-end
 slice-reshare-prefix-put-sheet c =
-    let k = c in
+    let k = c.before.before in
     let start = k in
     let a = accepted-is k c.if-number-eq0.true in
     again-fits _ start.args.space.now _ a (rows-read k a) start.requires.1 _ _ k.clear.ensures
 
 slice-aggregate-put-sheet : tie.Need-slice_bounds-put_sheet-end-then-number-eq0
 slice-aggregate-put-sheet c =
-    let k = c in
+    let k = c.before.before in
     let start = k in
     let a = accepted-is k c.if-number-eq0.true in
     again-length _ start.args.space.now _ a (rows-read k a) start.requires.1 _ _ k.clear.ensures
 
 put-sheet-requires : tie.Need-put_sheet-requires
 put-sheet-requires c κs =
-    let k = c in
+    let k = c.before.before in
     let start = k in
     let a = accepted-is k c.if-number-eq0.true in
     ((a, front-is _ start.args.space.now _ a (rows-read k a) start.requires.1 _ _ k.clear.ensures), start.requires.0)
@@ -91,9 +91,6 @@ same-length-2 c = search rules
 
 returns : tie.Need-returns-then-number-eq0
 returns c = search rules
-
-slice-aggregate-put-line : tie.Need-slice-aggregate-put-line
-slice-aggregate-put-line c = search rules
 
 cast-put-line : tie.Need-overflow_cast-number
 cast-put-line c = search rules
@@ -111,7 +108,7 @@ same-length-4 c = search rules
 returns-2 : tie.Need-returns
 unfolding refused_line text
 returns-2 c =
-    let k = c in
+    let k = c.before.before.before.before.before.before.before in
     let line = refused_line k.refusal_of-number.result in
     put_as _ _ line _ _ _ (text-refused _ _ (sym (number_is k)) c.if-number-eq0.false) c.put_line.ensures
 
@@ -133,7 +130,6 @@ put_outcome_spec =
     same_length
     same-length-2
     returns
-    slice-aggregate-put-line
     cast-put-line
     put-line-requires
     same-length-3

@@ -36,8 +36,8 @@ add-if1 c = search rules
 
 clear-accepted-requires : tie.Need-clear_accepted-requires
 clear-accepted-requires c κs =
-    let t = c in
-    (book-accepted t, omega (arith, t.if-res-record_count.true, t.record_count.ensures))
+    let t = c.before in
+    (book-accepted t.before.before, omega (arith, t.if-res-record_count.true, t.record_count.ensures))
 
 returns : tie.Need-returns-in-Refused
 returns c =
@@ -50,13 +50,13 @@ same_length c = search rules
 
 returns-2 : tie.Need-returns-then-res-record_count
 returns-2 c =
-    let t = c in
-    promise-published _ _ _ (book-accepted t) (omega (arith, t.if-res-record_count.true, t.record_count.ensures)) c.clear_accepted.ensures
+    let t = c.before.before.before.before in
+    promise-published _ _ _ (book-accepted t.before.before) (omega (arith, t.if-res-record_count.true, t.record_count.ensures)) c.clear_accepted.ensures
 
 returns-3 : tie.Need-returns-else-res-record_count
 returns-3 c =
-    let n = c in
-    promise-refused _ _ _ 7 (refused-buffer _ _ (book-accepted n) (λ e. c.if-res-record_count.false (omega (arith, e, n.record_count.ensures)))) (λ e. omega arith) refl
+    let n = c.before in
+    promise-refused _ _ _ 7 (refused-buffer _ _ (book-accepted n.before) (λ e. c.if-res-record_count.false (omega (arith, e, n.record_count.ensures)))) (λ e. omega arith) refl
 
 pub clear_spec : {M : Type 1} → statement M
 clear_spec =

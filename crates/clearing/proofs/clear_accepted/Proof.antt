@@ -8,12 +8,12 @@ use Rattle.clearing.proofs.clear_accepted.Tie as tie
 
 -- the start behind the blocks, and what is held of the book then
 abbrev start : tie.After-blocks_of-blocks → tie.Start
-start c = c
+start c = c.before.before.before.before
 
 held : (k : tie.After-blocks_of-blocks) → Held (start k).args.book.now k.steps_of-steps.result k.blocks_of-blocks.result (start k).args.res.now
 held k =
     let s = start k in
-    record { accepted = s.pre.0; steps_are = k.steps_of-steps.ensures; blocks_are = k.blocks_of-blocks.ensures; buffer = s.pre.1 }
+    record { accepted = s.requires.0; steps_are = k.steps_of-steps.ensures; blocks_are = k.blocks_of-blocks.ensures; buffer = s.requires.1 }
 
 steps-of-requires : tie.Need-steps_of-steps-requires
 steps-of-requires c κs = search rules
@@ -26,13 +26,13 @@ row-needed-requires c κs = blocks-held _ _ _ _ _ _ _ c.blocks_of-blocks.ensures
 
 clear-small-requires : tie.Need-clear_small-requires
 clear-small-requires c κs =
-    let n = c in
-    (held n, λ h first last. le_trans (n.row_needed.ensures.fits h first last) c.if-row_needed-le-SMALL_ROW.true)
+    let n = c.before.before in
+    (held n.before, λ h first last. le_trans (n.row_needed.ensures.0 h first last) c.if-row_needed-le-SMALL_ROW.true)
 
 clear-large-requires : tie.Need-clear_large-requires
 clear-large-requires c κs =
-    let n = c in
-    (held n, λ h first last. le_trans (n.row_needed.ensures.fits h first last) n.row_needed.ensures.narrow)
+    let n = c.before.before in
+    (held n.before, λ h first last. le_trans (n.row_needed.ensures.0 h first last) n.row_needed.ensures.1)
 
 same_length : tie.Need-shape_of-res-then-row_needed-le-SMALL_ROW
 same_length c = search rules

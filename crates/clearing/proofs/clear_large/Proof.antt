@@ -16,7 +16,7 @@ slice-aggregate-clear-within-2 c = search rules
 clear-within-requires : tie.Need-clear_within-requires
 clear-within-requires c κs =
     let s = c in
-    record { held = s.requires.0; tables = ((omega arith, omega arith), search rules, λ i. omega (arith, zeros (24 * large_row) i), s.requires.1) }
+    (s.requires.0, ((omega arith, omega arith), search rules, λ i. omega (arith, zeros (24 * large_row) i), s.requires.1))
 
 same_length : tie.Need-shape_of-res
 same_length c = search rules

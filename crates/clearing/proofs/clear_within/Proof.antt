@@ -19,13 +19,13 @@ use Rattle.clearing.proofs.clear_within.Tie as tie
 
 -- THE STATES on the way: the start and the parents behind the tables, these behind the set found
 abbrev start : tie.After-prepare-prepared → tie.Start
-start c = c
+start c = c.before.before.before.before.before.before.before.before.before.before.before.before.before.before.before.before.before.before
 
 abbrev linked : tie.After-prepare-prepared → tie.After-parents_of-parents
-linked c = c
+linked c = c.before.before.before.before.before.before
 
 abbrev prepared : tie.After-find-best → tie.After-prepare-prepared
-prepared c = c
+prepared c = c.before.before.before.before.before.before.before.before.before.before.before.before.before.before
 
 -- the lengths of the step columns
 size-sides : (s : tie.Start) → length s.args.steps.sides ≡ 2048
@@ -44,11 +44,11 @@ size-ends : (s : tie.Start) → length s.args.steps.ends ≡ 25
 size-ends s = search rules
 
 ends-in : (s : tie.Start) → get_or s.args.steps.ends 24 0 ≤ 2048
-ends-in s = ends-fit _ _ _ _ _ _ s.requires.held.steps_are 24 (omega arith)
+ends-in s = ends-fit _ _ _ _ _ _ s.requires.0.steps_are 24 (omega arith)
 
 steps-in : (s : tie.Start) → StepsSized s.args.steps.ends s.args.steps.sides s.args.steps.prices s.args.steps.quantities
 steps-in s =
-    steps-sized _ s.requires.held.accepted _ _ _ _ _ s.requires.held.steps_are (omega (arith, ends-in s, size-sides s)) (omega (arith, ends-in s, size-prices s))
+    steps-sized _ s.requires.0.accepted _ _ _ _ _ s.requires.0.steps_are (omega (arith, ends-in s, size-sides s)) (omega (arith, ends-in s, size-prices s))
     (omega (arith, ends-in s, size-quantities s))
 
 hours-size : (m : tie.After-prepare-prepared) → length m.prepare-prepared.result.hours ≡ hour_list_size
@@ -63,7 +63,7 @@ day-is m = sym m.day_hours-day.ensures
 
 -- the parents are those of the book's blocks
 parents-are : (m : tie.After-prepare-prepared) → ParentsOf (start m).args.book.now (start m).args.blocks.count (linked m).parents_of-parents.result
-parents-are m = parents-of _ _ _ (start m).requires.held.accepted (linked m).parents_of-parents.ensures
+parents-are m = parents-of _ _ _ (start m).requires.0.accepted (linked m).parents_of-parents.ensures
 
 edition-of-requires : tie.Need-edition_of-edition-requires
 edition-of-requires c κs = search rules
@@ -91,9 +91,9 @@ slice-aggregate-prepare-3 c = search rules
 
 prepare-requires : tie.Need-prepare-prepared-requires
 prepare-requires c κs =
-    let s = c in
-    let h = s.requires.held in
-    let t = s.requires.tables in
+    let s = c.before.before.before.before.before.before.before.before.before.before.before.before.before.before.before.before.before in
+    let h = s.requires.0 in
+    let t = s.requires.1 in
     let day = c.day_hours-day.ensures in
     let parents = c.parents_of-parents.ensures in (
       rw day (day-hours _ h.accepted).1,
@@ -107,33 +107,33 @@ slice-aggregate-find-2 : tie.Need-slice_bounds-find-end-2
 slice-aggregate-find-2 c = search rules
 
 slice-aggregate-find-3 : tie.Need-slice_bounds-find-end-3
-slice-aggregate-find-3 c = sym (size-sides (start c))
+slice-aggregate-find-3 c = sym (size-sides (start c.before.before.before.before.before.before.before.before.before))
 
 slice-aggregate-find-4 : tie.Need-slice_bounds-find-end-4
-slice-aggregate-find-4 c = sym (size-prices (start c))
+slice-aggregate-find-4 c = sym (size-prices (start c.before.before.before.before.before.before.before.before.before.before))
 
 slice-aggregate-find-5 : tie.Need-slice_bounds-find-end-5
-slice-aggregate-find-5 c = sym (size-quantities (start c))
+slice-aggregate-find-5 c = sym (size-quantities (start c.before.before.before.before.before.before.before.before.before.before.before))
 
 slice-aggregate-find-6 : tie.Need-slice_bounds-find-end-6
-slice-aggregate-find-6 c = sym (size-ends (start c))
+slice-aggregate-find-6 c = sym (size-ends (start c.before.before.before.before.before.before.before.before.before.before.before.before))
 
 cast-find : tie.Need-overflow_cast-blocks
 cast-find c = search rules
 
 find-requires : tie.Need-find-best-requires
 find-requires c κs =
-    let m = c in
+    let m = c.before.before.before.before.before.before.before.before.before.before.before.before.before in
     let s = start m in
-    (m.prepare-prepared.ensures.sized, hours-size m, size-ends s, steps-in s)
+    (m.prepare-prepared.ensures.0, hours-size m, size-ends s, steps-in s)
 
 publish-requires : tie.Need-publish-requires
 publish-requires c κs =
-    let best = c in
+    let best = c.before.before in
     let m = prepared best in
     let s = start m in
-    let h = s.pre.0 in
-    let ready = m.prepare-prepared.ensures.ready _ _ h.accepted (edition-is m) (day-is m) h.steps_are h.blocks_are (parents-are m) in
+    let h = s.requires.0 in
+    let ready = m.prepare-prepared.ensures.1 _ _ h.accepted (edition-is m) (day-is m) h.steps_are h.blocks_are (parents-are m) in
     let steps = columns-steps _ _ _ _ _ _ h.steps_are h.accepted in
     let is = best.find-best.ensures _ ready.p ready.rest steps ready.known ready.turning (links-stand _ h.accepted).numbers in
     let e = m.record_count-count.ensures in
@@ -150,10 +150,10 @@ same-length-3 c = search rules
 
 returns : tie.Need-returns
 returns c =
-    let best = c in
+    let best = c.before.before.before.before.before in
     let m = prepared best in
-    let h = (start m).pre.0 in
-    let ready = m.prepare-prepared.ensures.ready _ _ h.accepted (edition-is m) (day-is m) h.steps_are h.blocks_are (parents-are m) in
+    let h = (start m).requires.0 in
+    let ready = m.prepare-prepared.ensures.1 _ _ h.accepted (edition-is m) (day-is m) h.steps_are h.blocks_are (parents-are m) in
     let steps = columns-steps _ _ _ _ _ _ h.steps_are h.accepted in
     let is = best.find-best.ensures _ ready.p ready.rest steps ready.known ready.turning (links-stand _ h.accepted).numbers in
     let e = m.record_count-count.ensures in

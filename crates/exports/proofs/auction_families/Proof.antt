@@ -9,15 +9,15 @@ families-requires : tie.Need-families-written-requires
 families-requires c κs = search rules
 
 array-share-prefix-bytes : tie.Need-slice_bounds-bytes-end
-array-share-prefix-bytes c = (put-counts _ 0 _ _ _ c.families-written.ensures.put c.families-written.ensures.fits).0
+array-share-prefix-bytes c = (put-counts _ 0 _ _ _ c.families-written.ensures.0 c.families-written.ensures.1).0
 
 slice-aggregate-put-where-room : tie.Need-slice_bounds-put_where_room-end
 slice-aggregate-put-where-room c =
-    (put-counts _ 0 _ _ _ c.families-written.ensures.put c.families-written.ensures.fits).1
+    (put-counts _ 0 _ _ _ c.families-written.ensures.0 c.families-written.ensures.1).1
 
 put-where-room-requires : tie.Need-put_where_room-requires
 put-where-room-requires c κs =
-    let counts = put-counts _ 0 _ _ _ c.families-written.ensures.put c.families-written.ensures.fits in
+    let counts = put-counts _ 0 _ _ _ c.families-written.ensures.0 c.families-written.ensures.1 in
     omega (arith, counts.0, counts.1)
 
 same_length : tie.Need-shape_of-out
@@ -25,9 +25,9 @@ same_length c = search rules
 
 returns : tie.Need-returns
 returns c =
-    let same = put_front _ _ _ _ c.families-written.ensures.put in
+    let same = put_front _ _ _ _ c.families-written.ensures.0 in
     let put = c.put_where_room.ensures in
-    record { answer = rw same at put.0; bytes = rw same at put.1 }
+    (rw same at put.0, rw same at put.1)
 
 pub auction_families_spec : {M : Type 1} → statement M
 auction_families_spec =

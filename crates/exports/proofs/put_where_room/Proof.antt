@@ -11,7 +11,7 @@ cast-result : tie.Need-overflow_cast-result
 cast-result c = search rules
 
 returns : tie.Need-returns-then-out-count
-returns c = record { answer = refl; bytes = without-room _ _ (omega (arith, c.if-out-count.true)) }
+returns c = (refl, without-room _ _ (omega (arith, c.if-out-count.true)))
 
 put-text-requires : tie.Need-put_text-requires
 put-text-requires c κs = room-from _ 0 _ (omega (arith, c.if-out-count.false))
@@ -23,7 +23,7 @@ same_length : tie.Need-shape_of-out
 same_length c = search rules
 
 returns-2 : tie.Need-returns
-returns-2 c = record { answer = refl; bytes = with-room _ _ _ (omega (arith, c.if-out-count.false)) c.put_text.ensures.written }
+returns-2 c = (refl, with-room _ _ _ (omega (arith, c.if-out-count.false)) c.put_text.ensures.written)
 
 pub put_where_room_spec : {M : Type 1} → statement M
 put_where_room_spec =

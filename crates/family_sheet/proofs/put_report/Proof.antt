@@ -15,9 +15,6 @@ parents-of-requires c κs = search rules
 gains-of-requires : tie.Need-gains_of-gains-requires
 gains-of-requires c κs = search rules
 
-slice-aggregate-put-text : tie.Need-slice-aggregate-put-text
-slice-aggregate-put-text c = search rules
-
 put-text-requires : tie.Need-put_text-lines_at-requires
 unfolding text
 put-text-requires c κs =
@@ -73,11 +70,11 @@ put-families-requires c κs =
     let parents = gains in
     let blocks = parents in
     let start = blocks in
-    let title = c.put_text-lines_at.ensures in record {
-      columns = report-held _ _ start.requires.0.0 start.requires.0.1 _ _ _ _ _ _ _ _ blocks.blocks_of-blocks.ensures parents.parents_of-parents.ensures gains.gains_of-gains.ensures;
-      room = room-lines _ _ start.requires.0.0 start.requires.0.1 _ _ _ _ _ _ _ _ blocks.blocks_of-blocks.ensures parents.parents_of-parents.ensures gains.gains_of-gains.ensures
-          (λ i. omega (arith, blocks.shared_slice_known-1.given i)) _ start.requires.1 _ _ title;
-    }
+    let title = c.put_text-lines_at.ensures in (
+      report-held _ _ start.requires.0.0 start.requires.0.1 _ _ _ _ _ _ _ _ blocks.blocks_of-blocks.ensures parents.parents_of-parents.ensures gains.gains_of-gains.ensures,
+      room-lines _ _ start.requires.0.0 start.requires.0.1 _ _ _ _ _ _ _ _ blocks.blocks_of-blocks.ensures parents.parents_of-parents.ensures gains.gains_of-gains.ensures
+          (λ i. omega (arith, blocks.shared_slice_known-1.given i)) _ start.requires.1 _ _ title,
+    )
 
 same_length : tie.Need-shape_of-out
 same_length c = search rules
@@ -100,7 +97,6 @@ put_report_spec =
     blocks-of-requires
     parents-of-requires
     gains-of-requires
-    slice-aggregate-put-text
     put-text-requires
     array-share-prefix-records
     slice-aggregate-put-families

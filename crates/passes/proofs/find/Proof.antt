@@ -18,16 +18,12 @@ find-there-requires c κs = search rules
 
 by-number-requires : tie.Need-by_number-requires
 by-number-requires c κs =
-    let ordered = c in
-    (ordered.requires.0.few, ordered.order_of-order.ensures.place_in)
+    (c.requires.0.few, c.order_of-order.ensures.place_in)
 
 returns : tie.Need-returns
 returns c =
-    let there = c in
-    let columns = there in
-    let ordered = columns in
-    found_back there.find_there-best.result ordered.requires.0.few ordered.order_of-order.ensures columns.reordered-other.ensures.1
-    c.by_number.ensures there.find_there-best.ensures
+    found_back c.find_there-best.result c.requires.0.few c.order_of-order.ensures c.reordered-other.ensures.1
+    c.by_number.ensures c.find_there-best.ensures
 
 pub find_spec : {M : Type 1} → statement M
 find_spec =

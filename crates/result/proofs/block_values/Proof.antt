@@ -1,11 +1,11 @@
 -- `block_values` meets its contract: the rows of the blocks before i. Assumes nothing.
 use Prim.Native.Nat.{◌-◌, ◌≤◌}
 use mathlib.Core.Path.{◌≡◌}
-use mathlib.Core.Logic.{⊎_elim}
 use native.Mathlib.Omega.{arith}
 use Rattle.result.proofs.RowLaws.{Valued, valued-start, valued-taken, valued-passed}
 use borrow.Author.Rules.{rules}
 use Rattle.result.proofs.block_values.Statement.{statement}
+use Rattle.result.proofs.block_values.Lts.{then-set-i-eq1, else-set-i-eq1}
 use Rattle.result.proofs.block_values.Tie as tie
 
 abbrev invariant-loop : tie.invariant-loop-i
@@ -45,8 +45,10 @@ loop-again : tie.Need-loop-i-preserved invariant-loop decreases-loop
 loop-again c =
     let loop = c.loop-i in (
       search rules,
-      ⊎_elim (λ w. rw w.2 (valued-taken _ _ _ _ loop.invariant.1 (search rules) w.0.taken)) (λ w. rw w.1 (valued-passed _ _ _ _ loop.invariant.1 w.0.left))
-          c.if-set-i-eq1.branch,
+      elim c.if-set-i-eq1.branch [
+        | then-set-i-eq1 w ↦ rw w.values-is (valued-taken _ _ _ _ loop.invariant.1 (search rules) w.if-set-i-eq1.true)
+        | else-set-i-eq1 w ↦ rw w.values-is (valued-passed _ _ _ _ loop.invariant.1 w.if-set-i-eq1.false)
+      ],
     )
 
 returns : tie.Need-returns invariant-loop decreases-loop

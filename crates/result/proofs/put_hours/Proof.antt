@@ -67,10 +67,10 @@ loop-again c =
     let loop = after-loop.loop-h in
     let price = after-put32.put32 in
     let quantity = c.put32-in-loop-h in
-    let lp : length start.args.quantities ≡ 24 = search rules in
-    let lq : length start.args.t3 ≡ 24 = search rules in (
+    let lp : length start.args.prices ≡ 24 = search rules in
+    let lq : length start.args.quantities ≡ 24 = search rules in (
       search rules,
-      quantity.auto.0 ∙ price.auto.0 ∙ loop.invariant.1,
+      quantity.auto.res ∙ price.auto.res ∙ loop.invariant.1,
       hour-turn _ _ _ start.requires lp lq _ _ _ loop.h (search rules) loop.invariant.2 price.ensures quantity.ensures,
     )
 
@@ -80,8 +80,8 @@ same_length c = search rules
 returns : tie.Need-returns invariant-loop decreases-loop
 returns c =
     let start = c in
-    let lp : length start.args.quantities ≡ 24 = search rules in
-    let lq : length start.args.t3 ≡ 24 = search rules in
+    let lp : length start.args.prices ≡ 24 = search rules in
+    let lq : length start.args.quantities ≡ 24 = search rules in
     hours-done _ _ _ start.requires lp lq _ c.loop-h.h c.loop-h-test.false c.loop-h.invariant.2
 
 pub put_hours_spec : {M : Type 1} → statement M

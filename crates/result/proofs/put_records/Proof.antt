@@ -50,7 +50,7 @@ loop-again c =
     let write = c.put32 in (
       search rules,
       search rules,
-      write.auto.0 ∙ loop.invariant.2,
+      write.auto.res ∙ loop.invariant.2,
       record-turn _ _ _ _ start.args.count loop.k start.requires.2 loop.invariant.0 (search rules) loop.invariant.3 write.ensures,
     )
 

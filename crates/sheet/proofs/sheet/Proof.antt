@@ -31,15 +31,12 @@ put-outcome-requires : tie.Need-put_outcome-requires
 put-outcome-requires c κs =
     let test = c in
     let room : length c.args.out.now ≡ 781 = search rules in
-    (accepted _ (sym (number_is test) ∙ test.if-number-eq0.true), omega arith, omega arith)
+    (accepted _ (sym (number_is test.before.before.before) ∙ test.if-number-eq0.true), omega arith, omega arith)
 
 returns : tie.Need-returns-then-number-eq0
 returns c =
     let put = c.put_outcome.ensures in
-    record { put = put; fits = put-short _ (λ i. omega (arith, c.shared_slice_known-1.given i)) _ _ _ put }
-
-slice-aggregate-put-line : tie.Need-slice-aggregate-put-line
-slice-aggregate-put-line c = search rules
+    (put, put-short _ (λ i. omega (arith, c.shared_slice_known-1.given i)) _ _ _ put)
 
 cast-put-line : tie.Need-overflow_cast-number
 cast-put-line c = search rules
@@ -55,8 +52,8 @@ unfolding refused_line text
 returns-2 c =
     let test = c in
     let line = refused_line test.refusal_in-number.result in
-    let put = put_as _ _ line _ _ _ (sheet-refused _ _ (sym (number_is test)) test.if-number-eq0.false) c.put_line.ensures in
-    record { put = put; fits = put-short _ (λ i. omega (arith, c.shared_slice_known-1.given i)) _ _ _ put }
+    let put = put_as _ _ line _ _ _ (sheet-refused _ _ (sym (number_is test.before.before.before.before.before)) test.if-number-eq0.false) c.put_line.ensures in
+    (put, put-short _ (λ i. omega (arith, c.shared_slice_known-1.given i)) _ _ _ put)
 
 pub sheet_spec : {M : Type 1} → statement M
 sheet_spec =
@@ -67,7 +64,6 @@ sheet_spec =
     slice-aggregate-put-outcome
     put-outcome-requires
     returns
-    slice-aggregate-put-line
     cast-put-line
     put-line-requires
     returns-2)

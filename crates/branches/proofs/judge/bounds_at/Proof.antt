@@ -19,9 +19,7 @@ counted-prices-requires-2 c κs = search rules
 
 returns : tie.Need-returns-then-shifts
 returns c =
-    let lows = c in
-    let highs = lows in
-    rw highs.if-shifts.true (bounds_of lows.counted_prices.ensures c.counted_prices-then-shifts.ensures true highs.highs_at.ensures lows.lows_at.ensures)
+    rw c.if-shifts.true (bounds_of c.counted_prices.ensures c.counted_prices-then-shifts.ensures true c.highs_at.ensures c.lows_at.ensures)
 
 prices-at-requires : tie.Need-prices_at-requires
 prices-at-requires c κs = search rules
@@ -37,9 +35,7 @@ counted-prices-requires-4 c κs = search rules
 
 returns-2 : tie.Need-returns
 returns-2 c =
-    let lows = c in
-    let highs = lows in
-    rw highs.if-shifts.false (bounds_of lows.counted_prices-2.ensures c.counted_prices-3.ensures false highs.prices_at.ensures lows.prices_at-2.ensures)
+    rw c.if-shifts.false (bounds_of c.counted_prices-2.ensures c.counted_prices-3.ensures false c.prices_at.ensures c.prices_at-2.ensures)
 
 pub bounds_at_spec : {M : Type 1} → statement M
 bounds_at_spec =

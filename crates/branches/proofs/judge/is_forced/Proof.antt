@@ -1,9 +1,10 @@
 -- `branches::judge::is_forced` meets its contract: no block is decided, or the last one's bit tells its other decision. Assumes nothing.
-use mathlib.Core.Logic.{inl, inr}
+use borrow.Author.Tests.{eq-eqb, ne_eqb}
 use Rattle.branches.proofs.DecisionLaws.{forced-none, forced-taken, forced-left}
 use borrow.Author.Rules.{rules}
 use Rattle.branches.proofs.judge.is_forced.Statement.{statement}
 use Rattle.branches.proofs.judge.is_forced.Tie as tie
+use Rattle.branches.proofs.judge.is_forced.Lts.{then-taken, else-taken}
 
 returns : tie.Need-returns-then-at-eq0
 returns c = forced-none _ _ _ _ _ c.if-at-eq0.true
@@ -43,8 +44,8 @@ returns-2 c =
     let s = c.args in
     let some = c.if-at-eq0.false in
     elim c.if-taken.branch [
-      | inl t ↦ rw t.2 (forced-taken s.blocks.now s.at s.set s.loss s.limit some t.0.taken)
-      | inr t ↦ rw t.2 (forced-left s.blocks.now s.at s.set s.loss s.limit some t.0.left)
+      | then-taken w ↦ rw w.other-is (forced-taken s.blocks.now s.at s.set s.loss s.limit some (eq-eqb _ 1 w.if-taken.true))
+      | else-taken w ↦ rw w.other-is (forced-left s.blocks.now s.at s.set s.loss s.limit some (ne_eqb _ 1 w.if-taken.false))
     ]
 
 pub is_forced_spec : {M : Type 1} → statement M

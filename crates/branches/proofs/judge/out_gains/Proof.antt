@@ -1,9 +1,8 @@
 -- `branches::judge::out_gains` meets its contract: none is out, or what the blocks up to number i would gain, of them that are. Assumes nothing.
-use Prim.Native.Nat.{◌+◌, ◌-◌, ◌^◌, ◌<◌}
+use Prim.Native.Nat.{◌+◌, ◌-◌}
 use mathlib.Core.Path.{refl, sym}
 use native.Mathlib.Omega.{arith}
 use Rattle.places.specs.Layout.{gain_column}
-use Rattle.places.specs.Blocks.{gain_at}
 use Rattle.branches.proofs.DecisionLaws.{GainsTo, gains-none, gains-start, gains-next, gains-all}
 use borrow.Author.Rules.{rules}
 use Rattle.branches.proofs.judge.out_gains.Statement.{statement}
@@ -14,17 +13,6 @@ invariant-loop blocks count at out gains₀ i₀ gains i = GainsTo blocks count 
 
 abbrev decreases-loop : tie.decreases-loop-i
 decreases-loop blocks count at out gains₀ i₀ gains i = count - i
-
--- THE STATES on the way: the loop and the start behind the choice of the gain
-abbrev at-loop : tie.After-choose-gain invariant-loop decreases-loop → tie.At-loop-i invariant-loop decreases-loop
-at-loop c = c
-
-abbrev start : tie.After-choose-gain invariant-loop decreases-loop → tie.Start invariant-loop decreases-loop
-start c = (at-loop c).before.before.before
-
--- the block's gain is a number of 32 bits
-gain-small : (c : tie.After-choose-gain invariant-loop decreases-loop) → gain_at (start c).args.blocks.now (at-loop c).loop-i.i < 2 ^ 32
-gain-small c = omega (arith, (at-loop c).shared_slice_known-1.given (gain_column + (at-loop c).loop-i.i))
 
 returns : tie.Need-returns-then-out-eq0 invariant-loop decreases-loop
 returns c = (sym (gains-none _ _ _ _ c.if-out-eq0.true), omega arith)
@@ -55,8 +43,8 @@ cast-gains c = search rules
 
 add-gains : tie.Need-overflow_add-gains invariant-loop decreases-loop
 add-gains c =
-    let v = (at-loop c).loop-i.invariant in
-    omega (arith, c.choose.type-inv, v.gains_fit, v.to, (start c).requires.1)
+    let v = c.loop-i.invariant in
+    omega (arith, c.choose-gain.type_inv, v.gains_fit, v.to, c.requires.1)
 
 add-i : tie.Need-overflow_add-i-in-loop-i invariant-loop decreases-loop
 add-i c = search rules
@@ -66,8 +54,8 @@ loop-less c = search rules
 
 loop-again : tie.Need-loop-i-preserved invariant-loop decreases-loop
 loop-again c =
-    gains-next _ _ _ _ _ _ _ _ _ (at-loop c).loop-i.invariant c.loop-i-test.true (λ _ _. refl) (sym c.is_out.ensures)
-    c.choose-gain.ensures (gain-small c)
+    gains-next _ _ _ _ _ _ _ _ _ c.loop-i.invariant c.loop-i-test.true (λ _ _. refl) (sym c.is_out.ensures)
+    c.choose-gain.ensures (omega (arith, c.shared_slice_known-1.given (gain_column + c.loop-i.i)))
 
 returns-2 : tie.Need-returns invariant-loop decreases-loop
 returns-2 c = gains-all _ _ _ c.requires.1 _ _ _ c.loop-i.invariant c.loop-i-test.false

@@ -1,11 +1,8 @@
 -- `branches::judge::ruled_out` meets its contract: the bits of the blocks up to number i, a parent's before its children's, and what they would gain. Assumes
 -- nothing.
-use Prim.Native.Nat.{◌+◌, ◌-◌, ◌^◌, ◌<◌}
-use mathlib.Core.Bool.{cond}
-use mathlib.Core.Path.{◌≡◌}
+use Prim.Native.Nat.{◌+◌, ◌-◌}
 use native.Mathlib.Omega.{arith}
 use Rattle.places.specs.Layout.{gain_column}
-use Rattle.places.specs.Blocks.{gain_at}
 use Rattle.branches.proofs.DecisionLaws.{RuledTo, ruled-start, ruled-next, ruled-room, ruled-all, gains-all}
 use borrow.Author.Rules.{rules}
 use Rattle.branches.proofs.judge.ruled_out.Statement.{statement}
@@ -16,27 +13,6 @@ invariant-loop blocks count at set out high low r₀ gains₀ i₀ r gains i = R
 
 abbrev decreases-loop : tie.decreases-loop-i
 decreases-loop blocks count at set out high low r₀ gains₀ i₀ r gains i = count - i
-
--- THE STATES on the way: the loop and the start behind the choice of the bit, that choice behind the choice of the gain
-abbrev at-loop : tie.After-choose-r invariant-loop decreases-loop → tie.At-loop-i invariant-loop decreases-loop
-at-loop c = c
-
-abbrev start : tie.After-choose-r invariant-loop decreases-loop → tie.Start invariant-loop decreases-loop
-start c = (at-loop c).before.before.before.before
-
-abbrev chosen : tie.After-choose invariant-loop decreases-loop → tie.After-choose-r invariant-loop decreases-loop
-chosen c = c
-
--- what is added is the block's bit where it is out
-added : (c : tie.After-choose-r invariant-loop decreases-loop) → c.choose-r.result ≡ cond c.is_ruled_out-test.result (2 ^ ((at-loop c).loop-i.i - (start c).args.at)) 0
-added c = rw c.bit.ensures at c.choose-r.ensures
-
-inside : (c : tie.After-choose-r invariant-loop decreases-loop) → (at-loop c).loop-i.i < (start c).args.count
-inside c = c.loop-i-test.true
-
--- the block's gain is a number of 32 bits
-gain-small : (c : tie.After-choose invariant-loop decreases-loop) → gain_at (start (chosen c)).args.blocks.now (at-loop (chosen c)).loop-i.i < 2 ^ 32
-gain-small c = omega (arith, (at-loop (chosen c)).shared_slice_known-1.given (gain_column + (at-loop (chosen c)).loop-i.i))
 
 loop-holds : tie.Need-loop-i-init invariant-loop decreases-loop
 loop-holds c = ruled-start _ _ _ _ _ _ _ c.requires.2
@@ -77,7 +53,7 @@ choose-requires c κs = search rules
 
 add_r : tie.Need-overflow_add-r invariant-loop decreases-loop
 add_r c =
-    omega (arith, ruled-room _ _ _ _ _ _ _ (start c).requires.1 _ _ _ _ c.is_ruled_out-test.result (at-loop c).loop-i.invariant (inside c) (added c))
+    omega (arith, ruled-room _ _ _ _ _ _ _ c.requires.1 _ _ _ _ c.is_ruled_out-test.result c.loop-i.invariant c.loop-i-test.true (rw c.bit.ensures at c.choose-r.ensures))
 
 add-choose : tie.Need-overflow_add-i-in-loop-i invariant-loop decreases-loop
 add-choose c = search rules
@@ -96,9 +72,9 @@ cast-gains c = search rules
 
 add-gains : tie.Need-overflow_add-gains invariant-loop decreases-loop
 add-gains c =
-    let k = inside (chosen c) in
-    let v = (at-loop (chosen c)).loop-i.inv.gained in
-    omega (arith, c.choose2.type-inv, v.gains_fit, v.to, (start (chosen c)).pre.1)
+    let k = c.loop-i-test.true in
+    let v = c.loop-i.invariant.gained in
+    omega (arith, c.choose.type_inv, v.gains_fit, v.to, c.requires.1)
 
 add-i : tie.Need-overflow_add-i-in-loop-i-2 invariant-loop decreases-loop
 add-i c = search rules
@@ -108,14 +84,13 @@ loop-less c = search rules
 
 loop-again : tie.Need-loop-i-preserved invariant-loop decreases-loop
 loop-again c =
-    let b = chosen c in
-    ruled-next _ _ _ _ _ _ _ (start b).pre.0.parents_fit (start b).pre.1 _ _ _ _ _ _ _ _ (at-loop b).loop-i.inv (inside b)
-    b.is_out.ensures b.is_gone-gone.ensures b.is_ruled_out-test.ensures (added b)
-    c.choose.ensures (gain-small c)
+    ruled-next _ _ _ _ _ _ _ c.requires.0.parents_fit c.requires.1 _ _ _ _ _ _ _ _ c.loop-i.invariant c.loop-i-test.true
+    c.is_out.ensures c.is_gone-gone.ensures c.is_ruled_out-test.ensures (rw c.bit.ensures at c.choose-r.ensures)
+    c.choose.ensures (omega (arith, c.shared_slice_known-1.given (gain_column + c.loop-i.i)))
 
 returns : tie.Need-returns invariant-loop decreases-loop
 returns c =
-    let v = c.loop-i.invariant in record { out = ruled-all _ _ _ _ _ _ _ _ _ _ v c.loop-i-test.false; gains = gains-all _ _ _ c.requires.1 _ _ _ v.gained c.loop-i-test.false }
+    let v = c.loop-i.invariant in (ruled-all _ _ _ _ _ _ _ _ _ _ v c.loop-i-test.false, gains-all _ _ _ c.requires.1 _ _ _ v.gained c.loop-i-test.false)
 
 pub ruled_out_spec : {M : Type 1} → statement M
 ruled_out_spec =

@@ -18,8 +18,7 @@ shared-slice-read-moved-where c = search rules
 
 moved-where-requires : tie.Need-moved_where-moved-requires
 moved-where-requires c κs =
-    let a = c in
-    (a.requires.0, a.requires.1, λ i. omega (arith, a.requires.1, a.requires.2.places_fit i))
+    (c.requires.0, c.requires.1, λ i. omega (arith, c.requires.1, c.requires.2.places_fit i))
 
 add-t7 : tie.Need-overflow_add-result
 add-t7 c = search rules
@@ -35,8 +34,7 @@ cast-t13 c = omega (arith, c.shared_slice_known-3-1.given (gain_column + c.args.
 
 add-t14 : tie.Need-overflow_add-result-2
 add-t14 c =
-    let a = c in
-    omega (arith, c.shared_slice_known-3-1.given (gain_column + a.args.at), a.requires.2.loss_fits, a.requires.1)
+    omega (arith, c.shared_slice_known-3-1.given (gain_column + c.args.at), c.requires.2.loss_fits, c.requires.1)
 
 add-t15 : tie.Need-overflow_add-result-3
 add-t15 c = search rules
@@ -52,15 +50,13 @@ cast-t19 c = omega (arith, c.shared_slice_known-4-1.given (rank_column + c.args.
 
 add-t20 : tie.Need-overflow_add-result-4
 add-t20 c =
-    let a = c in
-    omega (arith, c.shared_slice_known-4-1.given (rank_column + a.args.at), a.requires.2.tie_fits, a.requires.1)
+    omega (arith, c.shared_slice_known-4-1.given (rank_column + c.args.at), c.requires.2.tie_fits, c.requires.1)
 
 returns : tie.Need-returns
 returns c =
-    let a = c in
     let m = c.moved_where-moved.ensures in
     let words = c.shared_slice_known-4-1.given in
-    node-left _ _ _ _ a.requires.0 a.requires.2 m.0 (omega (arith, words (gain_column + a.args.at))) (omega (arith, words (rank_column + a.args.at))) m.1
+    node-left _ _ _ _ c.requires.0 c.requires.2 m.0 (omega (arith, words (gain_column + c.args.at))) (omega (arith, words (rank_column + c.args.at))) m.1
 
 pub leave_spec : {M : Type 1} → statement M
 leave_spec =

@@ -18,16 +18,14 @@ shared-slice-read-moved-where c = search rules
 
 moved-where-requires : tie.Need-moved_where-moved-requires
 moved-where-requires c κs =
-    let a = c in
-    (a.requires.0, a.requires.1, λ i. omega (arith, a.requires.1, a.requires.2.places_fit i))
+    (c.requires.0, c.requires.1, λ i. omega (arith, c.requires.1, c.requires.2.places_fit i))
 
 bit-requires : tie.Need-bit-requires
 bit-requires c κs = search rules
 
 add-t12 : tie.Need-overflow_add-result
 add-t12 c =
-    let a = c in
-    record { fits = set_room a.args.at _ _ a.requires.1 a.requires.2.set_fits c.bit.ensures }
+    record { fits = set_room c.args.at _ _ c.requires.1 c.requires.2.set_fits c.bit.ensures }
 
 add-t7 : tie.Need-overflow_add-result-2
 add-t7 c = search rules
@@ -43,15 +41,13 @@ cast-t15 c = omega (arith, c.shared_slice_known-3-1.given (against_column + c.ar
 
 add-t16 : tie.Need-overflow_add-result-3
 add-t16 c =
-    let a = c in
-    omega (arith, c.shared_slice_known-3-1.given (against_column + a.args.at), a.requires.2.loss_fits, a.requires.1)
+    omega (arith, c.shared_slice_known-3-1.given (against_column + c.args.at), c.requires.2.loss_fits, c.requires.1)
 
 returns : tie.Need-returns
 returns c =
-    let a = c in
     let m = c.moved_where-moved.ensures in
-    node-taken _ _ _ _ a.requires.0 a.requires.2 m.0 _ c.bit.ensures
-    (omega (arith, c.shared_slice_known-3-1.given (against_column + a.args.at))) m.1
+    node-taken _ _ _ _ c.requires.0 c.requires.2 m.0 _ c.bit.ensures
+    (omega (arith, c.shared_slice_known-3-1.given (against_column + c.args.at))) m.1
 
 pub take_spec : {M : Type 1} → statement M
 take_spec =

@@ -5,9 +5,6 @@ use borrow.Author.Rules.{rules}
 use Rattle.cash.proofs.lines.put_lines.Statement.{statement}
 use Rattle.cash.proofs.lines.put_lines.Tie as tie
 
-slice-aggregate-put-text : tie.Need-slice-aggregate-put-text
-slice-aggregate-put-text c = search rules
-
 put-text-requires : tie.Need-put_text-lines_at-requires
 unfolding text
 put-text-requires c κs =
@@ -19,9 +16,6 @@ unfolding text
 put-portfolios-requires c κs =
     let start = c in
     (start.requires.0, room-lines start.args.accounts.now _ start.requires.1 _ _ c.put_text-lines_at.ensures)
-
-slice-aggregate-put-text-2 : tie.Need-slice-aggregate-put-text-2
-slice-aggregate-put-text-2 c = search rules
 
 put-text-requires-2 : tie.Need-put_text-behind_word-requires
 unfolding text
@@ -51,10 +45,8 @@ pub put_lines_spec : {M : Type 1} → statement M
 put_lines_spec =
     tie.close
     (tie.spec
-    slice-aggregate-put-text
     put-text-requires
     put-portfolios-requires
-    slice-aggregate-put-text-2
     put-text-requires-2
     put-cash-requires
     same_length

@@ -37,7 +37,7 @@ loop-again c =
     let loop = c.loop-p in
     let line = c.put_portfolio-end in (
       search rules,
-      line.auto.0 ∙ loop.invariant.1,
+      line.auto.out ∙ loop.invariant.1,
       line-put _ loop.p (search rules) _ _ start.requires.1 _ _ loop.invariant.2 _ _ line.ensures,
     )
 

@@ -32,7 +32,7 @@ sums-of-requires c κs =
     let pre = m.requires in (
       record {
         as_many_prices = pre.0.as_many_prices;
-        as_many_quantities = omega (arith, pre.1, o.share_out.auto.1.1.1.1.1.0);
+        as_many_quantities = omega (arith, pre.1, o.share_out.auto.out);
         not_too_many = pre.0.not_too_many;
       },
       pre.5,
@@ -52,7 +52,7 @@ returns c =
     let s = m in
     let pre = s.requires in
     hour-done _ _ _ _ s.args.sales s.args.buys (2097152 + s.args.sales - s.args.buys) _ _ _
-    (omega (arith, pre.0.as_many_quantities, pre.1, o.share_out.auto.1.1.1.1.1.0)) (omega (arith, pre.4))
+    (omega (arith, pre.0.as_many_quantities, pre.1, o.share_out.auto.out)) (omega (arith, pre.4))
     (executed-by _ _ _ _ _ _ _ _ _ _ m.amounts_at-amounts.ensures o.share_out.ensures) c.sums_of.ensures
 
 pub fill_hour_spec : {M : Type 1} → statement M

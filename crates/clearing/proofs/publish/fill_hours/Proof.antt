@@ -26,7 +26,7 @@ decreases-loop often bsides bhours bquantities set values₀ rests₀ middles si
 
 -- the start behind an hour put
 abbrev begun : tie.After-slice_known-in-loop-h-2-1 invariant-loop decreases-loop → tie.Start invariant-loop decreases-loop
-begun c = c
+begun c = c.before.before.before.before.before.before.before.before.before.before.before.before.before.before.before.before.before.before.before.before.before.before
 
 -- an hour's value and cost as it counts
 value_room : (c : tie.After-times_of-times invariant-loop decreases-loop) → c.times_of-times.result * c.put_hour-sums.result.value ≤ 2 * most_worth
@@ -37,7 +37,7 @@ cost-room c = product_le _ _ 2 most_worth c.times_of-times.ensures.1 c.put_hour-
 
 loop-holds : tie.Need-loop-h-init invariant-loop decreases-loop
 loop-holds c =
-    let s = c in
+    let s = c.before.before.before.before.before.before.before.before.before in
     (refl, omega arith, hours-none _ s.requires.0 _ _ _ _ _ _ _ _ s.requires.1.start, refl)
 
 mul-from : tie.Need-offset_bounds-ends-h invariant-loop decreases-loop
@@ -87,10 +87,10 @@ array-read-put-hour c = search rules
 
 put-hour-requires : tie.Need-put_hour-sums-requires invariant-loop decreases-loop
 put-hour-requires c κs =
-    let w = c in
-    let v = w in
+    let w = c.before.before.before.before.before in
+    let v = w.before.before in
     let h = w.loop-h-test.true in
-    let s = v in
+    let s = v.before.before.before.before.before.before.before.before.before.before in
     let t = trades-most _ _ _ _ _ _ _ s.requires.2 w.trades_of-trades.ensures in
     let inside = hour-inside _ _ _ _ v.loop-h.h s.requires.1 h in (
       hour-part _ _ _ _ v.loop-h.h s.requires.1 h,
@@ -105,20 +105,20 @@ times-of-requires : tie.Need-times_of-times-requires invariant-loop decreases-lo
 times-of-requires c κs = (begun c).requires.0
 
 mul-value : tie.Need-overflow_mul-value invariant-loop decreases-loop
-mul-value c = record { fits = omega (arith, value_room c) }
+mul-value c = record { fits = omega (arith, value_room c.before) }
 
 add-value : tie.Need-overflow_add-value invariant-loop decreases-loop
 add-value c =
     let v = c.loop-h.invariant in
-    record { fits = omega (arith, value_room c, v.1, v.2.value_fits) }
+    record { fits = omega (arith, value_room c.before, v.1, v.2.value_fits) }
 
 mul-cost : tie.Need-overflow_mul-cost invariant-loop decreases-loop
-mul-cost c = record { fits = omega (arith, cost-room c) }
+mul-cost c = record { fits = omega (arith, cost-room c.before.before) }
 
 add-cost : tie.Need-overflow_add-cost invariant-loop decreases-loop
 add-cost c =
     let v = c.loop-h.invariant in
-    record { fits = omega (arith, cost-room c, v.1, v.2.cost_fits) }
+    record { fits = omega (arith, cost-room c.before.before, v.1, v.2.cost_fits) }
 
 add-h : tie.Need-overflow_add-h-in-loop-h invariant-loop decreases-loop
 add-h c = search rules
@@ -128,12 +128,12 @@ loop-less c = search rules
 
 loop-again : tie.Need-loop-h-preserved invariant-loop decreases-loop
 loop-again c =
-    let n = c in
-    let p = n in
-    let w = p in
-    let v = w in
+    let n = c.before.before in
+    let p = n.before.before.before.before.before in
+    let w = p.before.before.before.before.before.before in
+    let v = w.before.before in
     let h = w.loop-h-test.true in
-    let s = v in
+    let s = v.before.before.before.before.before.before.before.before.before.before in
     let t = trades-are _ _ _ _ _ _ _ w.trades_of-trades.ensures in
     let one : v.loop-h.h + 1 - 1 ≡ v.loop-h.h = omega arith in (
       p.put_hour-sums.ensures.same_length ∙ v.loop-h.invariant.0,
@@ -141,7 +141,7 @@ loop-again c =
       hours-more _ s.requires.0 _ _ _ _ _ _ _ v.loop-h.h _ _ _ _ _ _ _ _ _ _ h n.times_of-times.ensures.0 n.times_of-times.ensures.1 t.0 t.1 (rw one)
           (s.requires.1.rise v.loop-h.h h) v.loop-h.invariant.2
           p.put_hour-sums.ensures,
-      p.put_hour-sums.auto.1.1.1.1.1.1.1.1.1.0 ∙ v.loop-h.invariant.3,
+      p.put_hour-sums.auto.rests ∙ v.loop-h.invariant.3,
     )
 
 same_length : tie.Need-shape_of-values invariant-loop decreases-loop
@@ -152,7 +152,7 @@ same-length-2 c = search rules
 
 returns : tie.Need-returns invariant-loop decreases-loop
 returns c =
-    let v = c in
+    let v = c.before in
     let e : v.loop-h.h ≡ 24 = omega (arith, v.loop-h.invariant.1) in
     rw e at v.loop-h.invariant.2
 

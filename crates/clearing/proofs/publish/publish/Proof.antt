@@ -11,7 +11,7 @@ use Rattle.clearing.proofs.publish.publish.Tie as tie
 
 -- the start behind the blocks' arrays
 abbrev start : tie.After-bquantities-1 → tie.Start
-start c = c
+start c = c.before.before.before.before.before.before
 
 -- the arrays have room for the blocks
 fronts : (s : tie.Start) →
@@ -37,45 +37,45 @@ array-share-prefix-brecords : tie.Need-slice_bounds-brecords-end
 array-share-prefix-brecords c = (fronts (start c)).in_records
 
 slice-aggregate-publish-columns : tie.Need-slice_bounds-publish_columns-end
-slice-aggregate-publish-columns c = sym (length-take-le _ _ (fronts (start c)).in_records)
+slice-aggregate-publish-columns c = sym (length-take-le _ _ (fronts (start c.before)).in_records)
 
 array-share-prefix-bsides : tie.Need-slice_bounds-bsides-end
-array-share-prefix-bsides c = (fronts (start c)).in_sides
+array-share-prefix-bsides c = (fronts (start c.before)).in_sides
 
 slice-aggregate-publish-columns-2 : tie.Need-slice_bounds-publish_columns-end-2
-slice-aggregate-publish-columns-2 c = sym (length-take-le _ _ (fronts (start c)).in_sides)
+slice-aggregate-publish-columns-2 c = sym (length-take-le _ _ (fronts (start c.before.before)).in_sides)
 
 array-share-prefix-bhours : tie.Need-slice_bounds-bhours-end
-array-share-prefix-bhours c = (fronts (start c)).in_hours
+array-share-prefix-bhours c = (fronts (start c.before.before)).in_hours
 
 slice-aggregate-publish-columns-3 : tie.Need-slice_bounds-publish_columns-end-3
-slice-aggregate-publish-columns-3 c = sym (length-take-le _ _ (fronts (start c)).in_hours)
+slice-aggregate-publish-columns-3 c = sym (length-take-le _ _ (fronts (start c.before.before.before)).in_hours)
 
 array-share-prefix-bprices : tie.Need-slice_bounds-bprices-end
-array-share-prefix-bprices c = (fronts (start c)).in_prices
+array-share-prefix-bprices c = (fronts (start c.before.before.before)).in_prices
 
 slice-aggregate-publish-columns-4 : tie.Need-slice_bounds-publish_columns-end-4
-slice-aggregate-publish-columns-4 c = sym (length-take-le _ _ (fronts (start c)).in_prices)
+slice-aggregate-publish-columns-4 c = sym (length-take-le _ _ (fronts (start c.before.before.before.before)).in_prices)
 
 array-share-prefix-bquantities : tie.Need-slice_bounds-bquantities-end
-array-share-prefix-bquantities c = (fronts (start c)).in_quantities
+array-share-prefix-bquantities c = (fronts (start c.before.before.before.before)).in_quantities
 
 slice-aggregate-publish-columns-5 : tie.Need-slice_bounds-publish_columns-end-5
-slice-aggregate-publish-columns-5 c = sym (length-take-le _ _ (fronts (start c)).in_quantities)
+slice-aggregate-publish-columns-5 c = sym (length-take-le _ _ (fronts (start c.before.before.before.before.before)).in_quantities)
 
 publish-columns-requires : tie.Need-publish_columns-requires
 publish-columns-requires c κs =
-    let s = start c in
+    let s = start c.before.before.before.before.before.before in
     let f = fronts s in (
-      s.pre.short,
-      s.pre.steps_fit,
-      s.pre.in_records,
-      fronts-sized f s.pre.block_quantities_fit,
+      s.requires.short,
+      s.requires.steps_fit,
+      s.requires.in_records,
+      fronts-sized f s.requires.block_quantities_fit,
       fronts-records f,
       fronts-prices f,
-      small-take _ _ _ s.pre.block_prices_fit,
-      s.pre.priced,
-      s.pre.buffer,
+      small-take _ _ _ s.requires.block_prices_fit,
+      s.requires.priced,
+      s.requires.buffer,
     )
 
 same_length : tie.Need-shape_of-res
@@ -83,8 +83,8 @@ same_length c = search rules
 
 returns : tie.Need-returns
 returns c =
-    let call = c in
-    let f = fronts (start call) in
+    let call = c.before.before in
+    let f = fronts (start call.before.before.before.before.before.before.before) in
     λ b a hours steps blocks chosen day same.
     call.publish_columns.ensures b a hours steps (fronts-columns f b blocks) (fronts-chosen f _ _ chosen) day same
 

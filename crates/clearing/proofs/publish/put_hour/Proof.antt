@@ -90,7 +90,7 @@ returns c =
     let s = put in
     let p = s.requires.0 in
     hour-put _ _ _ s.args.from s.args.to _ _ _ _ _ _ _ p.ordered s.requires.1
-    (put.fill_hour.auto.1.1.1.1.1.1.0 ∙ mid_len s.args.from s.args.to _ s.requires.1) put.fill_hour.ensures
+    (put.fill_hour.auto.out ∙ mid_len s.args.from s.args.to _ s.requires.1) put.fill_hour.ensures
 
 pub put_hour_spec : {M : Type 1} → statement M
 put_hour_spec =

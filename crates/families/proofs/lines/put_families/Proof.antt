@@ -24,7 +24,7 @@ put-root-requires : tie.Need-put_root-end-requires invariant-loop decreases-loop
 put-root-requires c κs =
     let start = c in
     let loop = c.loop-i in
-    record { columns = (start.requires.columns, search rules); room = line-room _ _ _ _ loop.i (search rules) _ _ start.requires.room _ _ loop.invariant.2 }
+    ((start.requires.0, search rules), line-room _ _ _ _ loop.i (search rules) _ _ start.requires.1 _ _ loop.invariant.2)
 
 add-i : tie.Need-overflow_add-i invariant-loop decreases-loop
 add-i c = search rules
@@ -38,8 +38,8 @@ loop-again c =
     let loop = c.loop-i in
     let root = c.put_root-end in (
       search rules,
-      root.auto.0 ∙ loop.invariant.1,
-      line-put _ _ _ _ loop.i (search rules) _ _ start.requires.room _ _ loop.invariant.2 _ _ root.ensures,
+      root.auto.out ∙ loop.invariant.1,
+      line-put _ _ _ _ loop.i (search rules) _ _ start.requires.1 _ _ loop.invariant.2 _ _ root.ensures,
     )
 
 same_length : tie.Need-shape_of-out invariant-loop decreases-loop

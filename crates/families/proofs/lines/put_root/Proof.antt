@@ -21,9 +21,9 @@ sub-visit-2 c = search rules
 visit-requires : tie.Need-visit-gain-requires
 visit-requires c κs =
     let start = c in
-    let held = start.requires.columns.0 in
-    let inside = start.requires.columns.1 in
-    record { columns = (held.parents_size, omega (arith, inside)); fits = rw (gain-is _ _ start.args.i) (held.gains_fit start.args.i inside) }
+    let held = start.requires.0.0 in
+    let inside = start.requires.0.1 in
+    ((held.parents_size, omega (arith, inside)), rw (gain-is _ _ start.args.i) (held.gains_fit start.args.i inside))
 
 mul-number-of : tie.Need-offset_bounds-records-i
 mul-number-of c = search rules
@@ -38,7 +38,7 @@ put-family-requires : tie.Need-put_family-requires
 put-family-requires c κs =
     let start = c in
     let gain = c.visit-gain.ensures ∙ gain-is _ _ start.args.i in
-    rw (c.number_of.ensures, gain) (rw (line-root _ _ _ _ start.args.i c.if-parents-i-eq0.true) at start.requires.room)
+    rw (c.number_of.ensures, gain) (rw (line-root _ _ _ _ start.args.i c.if-parents-i-eq0.true) at start.requires.1)
 
 same_length : tie.Need-shape_of-out-then-parents-i-eq0
 same_length c = search rules

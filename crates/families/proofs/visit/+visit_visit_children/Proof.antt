@@ -71,18 +71,18 @@ visit-add-visit-children t c = search rules
 visit-visit-children-requires : (t : ℕ) → visit-lts.Need-visit_children-requires (claims-visit t) (visit-at t) visit.Post
 visit-visit-children-requires t c κs =
     let start = c in
-    let columns = start.requires.fits.0 in
-    (omega (arith, start.requires.columns), ((columns.0, columns.1, omega arith), visit-part-fits _ _ _ _ _ start.requires.fits.1))
+    let columns = start.requires.1.0 in
+    (omega (arith, start.requires.0), ((columns.0, columns.1, omega arith), visit-part-fits _ _ _ _ _ start.requires.1.1))
 
 visit-add-result : (t : ℕ) → visit-lts.Need-overflow_add-result (claims-visit t) (visit-at t) visit.Post
 visit-add-result t c =
     let start = c in
-    record { fits = visit-sum-fits _ _ _ start.args.left start.args.i _ start.requires.fits.1 c.visit_children-later.ensures }
+    record { fits = visit-sum-fits _ _ _ start.args.left start.args.i _ start.requires.1.1 c.visit_children.ensures }
 
 visit-returns : (t : ℕ) → visit-lts.Need-returns (claims-visit t) (visit-at t) visit.Post
 visit-returns t c =
     let start = c in
-    rw c.visit_children-later.ensures (sym (visit-is _ _ start.args.left start.args.i))
+    rw c.visit_children.ensures (sym (visit-is _ _ start.args.left start.args.i))
 
 visit-children-returns : (t : ℕ) → visit-children-lts.Need-returns-then-left-eq0 (claims-visit-children t) (visit-children-at t) visit-children.Post
 visit-children-returns t c =
@@ -98,9 +98,9 @@ visit-children-visit-children-requires : (t : ℕ) → visit-children-lts.Need-v
 visit-children-visit-children-requires t c κs =
     let start = c in
     let some : 0 < start.args.left = omega (arith, c.if-left-eq0.false) in
-    let columns = start.requires.fits.0 in (
-      omega (arith, start.requires.columns),
-      ((columns.0, omega (arith, columns.1), omega (arith, columns.2)), later-fits _ _ _ _ _ _ some start.requires.fits.1),
+    let columns = start.requires.1.0 in (
+      omega (arith, start.requires.0),
+      ((columns.0, omega (arith, columns.1), omega (arith, columns.2)), later-fits _ _ _ _ _ _ some start.requires.1.1),
     )
 
 visit-children-mul-if2 : (t : ℕ) → visit-children-lts.Need-offset_bounds-parents-j (claims-visit-children t) (visit-children-at t) visit-children.Post
@@ -123,9 +123,9 @@ visit-children-visit-requires : (t : ℕ) → visit-children-lts.Need-visit-requ
 visit-children-visit-requires t c κs =
     let start = c in
     let some : 0 < start.args.left = omega (arith, c.if-left-eq0.false) in
-    let columns = start.requires.fits.0 in (
-      omega (arith, start.requires.columns),
-      ((columns.0, omega (arith, columns.1)), child_fits _ _ _ _ _ _ some c.if-parents-j.true start.requires.fits.1),
+    let columns = start.requires.1.0 in (
+      omega (arith, start.requires.0),
+      ((columns.0, omega (arith, columns.1)), child_fits _ _ _ _ _ _ some c.if-parents-j.true start.requires.1.1),
     )
 
 visit-children-add-result : (t : ℕ) → visit-children-lts.Need-overflow_add-result (claims-visit-children t) (visit-children-at t) visit-children.Post
@@ -133,7 +133,7 @@ visit-children-add-result t c =
     let start = c in
     let some : 0 < start.args.left = omega (arith, c.if-left-eq0.false) in
     let later = c.visit_children-later.ensures in
-    record { fits = child-sum-fits _ _ _ _ _ _ _ _ some c.if-parents-j.true start.requires.fits.1 c.visit.ensures later }
+    record { fits = child-sum-fits _ _ _ _ _ _ _ _ some c.if-parents-j.true start.requires.1.1 c.visit.ensures later }
 
 visit-children-returns-2 : (t : ℕ) → visit-children-lts.Need-returns-then-parents-j (claims-visit-children t) (visit-children-at t) visit-children.Post
 visit-children-returns-2 t c =

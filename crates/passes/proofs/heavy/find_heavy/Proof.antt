@@ -1,7 +1,7 @@
 -- `passes::heavy::find_heavy` meets its contract: a pass that finds a set has found the published one, and the last pass finds. Assumes nothing.
-use Prim.Native.Nat.{ℕ, ◌-◌, ◌*◌, ◌^◌, ◌<◌}
+use Prim.Native.Nat.{ℕ, ◌-◌, ◌*◌}
 use mathlib.Core.Path.{◌≡◌, refl, sym, ◌∙◌}
-use lib.ListN.{length, get_or}
+use lib.ListN.{length}
 use native.Mathlib.Omega.{arith}
 use Rattle.places.specs.Layout.{last_limit}
 use Rattle.passes.specs.Passes.{LimitHeld}
@@ -20,17 +20,6 @@ invariant-loop unit-prices gap hours blocks sides prices quantities ends count g
 abbrev decreases-loop : tie.decreases-loop-limit
 decreases-loop unit-prices gap hours blocks sides prices quantities ends count guessed from table₀ limit₀ table limit = 2 * last_limit - limit
 
--- the start behind the loop
-abbrev start : tie.At-loop-limit invariant-loop decreases-loop → tie.Start invariant-loop decreases-loop
-start c = c
-
--- the elements of the blocks' list and of the gaps are numbers of 32 bits
-blocks-fit : (c : tie.At-loop-limit invariant-loop decreases-loop) (i : ℕ) → get_or (start c).args.blocks.now i 0 < 2 ^ 32
-blocks-fit c i = omega (arith, c.shared_slice_known-4-1.given i)
-
-gaps-fit : (c : tie.At-loop-limit invariant-loop decreases-loop) (i : ℕ) → get_or (start c).args.gap.now i 0 < 2 ^ 32
-gaps-fit c i = omega (arith, c.shared_slice_known-2-1.given i)
-
 loop-holds : tie.Need-loop-limit-init invariant-loop decreases-loop
 loop-holds c = (c.requires.2, refl)
 
@@ -38,19 +27,17 @@ slice-aggregate-pass : tie.Need-slice_bounds-pass-end invariant-loop decreases-l
 slice-aggregate-pass c = sym c.loop-limit.invariant.1
 
 pass-requires : tie.Need-pass-found-requires invariant-loop decreases-loop
-pass-requires c κs = let l = c in ((start l).requires.0, l.loop-limit.invariant.0)
+pass-requires c κs = (c.requires.0, c.loop-limit.invariant.0)
 
 returns : tie.Need-returns-then-found-limit invariant-loop decreases-loop
 returns c =
     let passed = c.pass-found.ensures in
-    let few = (start c).pre.0.0.few in
+    let few = c.requires.0.0.few in
     λ day p rest set same known turning best. pass-is known turning same passed (fuel-left few (omega arith) passed) best c.if-found-limit.true
 
 limit-after-requires : tie.Need-limit_after-limit-requires invariant-loop decreases-loop
 limit-after-requires c κs =
-    let turn = c in
-    let l = turn in
-    (l.loop-limit.invariant.0.0, turn.loop-limit-test.true, (start l).requires.1)
+    (c.loop-limit.invariant.0.0, c.loop-limit-test.true, c.requires.1)
 
 loop-less : tie.Need-loop-limit-smaller invariant-loop decreases-loop
 loop-less c = omega (arith, c.limit_after-limit.ensures)
@@ -58,24 +45,23 @@ loop-less c = omega (arith, c.limit_after-limit.ensures)
 loop-again : tie.Need-loop-limit-preserved invariant-loop decreases-loop
 loop-again c = (
   (omega (arith, c.limit_after-limit.ensures), c.limit_after-limit.ensures.1),
-  c.pass-found.auto.1.1.1.1.1.1.1.1.0 ∙ c.loop-limit.invariant.1,
+  c.pass-found.auto.table ∙ c.loop-limit.invariant.1,
 )
 
 slice-aggregate-pass-2 : tie.Need-slice_bounds-pass-end-2 invariant-loop decreases-loop
 slice-aggregate-pass-2 c = sym c.loop-limit.invariant.1
 
 pass-requires-2 : tie.Need-pass-requires invariant-loop decreases-loop
-pass-requires-2 c κs = let l = c in ((start l).requires.0, l.loop-limit.invariant.0)
+pass-requires-2 c κs = (c.requires.0, c.loop-limit.invariant.0)
 
 returns-2 : tie.Need-returns invariant-loop decreases-loop
 returns-2 c =
-    let l = c in
     let passed = c.pass.ensures in
-    let few = (start l).requires.0.0.few in
+    let few = c.requires.0.0.few in
     let some = fuel-left few (omega arith) passed in
     λ day p rest set same known turning best.
     pass-is known turning same passed some best
-    (pass-found known turning same passed some best few (blocks-fit l) (gaps-fit l) c.loop-limit-test.false)
+    (pass-found known turning same passed some best few (λ i. omega (arith, c.shared_slice_known-4-1.given i)) (λ i. omega (arith, c.shared_slice_known-2-1.given i)) c.loop-limit-test.false)
 
 pub find_heavy_spec : {M : Type 1} → statement M
 find_heavy_spec =

@@ -30,7 +30,7 @@ slice-aggregate-pass : tie.Need-slice_bounds-pass-end invariant-loop decreases-l
 slice-aggregate-pass c = sym c.loop-limit.invariant.1
 
 pass-requires : tie.Need-pass-found-requires invariant-loop decreases-loop
-pass-requires c κs = let l = c in (l.requires.0, l.loop-limit.invariant.0)
+pass-requires c κs = (c.requires.0, c.loop-limit.invariant.0)
 
 returns : tie.Need-returns-then-found-limit invariant-loop decreases-loop
 returns c =
@@ -52,7 +52,7 @@ loop-less c = omega (arith, doubled c, c.loop-limit.invariant.0)
 loop-again : tie.Need-loop-limit-preserved invariant-loop decreases-loop
 loop-again c = (
   (omega (arith, c.loop-limit.invariant.0), doubled c),
-  c.pass-found.auto.1.1.1.1.1.1.1.1.0 ∙ c.loop-limit.invariant.1,
+  c.pass-found.auto.table ∙ c.loop-limit.invariant.1,
 )
 
 start-at-requires : tie.Need-start_at-none-requires invariant-loop decreases-loop

@@ -18,8 +18,7 @@ same_length c = search rules
 
 returns : tie.Need-returns
 returns c =
-    let explored = c in
-    pass-from explored.start_at-start.ensures explored.explore.ensures.kept explored.explore.ensures.explored
+    pass-from c.start_at-start.ensures c.explore.ensures.0 c.explore.ensures.1
 
 pub pass_spec : {M : Type 1} → statement M
 pass_spec = tie.close (tie.spec start-at-requires explore-requires same_length returns)

@@ -2,7 +2,6 @@
 use Prim.Native.Nat.{◌-◌}
 use mathlib.Core.Path.{refl}
 use native.Mathlib.Omega.{arith}
-use borrow.Author.Tests.{not-false}
 use Rattle.rules.proofs.Tests.{clash}
 use Rattle.rivals.specs.Tests.{Below, OutdoneFor}
 use Rattle.rivals.proofs.TestLaws.{below_none, below_more}
@@ -32,7 +31,7 @@ loop-less : tie.Need-loop-j-smaller invariant-loop decreases-loop
 loop-less c = search rules
 
 loop-again : tie.Need-loop-j-preserved invariant-loop decreases-loop
-loop-again c = below_more _ _ c.loop-j.invariant (c.is_matched.ensures (not-false _ c.if-not-is_matched.false))
+loop-again c = below_more _ _ c.loop-j.invariant (c.is_matched.ensures c.if-not-is_matched.false)
 
 returns-2 : tie.Need-returns invariant-loop decreases-loop
 returns-2 c = λ _ j k. c.loop-j.invariant j (omega (arith, c.loop-j-test.false))

@@ -1,6 +1,5 @@
 -- `rivals::lookup::is_rival` meets its contract: one law for the tests. Assumes nothing.
 use mathlib.Core.Path.{refl}
-use borrow.Author.Tests.{not-false}
 use Rattle.rules.proofs.Tests.{clash}
 use Rattle.rivals.proofs.CheaperLaws.{rivalled}
 use borrow.Author.Rules.{rules}
@@ -42,14 +41,9 @@ costs-less-requires c κs = search rules
 
 returns-5 : tie.Need-returns
 returns-5 c = λ e.
-    let others = c in
-    let replay = others in
-    let children = replay in
-    let parents = children in
-    let outdone = parents in
-    rivalled (outdone.holds_outdone.ensures (not-false _ parents.if-not-holds_outdone.false)) (parents.holds_parents.ensures (not-false _ children.if-not-holds_parents.false))
-    (children.leaves_no_child.ensures (not-false _ replay.if-not-leaves_no_child.false)) replay.replayed-other.ensures
-    (others.are_same.ensures (not-false _ c.if-not-are_same.false)) (c.costs_less.ensures e)
+    rivalled (c.holds_outdone.ensures c.if-not-holds_outdone.false) (c.holds_parents.ensures c.if-not-holds_parents.false)
+    (c.leaves_no_child.ensures c.if-not-leaves_no_child.false) c.replayed-other.ensures
+    (c.are_same.ensures c.if-not-are_same.false) (c.costs_less.ensures e)
 
 pub is_rival_spec : {M : Type 1} → statement M
 is_rival_spec =

@@ -9,16 +9,16 @@ takes-requires : tie.Need-takes-requires
 takes-requires c κs = search rules
 
 take-requires : tie.Need-take-requires
-take-requires c κs = let a = c in (a.requires.0, a.requires.1, a.requires.2.fits)
+take-requires c κs = (c.requires.0, c.requires.1, c.requires.2.fits)
 
 returns : tie.Need-returns-then-takes
-returns c = let b = c in replays-taken b.requires.2 _ (sym b.takes.ensures ∙ c.if-takes.true) c.take.ensures
+returns c = replays-taken c.requires.2 _ (sym c.takes.ensures ∙ c.if-takes.true) c.take.ensures
 
 leave-requires : tie.Need-leave-requires
-leave-requires c κs = let a = c in (a.requires.0, a.requires.1, a.requires.2.fits)
+leave-requires c κs = (c.requires.0, c.requires.1, c.requires.2.fits)
 
 returns-2 : tie.Need-returns
-returns-2 c = let b = c in replays-left b.requires.2 _ (sym b.takes.ensures ∙ c.if-takes.false) c.leave.ensures
+returns-2 c = replays-left c.requires.2 _ (sym c.takes.ensures ∙ c.if-takes.false) c.leave.ensures
 
 pub with_next_spec : {M : Type 1} → statement M
 with_next_spec = tie.close (tie.spec takes-requires take-requires returns leave-requires returns-2)

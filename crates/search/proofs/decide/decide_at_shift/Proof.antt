@@ -13,8 +13,7 @@ shift-of-requires c κs = search rules
 
 returns : tie.Need-returns-then-shift-gt-LAST_SHIFT
 returns c =
-    let s = c in
-    record { kept = kept_same 0 _ s.requires.6; decided = λ gaps. shift-missing c.shift_of-shift.ensures c.if-shift-gt-LAST_SHIFT.true }
+    (kept_same 0 _ c.requires.6, λ gaps. shift-missing c.shift_of-shift.ensures c.if-shift-gt-LAST_SHIFT.true)
 
 shifted-prices-requires : tie.Need-shifted_prices-shifted-requires
 shifted-prices-requires c κs = search rules
@@ -24,9 +23,7 @@ found-at-requires c κs = search rules
 
 returns-2 : tie.Need-returns
 returns-2 c =
-    let else = c in
-    let s = else in
-    let found = c.found_at.ensures in record { kept = kept-found _ _ _ _ found.limit_is found.tie_is found.fuel_is s.requires.5 s.requires.7; decided = λ gaps. shift-found else.shift_of-shift.ensures else.if-shift-gt-LAST_SHIFT.false c.shifted_prices-shifted.ensures found s.requires.5 s.requires.7 }
+    let found = c.found_at.ensures in (kept-found _ _ _ _ found.limit_is found.tie_is found.fuel_is c.requires.5 c.requires.7, λ gaps. shift-found c.shift_of-shift.ensures c.if-shift-gt-LAST_SHIFT.false c.shifted_prices-shifted.ensures found c.requires.5 c.requires.7)
 
 pub decide_at_shift_spec : {M : Type 1} → statement M
 decide_at_shift_spec =

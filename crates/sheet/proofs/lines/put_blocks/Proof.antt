@@ -63,7 +63,7 @@ loop-again c =
     let loop = after-loop.loop-i in
     let line = c.put_block-end in (
       search rules,
-      line.auto.0 ∙ loop.invariant.1,
+      line.auto.out ∙ loop.invariant.1,
       block-put _ _ _ _ _ loop.i (block-records-front blocks.ensures) blocks.ensures.counted (search rules) _ _ start.requires _ _ loop.invariant.2 _ _
           (rw (c.number_of.ensures, after-is-taken.is_taken-taken.ensures) at line.ensures),
     )

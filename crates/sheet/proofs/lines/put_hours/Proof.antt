@@ -50,7 +50,7 @@ loop-again c =
     let loop = price in
     let start = loop in (
       search rules,
-      line.put_hour-end.auto.0 ∙ loop.loop-h.invariant.1,
+      line.put_hour-end.auto.out ∙ loop.loop-h.invariant.1,
       hour-put _ _ _ _ loop.loop-h.h (search rules) start.requires _ _ loop.loop-h.invariant.2 _ _
           (rw (price.price_in-price.ensures, traded.traded_in-traded.ensures) at line.put_hour-end.ensures),
     )

@@ -5,9 +5,6 @@ use borrow.Author.Rules.{rules}
 use Rattle.sheet.proofs.lines.put_lines.Statement.{statement}
 use Rattle.sheet.proofs.lines.put_lines.Tie as tie
 
-slice-aggregate-put-text : tie.Need-slice-aggregate-put-text
-slice-aggregate-put-text c = search rules
-
 put-text-requires : tie.Need-put_text-hours_at-requires
 unfolding text
 put-text-requires c κs =
@@ -18,9 +15,6 @@ unfolding text
 put-hours-requires c κs =
     let heading = c in
     room-hours _ _ _ heading.requires _ _ heading.put_text-hours_at.ensures
-
-slice-aggregate-put-text-2 : tie.Need-slice-aggregate-put-text-2
-slice-aggregate-put-text-2 c = search rules
 
 put-text-requires-2 : tie.Need-put_text-blocks_at-requires
 unfolding text
@@ -38,9 +32,6 @@ put-blocks-requires c κs =
     let heading = hours in
     let start = heading in
     room-blocks _ _ _ start.requires _ _ heading.put_text-hours_at.ensures _ _ hours.put_hours-title_at.ensures _ _ title.put_text-blocks_at.ensures
-
-slice-aggregate-put-line : tie.Need-slice-aggregate-put-line
-slice-aggregate-put-line c = search rules
 
 welfare-in-requires : tie.Need-welfare_in-requires
 welfare-in-requires c κs = search rules
@@ -76,13 +67,10 @@ pub put_lines_spec : {M : Type 1} → statement M
 put_lines_spec =
     tie.close
     (tie.spec
-    slice-aggregate-put-text
     put-text-requires
     put-hours-requires
-    slice-aggregate-put-text-2
     put-text-requires-2
     put-blocks-requires
-    slice-aggregate-put-line
     welfare-in-requires
     put-line-requires
     same_length
