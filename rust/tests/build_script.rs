@@ -4,6 +4,7 @@
 
 use std::fs;
 use std::io::Write;
+use std::ops::Deref;
 use std::path::{Path, PathBuf};
 use std::process::{Child, Command, Output, Stdio};
 use turn::{copy_script, output, start, write_script};
@@ -11,45 +12,71 @@ use turn::{copy_script, output, start, write_script};
 mod turn; // scripts written and run one at a time
 
 /// Proves at once, but for the crate that a file `broken` names, and never twice at the
-/// same time. Each program prints one line; the library has one call.
+/// same time; says nothing of a crate that it has built. Each program prints one line; the
+/// library has one call, and is compiled each time.
 const RT: &str = r#"#!/bin/sh
 [ "$1" != version ] || { echo kit; exit 0; }
+name=$(basename "$PWD")
+cd "$(dirname "$0")/.." || exit 1
 mkdir busy || { echo "two at once" >>spoilt; exit 1; }
 trap 'rmdir busy' EXIT
-echo "$*" >>asked
-mkdir -p target/stamp target/bin target/staticlib
-if [ "$2" = "$(cat broken 2>/dev/null)" ]; then echo "rt: $2 NOT PROVED"; exit 1; fi
-if [ "$1 $2" = "staticlib exports" ]; then
+echo "$*" "$name" >>asked
+out=crates/$name/out
+mkdir -p "$out"
+if [ "$name" = "$(cat broken 2>/dev/null)" ]; then echo "fn $name::one: not proved"; exit 1; fi
+if [ "$1 $name" = "lib exports" ]; then
     echo 'int auction_one(void) { return 1; }' | cc -fPIC -c -x c - -o one.o
-    rm -f target/staticlib/libexports.a
-    ar rc target/staticlib/libexports.a one.o 2>/dev/null
+    rm -f "$out/libexports.a"
+    ar rc "$out/libexports.a" one.o 2>/dev/null
+    echo "logic=proved functions=1"
     exit
 fi
-if [ -f "target/stamp/$2" ]; then echo "rt: $2 proved (unchanged since it was last proved)"; exit; fi
-sleep 0.1
-touch "target/stamp/$2"
-program() { printf '#!/bin/sh\necho %s\n' "$2" >"target/bin/$1"; chmod +x "target/bin/$1"; }
-case $2 in
-auction_print) program auction_print sheet ;;
-family_print) program family_print report ;;
-cash_print) program cash_print cash ;;
-esac
-echo "rt: $2 proved (0 s)"
+program() { printf '#!/bin/sh\necho %s\n' "$1" >"$out/$name"; chmod +x "$out/$name"; }
+if ! [ -f "$out/stamp" ]; then
+    sleep 0.1
+    touch "$out/stamp"
+    case "$1 $name" in
+    "run auction_print") program sheet ;;
+    "run family_print") program report ;;
+    "run cash_print") program cash ;;
+    esac
+    echo "logic=proved functions=1"
+fi
+[ "$1" != run ] || "$out/$name"
 "#;
 
 const CRATES: &str = "# crates
-auction_print: middle low io
-family_print: middle low io
-cash_print: middle low io
-exports: middle low
+auction_print: middle low
+family_print: middle low
+cash_print: middle low
+exports staticlib: middle low
 middle: low
 low:
 ";
 
+/// A folder that is gone when it is dropped. It stands outside of the repository, which has
+/// no other list of crates.
+struct Folder(PathBuf);
+
+impl Deref for Folder {
+    type Target = Path;
+
+    fn deref(&self) -> &Path {
+        &self.0
+    }
+}
+
+impl Drop for Folder {
+    fn drop(&mut self) {
+        let _ = fs::remove_dir_all(&self.0);
+    }
+}
+
 /// A folder of its own with the script, the crates and the toolchain.
-fn folder(name: &str) -> PathBuf {
-    let folder = Path::new(env!("CARGO_TARGET_TMPDIR")).join(format!("build-{name}"));
-    let _ = fs::remove_dir_all(&folder);
+fn folder(name: &str) -> Folder {
+    let unique = format!("auction-build-{}-{name}", std::process::id());
+    let folder = Folder(std::env::temp_dir().join(unique));
+    let _ = fs::remove_dir_all(&*folder);
     fs::create_dir_all(folder.join("bin")).expect("a folder");
     fs::create_dir_all(folder.join("crates/low/must-fail")).expect("a folder");
     for script in ["build", "auction-print", "family-print", "cash-print"] {
@@ -58,7 +85,17 @@ fn folder(name: &str) -> PathBuf {
     }
     write_script(&folder.join("bin/rt"), RT);
     write(&folder, "crates.txt", CRATES);
-    write(&folder, "crates/low/source", "1");
+    for (name, root) in [
+        ("low", "lib"),
+        ("middle", "lib"),
+        ("exports", "lib"),
+        ("auction_print", "main"),
+        ("family_print", "main"),
+        ("cash_print", "main"),
+    ] {
+        fs::create_dir_all(folder.join("crates").join(name).join("src")).expect("a folder");
+        write(&folder, &format!("crates/{name}/src/{root}.rt"), "1");
+    }
     folder
 }
 
@@ -128,22 +165,29 @@ fn what_changed_is_built_again() {
     // An edit that must fail is no source.
     write(&folder, "crates/low/must-fail/one.edit", "1");
     assert_eq!(run(&folder, &both), SILENT);
-    write(&folder, "crates/low/source", "2");
+    write(&folder, "crates/low/src/lib.rt", "2");
     assert_eq!(told(&folder, &both).len(), 4);
-    // A file that is gone, or is not the one that was built.
-    fs::remove_file(folder.join("target/bin/auction_print")).expect("it was there");
-    assert_eq!(told(&folder, &both).last().unwrap(), "3 of 3: auction_print, proved");
+    // What the toolchain leaves is no source either.
+    write(&folder, "crates/low/out/kept", "1");
+    assert_eq!(run(&folder, &both), SILENT);
+    // A file that is gone, or is not the one that was built, comes from the toolchain again.
+    let program = folder.join("target/bin/auction_print");
+    let built = fs::read(&program).expect("a program");
+    fs::remove_file(&program).expect("it was there");
+    assert_eq!(told(&folder, &both).last().unwrap(), "3 of 3: auction_print, at hand");
+    assert_eq!(fs::read(&program).expect("a program"), built);
     write(&folder, "target/lib/libauction.so", "no library");
     assert_eq!(told(&folder, &both).last().unwrap(), "3 of 3: exports, proved");
-    write_script(&folder.join("target/bin/auction_print"), "#!/bin/sh\necho another\n");
-    assert_eq!(told(&folder, &both).last().unwrap(), "3 of 3: auction_print, proved");
+    write_script(&program, "#!/bin/sh\necho another\n");
+    assert_eq!(told(&folder, &both).last().unwrap(), "3 of 3: auction_print, at hand");
+    assert_eq!(fs::read(&program).expect("a program"), built);
     assert_eq!(run(&folder, &both), SILENT);
     // Each program by itself.
     assert_eq!(told(&folder, &["build", "families"]).len(), 3);
     write_script(&folder.join("target/bin/family_print"), "#!/bin/sh\necho another\n");
     assert_eq!(run(&folder, &both), SILENT);
     let families = told(&folder, &["build", "families"]);
-    assert_eq!(families.last().unwrap(), "3 of 3: family_print, proved");
+    assert_eq!(families.last().unwrap(), "3 of 3: family_print, at hand");
     assert_eq!(run(&folder, &["family-print"]), (Some(0), "report\n".into(), String::new()));
 }
 
@@ -191,18 +235,21 @@ fn a_failure_is_told_in_the_words_of_the_toolchain() {
     write(&folder, "broken", "middle");
     let (code, out, told) = run(&folder, &["auction-print"]);
     assert_eq!((code, &*out), (Some(1), ""));
-    assert!(told.ends_with("2 of 3: middle, FAILED:\nrt: middle NOT PROVED\n"), "{told}");
+    assert!(told.ends_with("2 of 3: middle, FAILED:\nfn middle::one: not proved\n"), "{told}");
     fs::remove_file(folder.join("broken")).expect("it was there");
     let (code, out, told) = run(&folder, &["auction-print"]);
     assert_eq!((code, &*out), (Some(0), "sheet\n"), "{told}");
     assert_eq!(run(&folder, &["auction-print"]), (Some(0), "sheet\n".into(), String::new()));
 }
 
-/// A crate that is not listed is not built in silence.
+/// A crate that is not listed is not built in silence, and what was built of it before does
+/// not stand in.
 #[test]
 fn a_crate_that_is_not_listed() {
     let folder = folder("unlisted");
     write(&folder, "crates.txt", &CRATES.replace("family_print", "another"));
+    fs::create_dir_all(folder.join("crates/family_print/out")).expect("a folder");
+    write(&folder, "crates/family_print/out/family_print", "an older one");
     for _ in 0..2 {
         let (code, out, told) = run(&folder, &["family-print"]);
         assert_eq!((code, &*out), (Some(1), ""));
@@ -260,8 +307,8 @@ fn builds_at_once_do_not_spoil_each_other() {
     }
     assert!(!folder.join("spoilt").exists(), "two toolchains at once");
     let asked = fs::read_to_string(folder.join("asked")).expect("what was asked");
-    assert_eq!(asked.matches("staticlib exports\n").count(), 1, "{asked}");
-    assert_eq!(asked.matches("check auction_print\n").count(), 1, "{asked}");
-    assert_eq!(asked.matches("check family_print\n").count(), 1, "{asked}");
-    assert_eq!(asked.matches("check cash_print\n").count(), 1, "{asked}");
+    assert_eq!(asked.matches("lib exports\n").count(), 1, "{asked}");
+    assert_eq!(asked.matches("run auction_print\n").count(), 1, "{asked}");
+    assert_eq!(asked.matches("run family_print\n").count(), 1, "{asked}");
+    assert_eq!(asked.matches("run cash_print\n").count(), 1, "{asked}");
 }

@@ -80,7 +80,7 @@ fn names_and_parameters_agree() {
         assert_eq!(exported, calls_of(page, &table), "{page}");
     }
     // Each exported function has its mark, and nothing else has.
-    let marks = file("crates/exports/src/lib.rt").matches("#[no_mangle]").count();
+    let marks = file("crates/exports/src/lib.rt").matches("#[unsafe(no_mangle)]").count();
     assert_eq!(marks, exported.len());
 }
 

@@ -43,7 +43,7 @@ fn copy(from: &Path, to: &Path) {
     for entry in fs::read_dir(from).expect("a folder") {
         let entry = entry.expect("an entry");
         let (path, name) = (entry.path(), entry.file_name());
-        if ["target", ".git", "__pycache__"].iter().any(|built| name == *built) {
+        if ["target", "out", ".git", "__pycache__"].iter().any(|built| name == *built) {
             continue;
         }
         if path.is_dir() {

@@ -1,14 +1,14 @@
 // auction-print: a book on standard input, its sheet or its refusal on standard output.
 #![tactic(auto)]
 
-use libc::{STDIN_FILENO, STDOUT_FILENO};
-use sheet::sheet;
+use input::read_full;
+use sheet::{MOST_SHEET, sheet};
 
-// A book has at most 32,768 bytes. One more is read, so that a longer input is refused by the library.
-fn main() {
+// A book has at most 32,768 bytes. One more is read, so that a longer input is refused by the library. What cannot be written is lost.
+fn main(rt: HostRuntime) {
     let mut book = [0u8; 32769];
-    let length = io::read_full(STDIN_FILENO, &mut book);
-    let mut out = [0u8; 781];
+    let length = read_full(&mut rt.stdin(), &mut book);
+    let mut out = [0u8; MOST_SHEET];
     let count = sheet(&book[..length], &mut out);
-    io::write_all(STDOUT_FILENO, &out[..count]);
+    let _ = rt.write_all(&out[..count]);
 }

@@ -2,13 +2,13 @@
 #![tactic(auto)]
 
 use family_sheet::{MOST_FAMILY_SHEET, families};
-use libc::{STDIN_FILENO, STDOUT_FILENO};
+use input::read_full;
 
-// A book has at most 32,768 bytes. One more is read, so that a longer input is refused by the library.
-fn main() {
+// A book has at most 32,768 bytes. One more is read, so that a longer input is refused by the library. What cannot be written is lost.
+fn main(rt: HostRuntime) {
     let mut book = [0u8; 32769];
-    let length = io::read_full(STDIN_FILENO, &mut book);
+    let length = read_full(&mut rt.stdin(), &mut book);
     let mut out = [0u8; MOST_FAMILY_SHEET];
     let count = families(&book[..length], &mut out);
-    io::write_all(STDOUT_FILENO, &out[..count]);
+    let _ = rt.write_all(&out[..count]);
 }

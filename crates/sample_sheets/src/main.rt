@@ -2,27 +2,44 @@
 // the sheets of ../../samples in the order of the file args; data/ has copies of the books.
 #![tactic(auto)]
 
-use libc::STDOUT_FILENO;
-use sheet::sheet;
+ghost use Rattle.std.specs.Prelude.{◌≤◌, length};
 
-// The sheet of the book in the file that argument i names. A file that cannot be read is an empty book.
-fn print_sheet(i: usize) {
-    let mut path = io::buffer();
-    let named = os::arg(i, &mut path);
-    let file = os::open_read(&path[..named]);
-    let mut book = [0u8; 32769];
-    let length = io::read_full(file, &mut book);
-    libc::close(file);
-    let mut out = [0u8; 781];
-    let count = sheet(&book[..length], &mut out);
-    io::write_all(STDOUT_FILENO, &out[..count]);
+use input::read_full;
+use sheet::{MOST_SHEET, sheet};
+use std::env::FillError;
+use std::fs::File;
+use std::rt::{Env, Files};
+
+// Puts the book in the file of this name at the start of the buffer, and gives its length: 0 where it cannot be read, or the name is no text.
+fn read_book(files: &impl Files, name: &[u8], book: &mut [u8]) -> usize
+    ensures { result ≤ length book.new }
+{
+    let Ok(path) = str::from_utf8(name) else {
+        return 0;
+    };
+    match File::open(files, path) {
+        Ok(mut file) => read_full(&mut file, book),
+        Err(_) => 0,
+    }
 }
 
-fn main() {
-    let count = os::arg_count();
-    let mut i = 1;
-    while i < count {
-        print_sheet(i);
-        i += 1;
+// Prints the sheet of the book in the file of this name. A file that cannot be read is an empty book. What cannot be written is lost.
+fn print_sheet(rt: &(impl Files + Print), name: &[u8]) {
+    let mut book = [0u8; 32769];
+    let length = read_book(rt, name, &mut book);
+    let mut out = [0u8; MOST_SHEET];
+    let count = sheet(&book[..length], &mut out);
+    let _ = rt.write_all(&out[..count]);
+}
+
+fn main(rt: HostRuntime) {
+    for i in 1..usize::MAX {
+        let mut name = [0u8; 4096];
+        match rt.arg(i, &mut name) {
+            Ok(length) => print_sheet(&rt, &name[..length]),
+            // No file has a name that is so long.
+            Err(FillError::TooLong) => print_sheet(&rt, &[]),
+            Err(FillError::NotPresent) => break,
+        }
     }
 }

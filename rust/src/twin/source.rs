@@ -1,9 +1,10 @@
 //! From the proved source to the by-value twin. A Rattle source file is Rust but
 //! for its contracts; so the twin is its text with
 //!
-//! - the contracts and the `ghost use` lines left out,
+//! - the contracts, the `ghost use` lines and the words to the prover left out,
 //! - the crates as modules of this package,
-//! - `Clone` and `Copy` for each type, which Rattle's types have by themselves,
+//! - `Clone` and `Copy` for each type in place of its derives, of which plain Rust
+//!   has no `Drop`, and needs no more,
 //! - the counters of [`count`](super::count) in `explore`.
 //!
 //! The program `twin_source` writes the files and compares them with the source.
@@ -70,16 +71,24 @@ pub fn plain(name: &str, source: &str) -> String {
     lines.collect()
 }
 
-/// The lines that are run. A contract begins on a line of its own and ends with `⌝ }`.
+/// What stands before an item and is not run: words to the prover, and derives.
+const ASIDE: [&str; 4] = ["ghost use ", "#![tactic(", "#[tactic(", "#[derive("];
+
+/// The lines that are run, and no two empty ones in a row. A contract begins on a line of its
+/// own and ends with the brace that closes it.
 fn without_contracts(source: &str) -> Vec<&str> {
     let mut code = Vec::new();
-    let mut in_contract = false;
+    let mut open = 0;
     for line in source.lines() {
         let words = line.trim_start();
-        in_contract |= words.starts_with("requires ") || words.starts_with("ensures ");
-        if in_contract {
-            in_contract = !line.ends_with("⌝ }");
-        } else if !words.starts_with("ghost use ") {
+        if open > 0 || words.starts_with("requires ") || words.starts_with("ensures ") {
+            open += line.matches('{').count();
+            open -= line.matches('}').count();
+            continue;
+        }
+        let is_aside = ASIDE.iter().any(|aside| words.starts_with(aside));
+        let is_gap = words.is_empty() && code.last().is_some_and(|last: &&str| last.is_empty());
+        if !is_aside && !is_gap {
             code.push(line);
         }
     }

@@ -1,14 +1,13 @@
 // Written by `twin_source` from crates/book/src/lib.rt.
 // The reader, layer 1 of document 01: whether a book is accepted, with how many steps and blocks, or the first cause for which it is refused.
 // Every public call takes any bytes, ends, and has no `requires`; its result is what a definition of `specs/` gives. Assumes nothing.
-use crate::twin::by_value::chains::Chain;
-use crate::twin::by_value::chains::survey_of;
+
+use crate::twin::by_value::chains::{Chain, survey_of};
 
 mod bounds; // how large a book may be
 mod causes; // the causes 1 to 6 and 9 to 11, and the first of them that holds
 
-pub use bounds::MOST_BLOCKS;
-pub use bounds::MOST_RECORDS;
+pub use bounds::{MOST_BLOCKS, MOST_RECORDS};
 
 // The answer of `read`: accepted, with how many steps and blocks are on their chains, or refused with the papers' number.
 #[derive(Clone, Copy)]

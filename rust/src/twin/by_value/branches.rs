@@ -2,6 +2,7 @@
 // A branch of the search over the blocks: what is decided in it, one more block decided, and whether it is dropped, by loss at fixed hourly prices. The tables
 // hold, for each hour, the hour's unit prices and gaps at each place; a place is what the taken blocks sell and the left-out blocks would buy in the hour.
 // Assumes nothing.
+
 use crate::twin::by_value::places::layout::HOURS;
 
 pub mod judge; // whether a branch is dropped

@@ -1,23 +1,14 @@
 // Written by `twin_source` from crates/clearing/src/lib.rt.
 // The clearing: layer 3, above pricing.
+
 use crate::twin::by_value::clearing::publish::publish;
-use crate::twin::by_value::book::Reading;
-use crate::twin::by_value::book::read;
-use crate::twin::by_value::orders::Blocks;
-use crate::twin::by_value::orders::Steps;
-use crate::twin::by_value::orders::blocks_of;
+use crate::twin::by_value::book::{Reading, read};
 use crate::twin::by_value::orders::layout::HOURS;
-use crate::twin::by_value::orders::parents_of;
-use crate::twin::by_value::orders::steps_of;
+use crate::twin::by_value::orders::{Blocks, Steps, blocks_of, parents_of, steps_of};
 use crate::twin::by_value::passes::find;
-use crate::twin::by_value::records::day_hours;
-use crate::twin::by_value::records::edition_of;
-use crate::twin::by_value::records::record_count;
-use crate::twin::by_value::result::Clearing;
-use crate::twin::by_value::result::RECORD_ROW;
-use crate::twin::by_value::result::RECORD_ROWS;
-use crate::twin::by_value::setup::prepare;
-use crate::twin::by_value::setup::row_needed;
+use crate::twin::by_value::records::{day_hours, edition_of, record_count};
+use crate::twin::by_value::result::{Clearing, RECORD_ROW, RECORD_ROWS};
+use crate::twin::by_value::setup::{prepare, row_needed};
 
 mod publish; // the published set as the result
 
@@ -36,7 +27,7 @@ fn clear_within(
     blocks: Blocks,
     unit_prices: &mut [u32],
     gap: &mut [u32],
-    result: &mut [u8],
+    res: &mut [u8],
 )
 {
     let edition = edition_of(book);
@@ -72,39 +63,39 @@ fn clear_within(
         &ends,
         blocks.count as u32,
     );
-    publish(day, count, steps, blocks, best.set, best.day, result);
+    publish(day, count, steps, blocks, best.set, best.day, res);
 }
 
 // The same in small tables, where the blocks reach no further.
-fn clear_small(book: &[u8], steps: Steps, blocks: Blocks, result: &mut [u8])
+fn clear_small(book: &[u8], steps: Steps, blocks: Blocks, res: &mut [u8])
 {
     let mut unit_prices = [0; HOURS * SMALL_ROW];
     let mut gap = [0; HOURS * SMALL_ROW];
-    clear_within(book, steps, blocks, &mut unit_prices, &mut gap, result);
+    clear_within(book, steps, blocks, &mut unit_prices, &mut gap, res);
 }
 
 // The same in large tables, which have room for any blocks of a book.
-fn clear_large(book: &[u8], steps: Steps, blocks: Blocks, result: &mut [u8])
+fn clear_large(book: &[u8], steps: Steps, blocks: Blocks, res: &mut [u8])
 {
     let mut unit_prices = [0; HOURS * LARGE_ROW];
     let mut gap = [0; HOURS * LARGE_ROW];
-    clear_within(book, steps, blocks, &mut unit_prices, &mut gap, result);
+    clear_within(book, steps, blocks, &mut unit_prices, &mut gap, res);
 }
 
 // The outcome of an accepted book into a result of the right size.
-fn clear_accepted(book: &[u8], result: &mut [u8])
+fn clear_accepted(book: &[u8], res: &mut [u8])
 {
     let steps = steps_of(book);
     let blocks = blocks_of(book);
     if row_needed(blocks) <= SMALL_ROW {
-        clear_small(book, steps, blocks, result);
+        clear_small(book, steps, blocks, res);
     } else {
-        clear_large(book, steps, blocks, result);
+        clear_large(book, steps, blocks, res);
     }
 }
 
 // The auction's outcome for a book, written to the result; or the first refusal whose cause holds, and the result as it was.
-pub fn clear(book: &[u8], result: &mut [u8]) -> Clearing
+pub fn clear(book: &[u8], res: &mut [u8]) -> Clearing
 {
     let reading = read(book);
     match reading {
@@ -113,8 +104,8 @@ pub fn clear(book: &[u8], result: &mut [u8]) -> Clearing
             steps: _,
             blocks: _,
         } => {
-            if result.len() == RECORD_ROWS + RECORD_ROW * (record_count(book) as usize) {
-                clear_accepted(book, result);
+            if res.len() == RECORD_ROWS + RECORD_ROW * (record_count(book) as usize) {
+                clear_accepted(book, res);
                 Clearing::Published
             } else {
                 Clearing::Refused(WRONG_BUFFER)

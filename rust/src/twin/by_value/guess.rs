@@ -2,9 +2,8 @@
 // A limit for a pass of the search, by a guess: what a lawful set loses. The blocks that gain at the root prices are taken; as long as some of them miss
 // their limits, one of these is left out, by one rule or another. Any limit is right, so of the guess only safety is proved, and of the steps on the way what
 // each answers; how many branches the search drops depends on it. Assumes nothing.
-use crate::twin::by_value::guess::sets::closed;
-use crate::twin::by_value::guess::sets::gaining;
-use crate::twin::by_value::guess::sets::without;
+
+use crate::twin::by_value::guess::sets::{closed, gaining, without};
 use crate::twin::by_value::guess::trial::try_set;
 use crate::twin::by_value::places::layout::MOST_BLOCKS;
 use crate::twin::by_value::pricing::execution::lesser;

@@ -1,6 +1,7 @@
 // Written by `twin_source` from crates/order/src/lib.rt.
 // The order in which the search decides the blocks: chosen, tested, the blocks' columns put in it, and a set that is found put back by numbers. Any order
 // is right, so of the choice only safety matters; the test and the columns are proved. Assumes nothing.
+
 pub use columns::reordered;
 pub use numbered::by_number;
 use crate::twin::by_value::places::layout::MOST_BLOCKS;

@@ -1,10 +1,9 @@
 // Written by `twin_source` from crates/passes/src/lib.rt.
 // The passes of the search over all blocks, until one has found the published set: with small limits and little fuel, where ordinary days are found; then with
 // larger limits and a table of rivals. The blocks are decided in an order that members do not choose; ties are settled by number. Assumes nothing.
+
 use crate::twin::by_value::passes::stages::find_there;
-use crate::twin::by_value::order::by_number;
-use crate::twin::by_value::order::order_of;
-use crate::twin::by_value::order::reordered;
+use crate::twin::by_value::order::{by_number, order_of, reordered};
 use crate::twin::by_value::search::Best;
 
 mod heavy; // passes with a table of rivals

@@ -1,15 +1,13 @@
 // Written by `twin_source` from crates/pricing/src/lib.rt.
 // Pricing one hour under a set of blocks: layer 2, above the reader.
+
 use crate::twin::by_value::pricing::blocks::trades_of;
 use crate::twin::by_value::pricing::hour::answer_of;
-use crate::twin::by_value::book::Reading;
-use crate::twin::by_value::book::read;
+use crate::twin::by_value::book::{Reading, read};
 use crate::twin::by_value::fields::hours::is_counted;
-use crate::twin::by_value::orders::blocks_of;
 use crate::twin::by_value::orders::layout::BLOCK_PLACES;
-use crate::twin::by_value::orders::steps_of;
-use crate::twin::by_value::records::LAST_HOUR;
-use crate::twin::by_value::records::day_hours;
+use crate::twin::by_value::orders::{blocks_of, steps_of};
+use crate::twin::by_value::records::{LAST_HOUR, day_hours};
 
 pub mod blocks;
 pub mod execution;

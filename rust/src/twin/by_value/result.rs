@@ -5,19 +5,10 @@
 mod layout; // where a result's bytes have what
 mod numbers; // the numbers of a result read again
 
-use crate::twin::by_value::result::layout::HALF;
-use crate::twin::by_value::result::layout::HOUR_ROW;
-use crate::twin::by_value::result::layout::TRADED;
-use crate::twin::by_value::result::layout::WELFARE_SIZE;
-pub use layout::RECORD_ROW;
-pub use layout::RECORD_ROWS;
-pub use numbers::price_in;
-pub use numbers::row_in;
-pub use numbers::traded_in;
-pub use numbers::welfare_in;
-use crate::twin::by_value::orders::layout::BLOCK_PLACES;
-use crate::twin::by_value::orders::layout::HOURS;
-use crate::twin::by_value::orders::layout::STEP_PLACES;
+use crate::twin::by_value::result::layout::{HALF, HOUR_ROW, TRADED, WELFARE_SIZE};
+pub use layout::{RECORD_ROW, RECORD_ROWS};
+pub use numbers::{price_in, row_in, traded_in, welfare_in};
+use crate::twin::by_value::orders::layout::{BLOCK_PLACES, HOURS, STEP_PLACES};
 
 // What a clearing answers: the outcome is published, or refused with its number.
 #[derive(Clone, Copy)]
@@ -27,45 +18,45 @@ pub enum Clearing {
 }
 
 // Four bytes from `at` on.
-fn put32(result: &mut [u8], at: usize, value: u32)
+fn put32(res: &mut [u8], at: usize, value: u32)
 {
-    result[at] = (value / 16777216 % 256) as u8;
-    result[at + 1] = (value / 65536 % 256) as u8;
-    result[at + 2] = (value / 256 % 256) as u8;
-    result[at + 3] = (value % 256) as u8;
+    res[at] = (value / 16777216 % 256) as u8;
+    res[at + 1] = (value / 65536 % 256) as u8;
+    res[at + 2] = (value / 256 % 256) as u8;
+    res[at + 3] = (value % 256) as u8;
 }
 
 // Eight bytes from `at` on.
-fn put64(result: &mut [u8], at: usize, value: u64)
+fn put64(res: &mut [u8], at: usize, value: u64)
 {
-    put32(result, at, (value / 4294967296) as u32);
-    put32(result, at + HALF, (value % 4294967296) as u32);
+    put32(res, at, (value / 4294967296) as u32);
+    put32(res, at + HALF, (value % 4294967296) as u32);
 }
 
 // The rows of the hours: hour h + 1 from byte 8 + 8 * h on.
-fn put_hours(result: &mut [u8], prices: [u32; HOURS], quantities: [u32; HOURS])
+fn put_hours(res: &mut [u8], prices: [u32; HOURS], quantities: [u32; HOURS])
 {
     let mut h: usize = 0;
     while h < HOURS {
-        put32(result, WELFARE_SIZE + HOUR_ROW * h, prices[h]);
-        put32(result, WELFARE_SIZE + HOUR_ROW * h + TRADED, quantities[h]);
+        put32(res, WELFARE_SIZE + HOUR_ROW * h, prices[h]);
+        put32(res, WELFARE_SIZE + HOUR_ROW * h + TRADED, quantities[h]);
         h += 1;
     }
 }
 
 // The rows of the records 1 to count - 1: record k from byte 196 + 4 * k on.
-fn put_records(result: &mut [u8], count: usize, rows: &[u32; STEP_PLACES])
+fn put_records(res: &mut [u8], count: usize, rows: &[u32; STEP_PLACES])
 {
     let mut k: usize = 1;
     while k < count {
-        put32(result, RECORD_ROWS + RECORD_ROW * k, rows[k]);
+        put32(res, RECORD_ROWS + RECORD_ROW * k, rows[k]);
         k += 1;
     }
 }
 
 // The whole result of a book of `count` records, the head's among them.
 pub fn write_result(
-    result: &mut [u8],
+    res: &mut [u8],
     count: usize,
     welfare: u64,
     prices: [u32; HOURS],
@@ -73,9 +64,9 @@ pub fn write_result(
     rows: &[u32; STEP_PLACES],
 )
 {
-    put64(result, 0, welfare);
-    put_hours(result, prices, quantities);
-    put_records(result, count, rows);
+    put64(res, 0, welfare);
+    put_hours(res, prices, quantities);
+    put_records(res, count, rows);
 }
 
 // The rows with each value at its record, from the last to the first, so that a record's first value stays.

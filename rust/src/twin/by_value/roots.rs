@@ -1,19 +1,13 @@
 // Written by `twin_source` from crates/roots/src/lib.rt.
 // The root prices, those that the search goes by. Any prices are right, so only safety is proved here; how many branches the search drops depends on them.
 // Assumes nothing.
-use crate::twin::by_value::roots::held::bounds_of;
-use crate::twin::by_value::roots::held::held;
-use crate::twin::by_value::roots::losses::gains_at;
-use crate::twin::by_value::roots::losses::gaps_from;
-use crate::twin::by_value::roots::moves::MOVES;
-use crate::twin::by_value::roots::moves::ROUND;
-use crate::twin::by_value::roots::moves::Trail;
-use crate::twin::by_value::roots::moves::moved_on;
-use crate::twin::by_value::fields::hours::change_weight;
-use crate::twin::by_value::fields::hours::counted_hours;
+
+use crate::twin::by_value::roots::held::{bounds_of, held};
+use crate::twin::by_value::roots::losses::{gains_at, gaps_from};
+use crate::twin::by_value::roots::moves::{MOVES, ROUND, Trail, moved_on};
+use crate::twin::by_value::fields::hours::{change_weight, counted_hours};
 use crate::twin::by_value::places::cells::prices_at;
-use crate::twin::by_value::places::layout::HOURS;
-use crate::twin::by_value::places::layout::MOST_BLOCKS;
+use crate::twin::by_value::places::layout::{HOURS, MOST_BLOCKS};
 
 pub mod held; // the prices of hours without steps
 pub mod losses; // what the empty set loses at given prices

@@ -1,6 +1,7 @@
 // Written by `twin_source` from crates/search/src/lib.rt.
 // The search over the blocks: each first taken and then left out, by cost: by loss at fixed hourly prices, and among sets that lose the same by the ranks of the
 // blocks left out. Assumes nothing.
+
 use crate::twin::by_value::places::layout::HOURS;
 
 mod decide; // all blocks are decided

@@ -1,23 +1,13 @@
 // Written by `twin_source` from crates/setup/src/lib.rt.
 // The setup of the search: from a book's decoded columns to the tables of the hours and the columns of the blocks. Assumes nothing.
-use crate::twin::by_value::setup::blocks::block_columns;
-use crate::twin::by_value::setup::blocks::largest;
-use crate::twin::by_value::setup::blocks::traded_by_hour;
-use crate::twin::by_value::setup::blocks::widened;
-use crate::twin::by_value::setup::blocks::with_parents;
-use crate::twin::by_value::setup::blocks::with_rows;
-use crate::twin::by_value::setup::rows::fill_ranges;
-use crate::twin::by_value::setup::rows::fill_tables;
-use crate::twin::by_value::setup::rows::joined;
+
+use crate::twin::by_value::setup::blocks::{block_columns, largest, traded_by_hour, widened, with_parents, with_rows};
+use crate::twin::by_value::setup::rows::{fill_ranges, fill_tables, joined};
 use crate::twin::by_value::setup::twins::with_twins;
 use crate::twin::by_value::fields::hours::change_weight;
 use crate::twin::by_value::orders::Blocks;
 use crate::twin::by_value::places::cells::counted_prices;
-use crate::twin::by_value::places::layout::BLOCK_LIST;
-use crate::twin::by_value::places::layout::HOUR_LIST;
-use crate::twin::by_value::places::layout::HOURS;
-use crate::twin::by_value::places::layout::LAST_AND_ABOVE;
-use crate::twin::by_value::places::layout::MOST_BLOCKS;
+use crate::twin::by_value::places::layout::{BLOCK_LIST, HOUR_LIST, HOURS, LAST_AND_ABOVE, MOST_BLOCKS};
 use crate::twin::by_value::roots::root_prices;
 
 pub mod blocks; // what they trade, their columns, parents and rows

@@ -1,10 +1,10 @@
 // Written by `twin_source` from crates/shares/src/lib.rt.
 // The executed quantities of an hour at its price: strictly better steps in full, those at the price by fair shares of their side's amount, the others
 // nothing.
+
 use crate::twin::by_value::shares::leftover::give_leftover;
 use crate::twin::by_value::pricing::BIAS;
-use crate::twin::by_value::pricing::execution::less;
-use crate::twin::by_value::pricing::execution::lesser;
+use crate::twin::by_value::pricing::execution::{less, lesser};
 use crate::twin::by_value::pricing::hour::totals_at;
 
 pub mod leftover;

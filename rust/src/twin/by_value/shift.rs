@@ -2,14 +2,9 @@
 // The shift of a set's prices in edition 4: the middle one where it keeps the limits of all its blocks, else the nearest that does, found by bisection. As
 // the prices rise a sell keeps its limit once it does, and a buy no longer once it does not: where the buys alone miss theirs the shift lies below the
 // middle, where the sells alone do above it. Assumes nothing.
-use crate::twin::by_value::places::cells::counted_prices;
-use crate::twin::by_value::places::cells::shifted_prices;
-use crate::twin::by_value::places::layout::HOURS;
-use crate::twin::by_value::places::layout::LAST_SHIFT;
-use crate::twin::by_value::places::layout::LIMIT;
-use crate::twin::by_value::places::layout::MIDDLE_SHIFT;
-use crate::twin::by_value::places::layout::RUNS;
-use crate::twin::by_value::places::layout::SIDE;
+
+use crate::twin::by_value::places::cells::{counted_prices, shifted_prices};
+use crate::twin::by_value::places::layout::{HOURS, LAST_SHIFT, LIMIT, MIDDLE_SHIFT, RUNS, SIDE};
 use crate::twin::by_value::places::limits::keeps_limit;
 
 // What stands for no shift: the number above the last.
@@ -145,8 +140,7 @@ fn higher_shift(
         often,
         MIDDLE_SHIFT,
         LAST_SHIFT,
-    )
-        + 1;
+    ) + 1;
     if !side_kept_at(false, unit_prices, blocks, count, set, places, often, t) {
         return NO_SHIFT;
     }

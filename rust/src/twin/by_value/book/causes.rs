@@ -1,32 +1,20 @@
 // Written by `twin_source` from crates/book/src/causes.rt.
 // The causes for which a book by itself is refused, 1 to 6 (document 01, "Refused books and calls"), 9 to 11 (document 02), and the first
 // of them that holds. Assumes nothing.
-use crate::twin::by_value::book::bounds::AUTUMN_HOURS;
-use crate::twin::by_value::book::bounds::FIRST_LINK_EDITION;
-use crate::twin::by_value::book::bounds::FIRST_STEP_LIMIT_EDITION;
-use crate::twin::by_value::book::bounds::LAST_EDITION;
-use crate::twin::by_value::book::bounds::MOST_BLOCKS;
-use crate::twin::by_value::book::bounds::MOST_RECORDS;
-use crate::twin::by_value::chains::Chain;
-use crate::twin::by_value::chains::MOST_STEPS_IN_HOUR;
-use crate::twin::by_value::chains::PORTFOLIO_NUMBERS;
-use crate::twin::by_value::chains::Surveyed;
-use crate::twin::by_value::chains::counts_by_portfolio;
-use crate::twin::by_value::chains::has_more_steps;
-use crate::twin::by_value::chains::has_wrong_hours;
-use crate::twin::by_value::chains::has_wrong_link;
-use crate::twin::by_value::fields::FIRST_EDITION;
-use crate::twin::by_value::fields::SPRING_HOURS;
-use crate::twin::by_value::fields::is_within;
-use crate::twin::by_value::fields::most_blocks_of_portfolio;
-use crate::twin::by_value::records::HEAD_REST_OFFSET;
-use crate::twin::by_value::records::HEAD_REST_SIZE;
-use crate::twin::by_value::records::RECORD_SIZE;
-use crate::twin::by_value::records::day_hours;
-use crate::twin::by_value::records::edition_of;
-use crate::twin::by_value::records::first_link;
-use crate::twin::by_value::records::is_nonzero;
-use crate::twin::by_value::records::record_count;
+
+use crate::twin::by_value::book::bounds::{
+    AUTUMN_HOURS, FIRST_LINK_EDITION, FIRST_STEP_LIMIT_EDITION, LAST_EDITION, MOST_BLOCKS,
+    MOST_RECORDS,
+};
+use crate::twin::by_value::chains::{
+    Chain, MOST_STEPS_IN_HOUR, PORTFOLIO_NUMBERS, Surveyed, counts_by_portfolio, has_more_steps,
+    has_wrong_hours, has_wrong_link,
+};
+use crate::twin::by_value::fields::{FIRST_EDITION, SPRING_HOURS, is_within, most_blocks_of_portfolio};
+use crate::twin::by_value::records::{
+    HEAD_REST_OFFSET, HEAD_REST_SIZE, RECORD_SIZE, day_hours, edition_of, first_link, is_nonzero,
+    record_count,
+};
 
 // 1: the length, or the record count.
 pub fn has_wrong_size(book: &[u8]) -> bool
@@ -51,13 +39,11 @@ fn has_wrong_head(book: &[u8]) -> bool
         SPRING_HOURS as u32,
         day_hours(book) as u32,
         AUTUMN_HOURS as u32,
-    )
-        | !is_within(
-            FIRST_EDITION as u32,
-            edition_of(book) as u32,
-            LAST_EDITION as u32,
-        )
-        | has_early_links(book)
+    ) | !is_within(
+        FIRST_EDITION as u32,
+        edition_of(book) as u32,
+        LAST_EDITION as u32,
+    ) | has_early_links(book)
         | is_nonzero(book, HEAD_REST_OFFSET, HEAD_REST_SIZE)
 }
 

@@ -1,26 +1,12 @@
 // Written by `twin_source` from crates/branches/src/judge.rt.
 // A branch judged: whether it is dropped, and which of its undecided blocks are out.
+
 use crate::twin::by_value::branches::Node;
-use crate::twin::by_value::places::cells::counted_least_gaps;
-use crate::twin::by_value::places::cells::counted_prices;
-use crate::twin::by_value::places::cells::highs_at;
-use crate::twin::by_value::places::cells::lows_at;
-use crate::twin::by_value::places::cells::prices_at;
-use crate::twin::by_value::places::layout::AGAINST;
-use crate::twin::by_value::places::layout::CHANGE;
-use crate::twin::by_value::places::layout::GAIN;
-use crate::twin::by_value::places::layout::HOURS;
-use crate::twin::by_value::places::layout::LIMIT;
-use crate::twin::by_value::places::layout::PARENT;
-use crate::twin::by_value::places::layout::RUNS;
-use crate::twin::by_value::places::layout::SHIFTS;
-use crate::twin::by_value::places::layout::SIDE;
-use crate::twin::by_value::places::layout::TURN;
-use crate::twin::by_value::places::limits::keeps_limit;
-use crate::twin::by_value::places::limits::keeps_limits;
+use crate::twin::by_value::places::cells::{counted_least_gaps, counted_prices, highs_at, lows_at, prices_at};
+use crate::twin::by_value::places::layout::{AGAINST, CHANGE, GAIN, HOURS, LIMIT, PARENT, RUNS, SHIFTS, SIDE, TURN};
+use crate::twin::by_value::places::limits::{keeps_limit, keeps_limits};
 use crate::twin::by_value::places::numbers::choose;
-use crate::twin::by_value::places::reach::is_out;
-use crate::twin::by_value::places::reach::reach_at;
+use crate::twin::by_value::places::reach::{is_out, reach_at};
 
 // The set that holds block number at alone.
 pub fn bit(at: u32) -> u32

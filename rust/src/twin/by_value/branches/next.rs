@@ -1,15 +1,10 @@
 // Written by `twin_source` from crates/branches/src/next.rt.
 // One more block decided: taken or left out, and whether it may be only one of the two.
+
 use crate::twin::by_value::branches::Node;
 use crate::twin::by_value::branches::judge::bit;
 use crate::twin::by_value::places::added::moved_where;
-use crate::twin::by_value::places::layout::AGAINST;
-use crate::twin::by_value::places::layout::AHEAD;
-use crate::twin::by_value::places::layout::BEHIND;
-use crate::twin::by_value::places::layout::GAIN;
-use crate::twin::by_value::places::layout::PARENT;
-use crate::twin::by_value::places::layout::RANK;
-use crate::twin::by_value::places::layout::SIDE;
+use crate::twin::by_value::places::layout::{AGAINST, AHEAD, BEHIND, GAIN, PARENT, RANK, SIDE};
 
 // The node with block number at taken: a sell moves the places on in its hours.
 pub fn take(blocks: &[u32], at: u32, node: Node) -> Node

@@ -1,12 +1,7 @@
 // Written by `twin_source` from crates/chains/src/links.rt.
 // Cause 10 (document 02, P6): a link that names a block not in the book, or whose parent's number is not below its child's. Assumes nothing.
-use crate::twin::by_value::records::Link;
-use crate::twin::by_value::records::first_block;
-use crate::twin::by_value::records::first_link;
-use crate::twin::by_value::records::link_at;
-use crate::twin::by_value::records::next_of;
-use crate::twin::by_value::records::number_of;
-use crate::twin::by_value::records::record_count;
+
+use crate::twin::by_value::records::{Link, first_block, first_link, link_at, next_of, number_of, record_count};
 
 // Whether a block of the book has this number.
 fn has_block(book: &[u8], number: u16) -> bool

@@ -1,13 +1,8 @@
 // Written by `twin_source` from crates/chains/src/steps.rt.
 // Cause 11 (document 02, P8): more than 256 steps of a portfolio in one hour. Assumes nothing.
-use crate::twin::by_value::chains::bounds::HOUR_NUMBERS;
-use crate::twin::by_value::chains::bounds::MOST_STEPS_IN_HOUR;
-use crate::twin::by_value::chains::bounds::PORTFOLIO_NUMBERS;
-use crate::twin::by_value::records::first_step;
-use crate::twin::by_value::records::hour_byte;
-use crate::twin::by_value::records::next_of;
-use crate::twin::by_value::records::portfolio_of;
-use crate::twin::by_value::records::record_count;
+
+use crate::twin::by_value::chains::bounds::{HOUR_NUMBERS, MOST_STEPS_IN_HOUR, PORTFOLIO_NUMBERS};
+use crate::twin::by_value::records::{first_step, hour_byte, next_of, portfolio_of, record_count};
 
 // A counter for each hour and portfolio.
 const STEP_COUNTERS: usize = HOUR_NUMBERS * PORTFOLIO_NUMBERS;

@@ -1,16 +1,11 @@
 // Written by `twin_source` from crates/chains/src/uncounted.rt.
 // Cause 9 (document 02, P2): on a 23-hour day a step for hour 3, or a block with fewer than two counted hours. Assumes nothing.
+
 use crate::twin::by_value::chains::Chain;
 use crate::twin::by_value::chains::walks::first_on;
-use crate::twin::by_value::fields::FEWEST_HOURS;
-use crate::twin::by_value::fields::SPRING_HOURS;
-use crate::twin::by_value::fields::hours::counted_hours;
-use crate::twin::by_value::fields::hours::is_counted;
-use crate::twin::by_value::records::Record;
-use crate::twin::by_value::records::day_hours;
-use crate::twin::by_value::records::next_of;
-use crate::twin::by_value::records::record_at;
-use crate::twin::by_value::records::record_count;
+use crate::twin::by_value::fields::hours::{counted_hours, is_counted};
+use crate::twin::by_value::fields::{FEWEST_HOURS, SPRING_HOURS};
+use crate::twin::by_value::records::{Record, day_hours, next_of, record_at, record_count};
 
 // Whether record i is a step for an hour that does not count, or a block with fewer than two counted hours.
 fn is_uncounted(book: &[u8], i: u16) -> bool

@@ -1,21 +1,14 @@
 // Written by `twin_source` from crates/chains/src/walks.rt.
 // The chains (document 01, "The book in bytes"): what belongs on each, and the walks along one, from its first record to the zero that ends it, for at
 // most R records: causes 3 and 4, and the records of each portfolio, for 6. Assumes nothing.
-use crate::twin::by_value::chains::Chain;
-use crate::twin::by_value::chains::Surveyed;
+
 use crate::twin::by_value::chains::bounds::PORTFOLIO_NUMBERS;
+use crate::twin::by_value::chains::{Chain, Surveyed};
 use crate::twin::by_value::fields::is_out_of_range;
-use crate::twin::by_value::records::BLOCK_KIND;
-use crate::twin::by_value::records::LINK_KIND;
-use crate::twin::by_value::records::STEP_KIND;
-use crate::twin::by_value::records::first_block;
-use crate::twin::by_value::records::first_link;
-use crate::twin::by_value::records::first_step;
-use crate::twin::by_value::records::kind_of;
-use crate::twin::by_value::records::next_of;
-use crate::twin::by_value::records::number_of;
-use crate::twin::by_value::records::portfolio_of;
-use crate::twin::by_value::records::record_count;
+use crate::twin::by_value::records::{
+    BLOCK_KIND, LINK_KIND, STEP_KIND, first_block, first_link, first_step, kind_of, next_of,
+    number_of, portfolio_of, record_count,
+};
 
 // The index of a chain's first record.
 pub fn first_on(book: &[u8], chain: Chain) -> u16

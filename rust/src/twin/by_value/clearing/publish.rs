@@ -1,22 +1,17 @@
 // Written by `twin_source` from crates/clearing/src/publish.rt.
 // The publication: what the orders of each hour get at its price, the welfare, and with them and the day the result's
 // bytes. Assumes nothing.
-use crate::twin::by_value::fields::hours::change_weight;
-use crate::twin::by_value::fields::hours::counted_hours;
-use crate::twin::by_value::orders::Blocks;
-use crate::twin::by_value::orders::Steps;
-use crate::twin::by_value::orders::layout::HOURS;
-use crate::twin::by_value::orders::layout::STEP_PLACES;
+
+use crate::twin::by_value::fields::hours::{change_weight, counted_hours};
+use crate::twin::by_value::orders::layout::{HOURS, STEP_PLACES};
+use crate::twin::by_value::orders::{Blocks, Steps};
 use crate::twin::by_value::places::layout::CHANGE_ROW;
 use crate::twin::by_value::pricing::BIAS;
 use crate::twin::by_value::pricing::blocks::trades_of;
 use crate::twin::by_value::pricing::execution::less;
-use crate::twin::by_value::result::block_values;
-use crate::twin::by_value::result::with_rows;
-use crate::twin::by_value::result::write_result;
+use crate::twin::by_value::result::{block_values, with_rows, write_result};
 use crate::twin::by_value::search::Day;
-use crate::twin::by_value::shares::amounts_at;
-use crate::twin::by_value::shares::share_out;
+use crate::twin::by_value::shares::{amounts_at, share_out};
 
 // What quantities are worth: the value of the buys and the cost of the sells.
 #[derive(Clone, Copy)]
@@ -214,7 +209,7 @@ fn publish_columns(
     bquantities: &[u32],
     set: u32,
     found: Day,
-    result: &mut [u8],
+    res: &mut [u8],
 )
 {
     let records = steps.records;
@@ -241,7 +236,7 @@ fn publish_columns(
     let rows = rows_of(&records[..n], &values[..n], brecords, bquantities, set);
     let price_column = where_counted(middles, often);
     let traded_column = where_counted(traded, often);
-    write_result(result, count, welfare, price_column, traded_column, &rows);
+    write_result(res, count, welfare, price_column, traded_column, &rows);
 }
 
 // The result of a book of so many records on a day of so many hours: its steps, its blocks, the published set and its day.
@@ -252,7 +247,7 @@ pub fn publish(
     blocks: Blocks,
     set: u32,
     found: Day,
-    result: &mut [u8],
+    res: &mut [u8],
 )
 {
     let m = blocks.count;
@@ -272,6 +267,6 @@ pub fn publish(
         &bquantities[..m],
         set,
         found,
-        result,
+        res,
     );
 }

@@ -1,8 +1,7 @@
 // Written by `twin_source` from crates/fields/src/hours.rt.
 // The hours on their day (document 02, P2): how often hour 3 counts, which hours count, and those of a block. Assumes nothing.
-use crate::twin::by_value::fields::bounds::CHANGE_BIT;
-use crate::twin::by_value::fields::bounds::CHANGE_HOUR;
-use crate::twin::by_value::fields::bounds::SPRING_HOURS;
+
+use crate::twin::by_value::fields::bounds::{CHANGE_BIT, CHANGE_HOUR, SPRING_HOURS};
 use crate::twin::by_value::records::hour_count;
 
 // How often hour 3 counts on a day of so many hours: not at all on 23, once on 24, twice on 25.

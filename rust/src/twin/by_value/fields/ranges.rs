@@ -1,25 +1,14 @@
 // Written by `twin_source` from crates/fields/src/ranges.rt.
 // The ranges of a record's fields (document 01, "The book in bytes"): cause 4 at one record, and the limits of an edition. Assumes nothing.
-use crate::twin::by_value::fields::bounds::FEWEST_HOURS;
-use crate::twin::by_value::fields::bounds::FIRST_BLOCK_QUANTITY;
-use crate::twin::by_value::fields::bounds::FIRST_BLOCKS_OF_PORTFOLIO;
-use crate::twin::by_value::fields::bounds::FIRST_EDITION;
-use crate::twin::by_value::fields::bounds::LAST_PORTFOLIO;
-use crate::twin::by_value::fields::bounds::MAX_PRICE;
-use crate::twin::by_value::fields::bounds::MOST_STEP_QUANTITY;
-use crate::twin::by_value::fields::bounds::NOTICE_BLOCK_QUANTITY;
-use crate::twin::by_value::fields::bounds::NOTICE_BLOCKS_OF_PORTFOLIO;
-use crate::twin::by_value::records::Block;
-use crate::twin::by_value::records::LAST_HOUR;
-use crate::twin::by_value::records::LAST_SIDE;
-use crate::twin::by_value::records::Record;
-use crate::twin::by_value::records::Step;
-use crate::twin::by_value::records::edition_of;
-use crate::twin::by_value::records::has_link_rest;
-use crate::twin::by_value::records::hour_byte;
-use crate::twin::by_value::records::hour_count;
-use crate::twin::by_value::records::record_at;
-use crate::twin::by_value::records::side_byte;
+
+use crate::twin::by_value::fields::bounds::{
+    FEWEST_HOURS, FIRST_BLOCK_QUANTITY, FIRST_BLOCKS_OF_PORTFOLIO, FIRST_EDITION, LAST_PORTFOLIO,
+    MAX_PRICE, MOST_STEP_QUANTITY, NOTICE_BLOCK_QUANTITY, NOTICE_BLOCKS_OF_PORTFOLIO,
+};
+use crate::twin::by_value::records::{
+    Block, LAST_HOUR, LAST_SIDE, Record, Step, edition_of, has_link_rest, hour_byte, hour_count,
+    record_at, side_byte,
+};
 
 // Whether x is from low to high.
 pub fn is_within(low: u32, x: u32, high: u32) -> bool

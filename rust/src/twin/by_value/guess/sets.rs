@@ -1,8 +1,7 @@
 // Written by `twin_source` from crates/guess/src/sets.rt.
 // Sets of blocks: which are taken, by their numbers.
-use crate::twin::by_value::places::layout::GAIN;
-use crate::twin::by_value::places::layout::MOST_BLOCKS;
-use crate::twin::by_value::places::layout::PARENT;
+
+use crate::twin::by_value::places::layout::{GAIN, MOST_BLOCKS, PARENT};
 
 // The blocks that gain at the root prices.
 pub fn gaining(blocks: &[u32], count: usize) -> [bool; MOST_BLOCKS]

@@ -1,25 +1,13 @@
 // Written by `twin_source` from crates/guess/src/trial.rt.
 // A set tried: whether every hour clears under it, what it loses, and which of its blocks is to be left out of those that miss their limits.
+
 use crate::twin::by_value::places::added::moved_where;
-use crate::twin::by_value::places::cells::counted_gaps;
-use crate::twin::by_value::places::cells::counted_prices;
-use crate::twin::by_value::places::cells::prices_at;
-use crate::twin::by_value::places::layout::AGAINST;
-use crate::twin::by_value::places::layout::BLOCK_ROWS;
-use crate::twin::by_value::places::layout::CHANGE;
-use crate::twin::by_value::places::layout::FIRST;
-use crate::twin::by_value::places::layout::GAIN;
-use crate::twin::by_value::places::layout::HOURS;
-use crate::twin::by_value::places::layout::LAST;
-use crate::twin::by_value::places::layout::LIMIT;
-use crate::twin::by_value::places::layout::MOST_BLOCKS;
-use crate::twin::by_value::places::layout::RUNS;
-use crate::twin::by_value::places::layout::SIDE;
-use crate::twin::by_value::places::layout::TURN;
+use crate::twin::by_value::places::cells::{counted_gaps, counted_prices, prices_at};
+use crate::twin::by_value::places::layout::{
+    AGAINST, BLOCK_ROWS, CHANGE, FIRST, GAIN, HOURS, LAST, LIMIT, MOST_BLOCKS, RUNS, SIDE, TURN,
+};
 use crate::twin::by_value::places::limits::price_sum;
-use crate::twin::by_value::places::numbers::choose;
-use crate::twin::by_value::places::numbers::larger;
-use crate::twin::by_value::places::numbers::less;
+use crate::twin::by_value::places::numbers::{choose, larger, less};
 
 // The rules by which one of the blocks that miss their limits is left out: the one that misses its limit by most, the one that gains least at the root
 // prices, the smallest, and by any other number the largest.

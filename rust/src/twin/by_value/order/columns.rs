@@ -1,16 +1,8 @@
 // Written by `twin_source` from crates/order/src/columns.rt.
 // The columns and rows of the blocks in an order.
-use crate::twin::by_value::order::names::earlier_name;
-use crate::twin::by_value::order::names::placed_name;
-use crate::twin::by_value::order::names::rank_of;
-use crate::twin::by_value::places::layout::AHEAD;
-use crate::twin::by_value::places::layout::BEHIND;
-use crate::twin::by_value::places::layout::BLOCK_LIST;
-use crate::twin::by_value::places::layout::BLOCK_ROWS;
-use crate::twin::by_value::places::layout::HOURS;
-use crate::twin::by_value::places::layout::MOST_BLOCKS;
-use crate::twin::by_value::places::layout::PARENT;
-use crate::twin::by_value::places::layout::RANK;
+
+use crate::twin::by_value::order::names::{earlier_name, placed_name, rank_of};
+use crate::twin::by_value::places::layout::{AHEAD, BEHIND, BLOCK_LIST, BLOCK_ROWS, HOURS, MOST_BLOCKS, PARENT, RANK};
 
 // How much the first six columns hold, those in front of the parents'.
 const SIX_COLUMNS: usize = PARENT;

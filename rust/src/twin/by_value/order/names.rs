@@ -1,5 +1,6 @@
 // Written by `twin_source` from crates/order/src/names.rt.
 // Blocks named by their places in an order: a name is a number and 1, or 0 for none.
+
 use crate::twin::by_value::places::layout::MOST_BLOCKS;
 
 // The highest bit of a rank: that of block 0.

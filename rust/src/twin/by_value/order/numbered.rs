@@ -1,5 +1,6 @@
 // Written by `twin_source` from crates/order/src/numbered.rt.
 // Sets of places as sets of blocks by their numbers.
+
 use crate::twin::by_value::places::layout::MOST_BLOCKS;
 
 // The blocks at the places of a set, by their numbers: block i is in it where its place is in the set.

@@ -1,11 +1,10 @@
 // Written by `twin_source` from crates/order/src/tested.rt.
 // An order of the blocks, tested: that the chosen one is an order of them is not proved, and where it were none the blocks stand by their numbers.
+
 use crate::twin::by_value::order::Order;
-use crate::twin::by_value::order::chosen::deciding_order;
-use crate::twin::by_value::order::chosen::places_of;
+use crate::twin::by_value::order::chosen::{deciding_order, places_of};
 use crate::twin::by_value::order::names::stands_before;
-use crate::twin::by_value::places::layout::MOST_BLOCKS;
-use crate::twin::by_value::places::layout::PARENT;
+use crate::twin::by_value::places::layout::{MOST_BLOCKS, PARENT};
 
 // Whether the block at place j and the place of block j lead back to j, and the block's parent stands before place j.
 fn stands_at(

@@ -1,7 +1,6 @@
 // Written by `twin_source` from crates/orders/src/layout.rt.
 // How long the columns are. No code, no contract; the same numbers for the contracts stand in specs/Layout.antt.
-use crate::twin::by_value::book::MOST_BLOCKS;
-use crate::twin::by_value::book::MOST_RECORDS;
+use crate::twin::by_value::book::{MOST_BLOCKS, MOST_RECORDS};
 use crate::twin::by_value::records::LAST_HOUR;
 
 // The places of a column of steps: as many as a book may have records, so that every chain fits.

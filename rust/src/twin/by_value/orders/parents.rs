@@ -1,14 +1,10 @@
 // Written by `twin_source` from crates/orders/src/parents.rt.
 // The parents of a book's blocks (document 02, P6): for each block the place of its parent among them. Assumes nothing.
+
 use crate::twin::by_value::orders::follow;
 use crate::twin::by_value::orders::layout::BLOCK_PLACES;
 use crate::twin::by_value::book::MOST_BLOCKS;
-use crate::twin::by_value::records::first_block;
-use crate::twin::by_value::records::first_link;
-use crate::twin::by_value::records::link_at;
-use crate::twin::by_value::records::next_of;
-use crate::twin::by_value::records::number_of;
-use crate::twin::by_value::records::record_count;
+use crate::twin::by_value::records::{first_block, first_link, link_at, next_of, number_of, record_count};
 
 // The number of a block's parent: that of the first link whose child the block is; 0 where there is none.
 fn parent_of(book: &[u8], number: u16) -> u16

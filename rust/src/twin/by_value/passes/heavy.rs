@@ -1,8 +1,7 @@
 // Written by `twin_source` from crates/passes/src/heavy.rt.
 // Passes with a table of rivals, for days that are not found lightly.
-use crate::twin::by_value::passes::limits::ENOUGH_FUEL;
-use crate::twin::by_value::passes::limits::LAST_LIMIT;
-use crate::twin::by_value::passes::limits::limit_after;
+
+use crate::twin::by_value::passes::limits::{ENOUGH_FUEL, LAST_LIMIT, limit_after};
 use crate::twin::by_value::passes::pass::pass;
 use crate::twin::by_value::search::Best;
 

@@ -1,9 +1,9 @@
 // Written by `twin_source` from crates/passes/src/light.rt.
 // Passes with small limits and little fuel, without rivals: where ordinary days are found.
+
 use crate::twin::by_value::passes::Reached;
 use crate::twin::by_value::passes::limits::LITTLE_FUEL;
-use crate::twin::by_value::passes::pass::pass;
-use crate::twin::by_value::passes::pass::start_at;
+use crate::twin::by_value::passes::pass::{pass, start_at};
 
 // The published set, where a light pass with a limit from..to finds it before the fuel is spent: a pass that has spent it says nothing.
 pub fn find_light(

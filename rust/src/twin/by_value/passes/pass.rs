@@ -1,10 +1,10 @@
 // Written by `twin_source` from crates/passes/src/pass.rt.
 // One pass over all blocks.
+
 use crate::twin::by_value::branches::Node;
 use crate::twin::by_value::places::layout::HOURS;
-use crate::twin::by_value::search::Best;
-use crate::twin::by_value::search::Day;
 use crate::twin::by_value::search::explore::explore;
+use crate::twin::by_value::search::{Best, Day};
 
 // No set is found yet, and a limit is set; with fuel.
 pub fn start_at(limit: u64, fuel: u64) -> Best

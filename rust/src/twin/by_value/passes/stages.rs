@@ -1,10 +1,9 @@
 // Written by `twin_source` from crates/passes/src/stages.rt.
 // Light passes, then heavy ones; where blocks are linked, from a guess on.
+
 use crate::twin::by_value::passes::heavy::find_heavy;
 use crate::twin::by_value::passes::light::find_light;
-use crate::twin::by_value::passes::limits::FIRST_LIMIT;
-use crate::twin::by_value::passes::limits::LAST_LIGHT;
-use crate::twin::by_value::passes::limits::LAST_NEAR;
+use crate::twin::by_value::passes::limits::{FIRST_LIMIT, LAST_LIGHT, LAST_NEAR};
 use crate::twin::by_value::guess::guess;
 use crate::twin::by_value::places::layout::PARENT;
 use crate::twin::by_value::search::Best;

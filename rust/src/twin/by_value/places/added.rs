@@ -1,7 +1,7 @@
 // Written by `twin_source` from crates/places/src/added.rt.
 // What a block adds to the hours' places: its quantity in its hours, or its row.
-use crate::twin::by_value::places::layout::BLOCK_ROWS;
-use crate::twin::by_value::places::layout::HOURS;
+
+use crate::twin::by_value::places::layout::{BLOCK_ROWS, HOURS};
 use crate::twin::by_value::places::numbers::number_of;
 
 // The places with a quantity more in each hour of a block.

@@ -2,11 +2,9 @@
 // What the tables have at the hours' places: gaps, prices, and the least gaps within reach. The price table has the unit price of the N before each
 // place: H at a place is its own entry, L the next one, and the price is the middle of the two, or in edition 4 a shifted one. An hour that has a buy of 2 at 5000, a sell of 1 at 3000 and no block that buys has the row
 // 5000, 5000, 3000, 1, ..: at place 0 its price is 5000, at place 1 the middle of 5000 and 3000.
-use crate::twin::by_value::places::layout::CHANGE_ROW;
-use crate::twin::by_value::places::layout::HOURS;
-use crate::twin::by_value::places::layout::LAST_SHIFT;
-use crate::twin::by_value::places::numbers::larger;
-use crate::twin::by_value::places::numbers::smaller;
+
+use crate::twin::by_value::places::layout::{CHANGE_ROW, HOURS, LAST_SHIFT};
+use crate::twin::by_value::places::numbers::{larger, smaller};
 
 // Whether each hour clears at its place, and the sum of the gaps there.
 #[derive(Clone, Copy)]

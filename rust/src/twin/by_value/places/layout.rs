@@ -1,8 +1,7 @@
 // Written by `twin_source` from crates/places/src/layout.rt.
 // Where the search's tables and lists have what: their sizes, and the place at which each column begins. No code, no contract; the same numbers for the
 // contracts stand in specs/Layout.antt.
-use crate::twin::by_value::orders::layout::BLOCK_PLACES;
-use crate::twin::by_value::orders::layout::HOURS as DAY_HOURS;
+use crate::twin::by_value::orders::layout::{BLOCK_PLACES, HOURS as DAY_HOURS};
 
 // The hours of a day: the rows of a table, and what a column of the hours holds.
 pub const HOURS: usize = DAY_HOURS;

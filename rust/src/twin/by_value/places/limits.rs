@@ -1,9 +1,7 @@
 // Written by `twin_source` from crates/places/src/limits.rt.
 // The limits of the blocks: the sum of prices over a block's hours, and whether the blocks of a set keep their limits.
-use crate::twin::by_value::places::layout::HOURS;
-use crate::twin::by_value::places::layout::LIMIT;
-use crate::twin::by_value::places::layout::RUNS;
-use crate::twin::by_value::places::layout::SIDE;
+
+use crate::twin::by_value::places::layout::{HOURS, LIMIT, RUNS, SIDE};
 
 // The sum of prices over the hours of a block.
 pub fn price_sum(prices: &[u32], hours: u32) -> u32

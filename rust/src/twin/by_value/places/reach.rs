@@ -1,16 +1,8 @@
 // Written by `twin_source` from crates/places/src/reach.rt.
 // The places that a branch can still come to: what its undecided blocks must and may add, and the places of these at which the hours clear.
-use crate::twin::by_value::places::layout::AGAINST;
-use crate::twin::by_value::places::layout::BLOCK_ROWS;
-use crate::twin::by_value::places::layout::FIRST;
-use crate::twin::by_value::places::layout::GAIN;
-use crate::twin::by_value::places::layout::HOURS;
-use crate::twin::by_value::places::layout::LAST;
-use crate::twin::by_value::places::layout::SIDE;
-use crate::twin::by_value::places::layout::TURN;
-use crate::twin::by_value::places::numbers::larger;
-use crate::twin::by_value::places::numbers::number_of;
-use crate::twin::by_value::places::numbers::smaller;
+
+use crate::twin::by_value::places::layout::{AGAINST, BLOCK_ROWS, FIRST, GAIN, HOURS, LAST, SIDE, TURN};
+use crate::twin::by_value::places::numbers::{larger, number_of, smaller};
 
 // Whether the block k places after the decided ones is out of the branch: no lawful completion that loses less than the limit takes it.
 pub fn is_out(out: u32, k: usize) -> bool

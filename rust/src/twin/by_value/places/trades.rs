@@ -1,8 +1,8 @@
 // Written by `twin_source` from crates/places/src/trades.rt.
 // What the blocks of a decided set sell and buy in each hour, and what is traded there with the steps.
+
 use crate::twin::by_value::places::added::moved_where;
-use crate::twin::by_value::places::layout::HOURS;
-use crate::twin::by_value::places::layout::SIDE;
+use crate::twin::by_value::places::layout::{HOURS, SIDE};
 use crate::twin::by_value::pricing::execution::traded_at;
 
 // What blocks sell and buy in each hour.

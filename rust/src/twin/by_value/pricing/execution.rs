@@ -1,5 +1,6 @@
 // Written by `twin_source` from crates/pricing/src/execution.rt.
 // What is traded in an hour at its price.
+
 use crate::twin::by_value::pricing::hour::totals_between;
 
 // The lesser of two numbers.

@@ -1,7 +1,7 @@
 // Written by `twin_source` from crates/pricing/src/hour.rt.
 // The price of an hour from its columns and N: the totals of its steps at a price, and the two ends of the clearing prices by bisection.
-use crate::twin::by_value::pricing::BIAS;
-use crate::twin::by_value::pricing::HourAnswer;
+
+use crate::twin::by_value::pricing::{BIAS, HourAnswer};
 use crate::twin::by_value::fields::MAX_PRICE;
 
 // What steps buy strictly above one price, and sell at or below another, or the same.

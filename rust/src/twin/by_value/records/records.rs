@@ -1,40 +1,16 @@
 // Written by `twin_source` from crates/records/src/records.rt.
 // The fields of the head and of record k, and a record as a step, a block or a link (document 01, "The book in bytes").
 // Record k starts at byte 16 * k. Assumes nothing.
-use crate::twin::by_value::records::Block;
-use crate::twin::by_value::records::Link;
-use crate::twin::by_value::records::Record;
-use crate::twin::by_value::records::Side;
-use crate::twin::by_value::records::Step;
-use crate::twin::by_value::records::bytes::byte_at;
-use crate::twin::by_value::records::bytes::is_nonzero;
-use crate::twin::by_value::records::bytes::u16_at;
-use crate::twin::by_value::records::bytes::u24_at;
-use crate::twin::by_value::records::bytes::u32_at;
-use crate::twin::by_value::records::layout::BLOCK_HOURS_OFFSET;
-use crate::twin::by_value::records::layout::BLOCK_KIND;
-use crate::twin::by_value::records::layout::BLOCK_PRICE_OFFSET;
-use crate::twin::by_value::records::layout::BLOCK_QUANTITY_OFFSET;
-use crate::twin::by_value::records::layout::COUNT_OFFSET;
-use crate::twin::by_value::records::layout::DAY_HOURS_OFFSET;
-use crate::twin::by_value::records::layout::EDITION_OFFSET;
-use crate::twin::by_value::records::layout::FIRST_BLOCK_OFFSET;
-use crate::twin::by_value::records::layout::FIRST_LINK_OFFSET;
-use crate::twin::by_value::records::layout::FIRST_STEP_OFFSET;
-use crate::twin::by_value::records::layout::HOUR_OFFSET;
-use crate::twin::by_value::records::layout::LAST_HOUR;
-use crate::twin::by_value::records::layout::LINK_KIND;
-use crate::twin::by_value::records::layout::LINK_REST_OFFSET;
-use crate::twin::by_value::records::layout::LINK_REST_SIZE;
-use crate::twin::by_value::records::layout::NEXT_OFFSET;
-use crate::twin::by_value::records::layout::NUMBER_OFFSET;
-use crate::twin::by_value::records::layout::PARENT_OFFSET;
-use crate::twin::by_value::records::layout::PORTFOLIO_OFFSET;
-use crate::twin::by_value::records::layout::RECORD_SIZE;
-use crate::twin::by_value::records::layout::SIDE_OFFSET;
-use crate::twin::by_value::records::layout::STEP_KIND;
-use crate::twin::by_value::records::layout::STEP_PRICE_OFFSET;
-use crate::twin::by_value::records::layout::STEP_QUANTITY_OFFSET;
+
+use crate::twin::by_value::records::bytes::{byte_at, is_nonzero, u16_at, u24_at, u32_at};
+use crate::twin::by_value::records::layout::{
+    BLOCK_HOURS_OFFSET, BLOCK_KIND, BLOCK_PRICE_OFFSET, BLOCK_QUANTITY_OFFSET, COUNT_OFFSET,
+    DAY_HOURS_OFFSET, EDITION_OFFSET, FIRST_BLOCK_OFFSET, FIRST_LINK_OFFSET, FIRST_STEP_OFFSET,
+    HOUR_OFFSET, LAST_HOUR, LINK_KIND, LINK_REST_OFFSET, LINK_REST_SIZE, NEXT_OFFSET,
+    NUMBER_OFFSET, PARENT_OFFSET, PORTFOLIO_OFFSET, RECORD_SIZE, SIDE_OFFSET, STEP_KIND,
+    STEP_PRICE_OFFSET, STEP_QUANTITY_OFFSET,
+};
+use crate::twin::by_value::records::{Block, Link, Record, Side, Step};
 
 // The head's fields.
 pub fn record_count(book: &[u8]) -> u16

@@ -1,6 +1,7 @@
 // Written by `twin_source` from crates/result/src/numbers.rt.
 // The numbers of a result read again: the welfare, the price and the traded quantity of an hour, the row of a record. Every call takes any bytes; a missing
 // byte reads as 0. Assumes nothing.
+
 use crate::twin::by_value::result::layout;
 use crate::twin::by_value::records::u32_at;
 
@@ -19,27 +20,27 @@ const RECORD_ROWS: u32 = layout::RECORD_ROWS as u32;
 const HIGHER: u64 = 4294967296;
 
 // The welfare: the 8 bytes at the start.
-pub fn welfare_in(result: &[u8]) -> u64
+pub fn welfare_in(res: &[u8]) -> u64
 {
-    let high = u32_at(result, 0);
-    let low = u32_at(result, HALF);
+    let high = u32_at(res, 0);
+    let low = u32_at(res, HALF);
     (high as u64) * HIGHER + (low as u64)
 }
 
 // The price of hour h.
-pub fn price_in(result: &[u8], h: u8) -> u32
+pub fn price_in(res: &[u8], h: u8) -> u32
 {
-    u32_at(result, HOUR_ROW * (h as u32))
+    u32_at(res, HOUR_ROW * (h as u32))
 }
 
 // The traded quantity of hour h, 4 bytes behind its price.
-pub fn traded_in(result: &[u8], h: u8) -> u32
+pub fn traded_in(res: &[u8], h: u8) -> u32
 {
-    u32_at(result, HOUR_ROW * (h as u32) + TRADED)
+    u32_at(res, HOUR_ROW * (h as u32) + TRADED)
 }
 
 // The row of record k.
-pub fn row_in(result: &[u8], k: u16) -> u32
+pub fn row_in(res: &[u8], k: u16) -> u32
 {
-    u32_at(result, RECORD_ROWS + RECORD_ROW * (k as u32))
+    u32_at(res, RECORD_ROWS + RECORD_ROW * (k as u32))
 }

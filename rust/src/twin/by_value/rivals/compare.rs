@@ -1,13 +1,10 @@
 // Written by `twin_source` from crates/rivals/src/compare.rt.
 // The tests of a rival: what is asked of its blocks and their links, by the columns, and of its places and its cost. Assumes nothing.
+
 use crate::twin::by_value::rivals::replay::takes;
 use crate::twin::by_value::branches::Node;
 use crate::twin::by_value::branches::next::is_left;
-use crate::twin::by_value::places::layout::HOURS;
-use crate::twin::by_value::places::layout::LIMIT;
-use crate::twin::by_value::places::layout::PARENT;
-use crate::twin::by_value::places::layout::RUNS;
-use crate::twin::by_value::places::layout::SIDE;
+use crate::twin::by_value::places::layout::{HOURS, LIMIT, PARENT, RUNS, SIDE};
 
 // Whether block j keeps its limit wherever block i does: it has the same side and hours, and its limit is no tighter.
 fn is_outdone_by(blocks: &[u32], j: usize, i: usize) -> bool

@@ -1,10 +1,7 @@
 // Written by `twin_source` from crates/rivals/src/lookup.rt.
 // Whether a branch has a rival in a table of earlier branches. Assumes nothing.
-use crate::twin::by_value::rivals::compare::are_same;
-use crate::twin::by_value::rivals::compare::costs_less;
-use crate::twin::by_value::rivals::compare::holds_outdone;
-use crate::twin::by_value::rivals::compare::holds_parents;
-use crate::twin::by_value::rivals::compare::leaves_no_child;
+
+use crate::twin::by_value::rivals::compare::{are_same, costs_less, holds_outdone, holds_parents, leaves_no_child};
 use crate::twin::by_value::rivals::replay::replayed;
 use crate::twin::by_value::rivals::slots::slot_of;
 use crate::twin::by_value::branches::Node;

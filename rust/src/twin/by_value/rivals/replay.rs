@@ -1,8 +1,8 @@
 // Written by `twin_source` from crates/rivals/src/replay.rt.
 // The branch of a set's decisions on the first blocks, decided anew from nothing. Assumes nothing.
+
 use crate::twin::by_value::branches::Node;
-use crate::twin::by_value::branches::next::leave;
-use crate::twin::by_value::branches::next::take;
+use crate::twin::by_value::branches::next::{leave, take};
 use crate::twin::by_value::places::layout::HOURS;
 
 // Whether a set holds block j.

@@ -1,5 +1,6 @@
 // Written by `twin_source` from crates/rivals/src/slots.rt.
 // Where a table of branches has a branch: by its places, and by how many blocks are decided. Assumes nothing.
+
 use crate::twin::by_value::places::layout::HOURS;
 
 // A key keeps 40 bits, so that it can be multiplied within 64.

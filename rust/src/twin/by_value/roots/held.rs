@@ -1,14 +1,11 @@
 // Written by `twin_source` from crates/roots/src/held.rt.
 // The prices of hours without steps: where prices can give way they are kept between the least and the greatest price of the blocks, since what such an hour
 // pays by itself, 1, 150000 or 300000, lies far from all of them. Any prices are right.
+
 use crate::twin::by_value::fields::MAX_PRICE;
-use crate::twin::by_value::places::cells::highs_at;
-use crate::twin::by_value::places::cells::lows_at;
-use crate::twin::by_value::places::layout::HOURS;
-use crate::twin::by_value::places::layout::MOST_BLOCKS;
-use crate::twin::by_value::places::numbers::choose;
-use crate::twin::by_value::places::numbers::larger;
-use crate::twin::by_value::places::numbers::smaller;
+use crate::twin::by_value::places::cells::{highs_at, lows_at};
+use crate::twin::by_value::places::layout::{HOURS, MOST_BLOCKS};
+use crate::twin::by_value::places::numbers::{choose, larger, smaller};
 
 // The least and the greatest price of the blocks.
 #[derive(Clone, Copy)]

@@ -1,13 +1,10 @@
 // Written by `twin_source` from crates/roots/src/losses.rt.
 // What the empty set loses at given prices: what the blocks would gain there, and what the hours lose at its places. Hour 3 counts `often` times.
+
 use crate::twin::by_value::places::cells::counted_prices;
-use crate::twin::by_value::places::layout::CHANGE_ROW;
-use crate::twin::by_value::places::layout::HOURS;
-use crate::twin::by_value::places::layout::MOST_BLOCKS;
+use crate::twin::by_value::places::layout::{CHANGE_ROW, HOURS, MOST_BLOCKS};
 use crate::twin::by_value::places::limits::price_sum;
-use crate::twin::by_value::places::numbers::by_side;
-use crate::twin::by_value::places::numbers::choose;
-use crate::twin::by_value::places::numbers::less;
+use crate::twin::by_value::places::numbers::{by_side, choose, less};
 
 // What an hour at the place from loses at a price below its own: how far the prices of the places above stand over it.
 fn gap_up(unit_prices: &[u32], row: usize, width: usize, from: usize, price: u32) -> u64

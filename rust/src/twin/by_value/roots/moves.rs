@@ -1,17 +1,13 @@
 // Written by `twin_source` from crates/roots/src/moves.rt.
 // Prices on their way to those at which the blocks that gain are taken: a third of the way with each move, towards the prices at the average place so far.
 // Hour 3 counts `often` times.
-use crate::twin::by_value::roots::held::Bounds;
-use crate::twin::by_value::roots::held::held;
+
+use crate::twin::by_value::roots::held::{Bounds, held};
 use crate::twin::by_value::places::added::moved;
-use crate::twin::by_value::places::cells::counted_prices;
-use crate::twin::by_value::places::cells::prices_at;
-use crate::twin::by_value::places::layout::HOURS;
-use crate::twin::by_value::places::layout::LAST_AND_ABOVE;
-use crate::twin::by_value::places::layout::MOST_BLOCKS;
+use crate::twin::by_value::places::cells::{counted_prices, prices_at};
+use crate::twin::by_value::places::layout::{HOURS, LAST_AND_ABOVE, MOST_BLOCKS};
 use crate::twin::by_value::places::limits::price_sum;
-use crate::twin::by_value::places::numbers::choose;
-use crate::twin::by_value::places::numbers::smaller;
+use crate::twin::by_value::places::numbers::{choose, smaller};
 
 // The moves of a round, after which the prices are tried.
 pub const ROUND: u32 = 7;

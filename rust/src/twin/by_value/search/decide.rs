@@ -1,22 +1,12 @@
 // Written by `twin_source` from crates/search/src/decide.rt.
 // All blocks are decided: whether the set becomes the best, with its day.
-use crate::twin::by_value::search::Best;
-use crate::twin::by_value::search::Day;
+
+use crate::twin::by_value::search::{Best, Day};
 use crate::twin::by_value::branches::Node;
-use crate::twin::by_value::places::cells::counted_gaps;
-use crate::twin::by_value::places::cells::counted_prices;
-use crate::twin::by_value::places::cells::prices_at;
-use crate::twin::by_value::places::cells::shifted_prices;
-use crate::twin::by_value::places::layout::CHANGE;
-use crate::twin::by_value::places::layout::FIRST;
-use crate::twin::by_value::places::layout::HOURS;
-use crate::twin::by_value::places::layout::LAST;
-use crate::twin::by_value::places::layout::LAST_SHIFT;
-use crate::twin::by_value::places::layout::SHIFTS;
-use crate::twin::by_value::places::layout::TURN;
+use crate::twin::by_value::places::cells::{counted_gaps, counted_prices, prices_at, shifted_prices};
+use crate::twin::by_value::places::layout::{CHANGE, FIRST, HOURS, LAST, LAST_SHIFT, SHIFTS, TURN};
 use crate::twin::by_value::places::limits::keeps_limits;
-use crate::twin::by_value::places::trades::hours_traded;
-use crate::twin::by_value::places::trades::set_trades;
+use crate::twin::by_value::places::trades::{hours_traded, set_trades};
 use crate::twin::by_value::shift::shift_of;
 
 // What a branch's completions must lose less than: the best's loss, or one more where its left-out blocks come to less, so that a tie may still be settled.
@@ -86,16 +76,7 @@ fn decide_at_shift(
     }
     let shifted = shifted_prices(unit_prices, places, shift);
     found_at(
-        blocks,
-        sides,
-        prices,
-        quantities,
-        ends,
-        count,
-        node,
-        limit,
-        best.fuel,
-        shifted,
+        blocks, sides, prices, quantities, ends, count, node, limit, best.fuel, shifted,
     )
 }
 
@@ -129,16 +110,7 @@ pub fn decide(
     let counted = counted_prices(middles, often);
     if keeps_limits(blocks, count as usize, node.set, &counted, &counted) {
         return found_at(
-            blocks,
-            sides,
-            prices,
-            quantities,
-            ends,
-            count,
-            node,
-            total,
-            best.fuel,
-            middles,
+            blocks, sides, prices, quantities, ends, count, node, total, best.fuel, middles,
         );
     }
     if hours[SHIFTS] == 0 {

@@ -1,14 +1,11 @@
 // Written by `twin_source` from crates/search/src/explore.rt.
 // Every way to decide the blocks that are left: a block taken, left out; a child only with its parent, and of twins only one way where the other is decided.
+
 use crate::twin::by_value::search::Best;
-use crate::twin::by_value::search::decide::decide;
-use crate::twin::by_value::search::decide::limit_at;
+use crate::twin::by_value::search::decide::{decide, limit_at};
 use crate::twin::by_value::branches::Node;
 use crate::twin::by_value::branches::judge::judge;
-use crate::twin::by_value::branches::next::is_barred;
-use crate::twin::by_value::branches::next::is_due;
-use crate::twin::by_value::branches::next::leave;
-use crate::twin::by_value::branches::next::take;
+use crate::twin::by_value::branches::next::{is_barred, is_due, leave, take};
 use crate::twin::by_value::places::reach::is_out;
 use crate::twin::by_value::rivals::lookup::is_rivalled;
 

@@ -1,23 +1,13 @@
 // Written by `twin_source` from crates/setup/src/blocks.rt.
 // The blocks for the search: what they trade in each hour, their six columns at the root prices, their parents, and a row of hours for each.
+
 use crate::twin::by_value::fields::hours::counted_hours;
 use crate::twin::by_value::places::added::moved;
-use crate::twin::by_value::places::layout::AGAINST;
-use crate::twin::by_value::places::layout::BLOCK_LIST;
-use crate::twin::by_value::places::layout::BLOCK_ROWS;
-use crate::twin::by_value::places::layout::GAIN;
-use crate::twin::by_value::places::layout::HOURS;
-use crate::twin::by_value::places::layout::LIMIT;
-use crate::twin::by_value::places::layout::MOST_BLOCKS;
-use crate::twin::by_value::places::layout::PARENT;
-use crate::twin::by_value::places::layout::QUANTITY;
-use crate::twin::by_value::places::layout::RUNS;
-use crate::twin::by_value::places::layout::SIDE;
+use crate::twin::by_value::places::layout::{
+    AGAINST, BLOCK_LIST, BLOCK_ROWS, GAIN, HOURS, LIMIT, MOST_BLOCKS, PARENT, QUANTITY, RUNS, SIDE,
+};
 use crate::twin::by_value::places::limits::price_sum;
-use crate::twin::by_value::places::numbers::by_side;
-use crate::twin::by_value::places::numbers::choose;
-use crate::twin::by_value::places::numbers::larger;
-use crate::twin::by_value::places::numbers::less;
+use crate::twin::by_value::places::numbers::{by_side, choose, larger, less};
 
 // How much the first six columns hold, those in front of the parents'.
 const SIX_COLUMNS: usize = PARENT;

@@ -1,18 +1,10 @@
 // Written by `twin_source` from crates/setup/src/rows.rt.
 // The hours for the search: the price table of each, the places at which it clears, and its gaps there, row after row; and the hours' three columns.
-use crate::twin::by_value::places::layout::CHANGE;
-use crate::twin::by_value::places::layout::HOUR_LIST;
-use crate::twin::by_value::places::layout::HOURS;
-use crate::twin::by_value::places::layout::LAST;
-use crate::twin::by_value::places::layout::LAST_AND_ABOVE;
-use crate::twin::by_value::places::layout::SHIFTS;
-use crate::twin::by_value::places::layout::TURN;
+
+use crate::twin::by_value::places::layout::{CHANGE, HOUR_LIST, HOURS, LAST, LAST_AND_ABOVE, SHIFTS, TURN};
 use crate::twin::by_value::places::numbers::number_of;
 use crate::twin::by_value::roots::gives_way;
-use crate::twin::by_value::tables::all_totals;
-use crate::twin::by_value::tables::clear_range;
-use crate::twin::by_value::tables::fill_gaps;
-use crate::twin::by_value::tables::fill_prices;
+use crate::twin::by_value::tables::{all_totals, clear_range, fill_gaps, fill_prices};
 
 // The first and the last place at which an hour clears, and the place of its least gap.
 #[derive(Clone, Copy)]

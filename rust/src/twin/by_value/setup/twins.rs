@@ -1,15 +1,8 @@
 // Written by `twin_source` from crates/setup/src/twins.rt.
 // The twins for the search: for each block the earlier one of the same side, hours and quantity that is taken before it, and the one that is taken after it.
 // Only where to exchange the two breaks no link.
-use crate::twin::by_value::places::layout::AHEAD;
-use crate::twin::by_value::places::layout::BEHIND;
-use crate::twin::by_value::places::layout::BLOCK_LIST;
-use crate::twin::by_value::places::layout::LIMIT;
-use crate::twin::by_value::places::layout::MOST_BLOCKS;
-use crate::twin::by_value::places::layout::PARENT;
-use crate::twin::by_value::places::layout::QUANTITY;
-use crate::twin::by_value::places::layout::RUNS;
-use crate::twin::by_value::places::layout::SIDE;
+
+use crate::twin::by_value::places::layout::{AHEAD, BEHIND, BLOCK_LIST, LIMIT, MOST_BLOCKS, PARENT, QUANTITY, RUNS, SIDE};
 use crate::twin::by_value::places::numbers::choose;
 
 // What the parents' column may name: 0 for none, and of each block its number and 1.
