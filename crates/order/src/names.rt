@@ -1,6 +1,6 @@
 // Blocks named by their places in an order: a name is a number and 1, or 0 for none.
 ghost use Rattle.std.specs.Prelude.{◌≡◌, ◌≤◌, ◌<◌, leb};
-ghost use Rattle.rules.proofs.TieLaws.{rank_of};
+ghost use Rattle.rules.proofs.Ranks.{rank_of};
 ghost use Rattle.book.specs.Bounds.{most_blocks};
 ghost use Rattle.order.specs.Order.{placed_name};
 ghost use Rattle.order.specs.Written.{earlier_name};

@@ -16,7 +16,7 @@ shl-result : tie.Need-overflow_shl-result
 shl-result c = search rules
 
 returns : tie.Need-returns
-returns c = unfold Rattle.rules.proofs.TieLaws.rank_of in (shl_exact 1 (31 - c.args.i) 32 (lit< tt) (omega arith) ∙ one-mul _)
+returns c = unfold Rattle.rules.proofs.Ranks.rank_of in (shl_exact 1 (31 - c.args.i) 32 (lit< tt) (omega arith) ∙ one-mul _)
 
 pub rank_of_spec : {M : Type 1} → statement M
 rank_of_spec = tie.close (tie.spec sub-result shl-result returns)
