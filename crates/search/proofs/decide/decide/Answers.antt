@@ -1,6 +1,6 @@
 -- `search::decide::decide` meets its contract: one law for each way out. Assumes nothing.
 use Prim.Native.Nat.{ℕ}
-use mathlib.Core.Bool.{true, false, not}
+use mathlib.Core.Bool.{true, not}
 use mathlib.Core.Path.{◌≡◌, refl, sym, ◌∙◌}
 use lib.Dec.{eqb}
 use native.Mathlib.Omega.{arith}
