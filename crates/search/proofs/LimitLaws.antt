@@ -18,13 +18,9 @@ use Rattle.branches.specs.Meaning.{loss_above, cost_above}
 use Rattle.branches.specs.declared.Node.{Node}
 use Rattle.search.specs.Meaning.{cost_limit, limit_at, Held, Kept}
 use Rattle.search.specs.declared.Best.{Best}
+use Rattle.search.proofs.CutLaws.{cut-costs}
 
 -- in numbers
-cut-costs : (limit tie here loss all : ℕ) → tie ≤ most_loss → here ≤ all → limit_at limit tie here ≤ loss → limit * tie_room + tie ≤ loss * tie_room + all
-unfolding limit_at
-cut-costs limit tie here loss all small grows =
-    by-lt (λ t. limit + when t 1 ≤ loss → limit * tie_room + tie ≤ loss * tie_room + all) here tie (λ k z. omega arith) (λ k z. omega arith)
-
 less-costs : (limit tie here loss : ℕ) → here ≤ most_loss → loss < limit_at limit tie here → loss * tie_room + here < limit * tie_room + tie
 unfolding limit_at
 less-costs limit tie here loss small =

@@ -54,7 +54,7 @@ returns-then-is_rivalled t c =
 pub leave-without-requires : goal.leave-without-requires
 leave-without-requires t c =
     let p = c.requires in
-    let some : 0 < c.args.left = omega arith in
+    let some : 0 < c.args.left = grind arith in
     (p.0.blocks_fit, omega (arith, p.0.few, p.4, some), p.5)
 
 pub overflow_cast-at : goal.overflow_cast-at
@@ -64,19 +64,19 @@ overflow_cast-at t c =
 pub is_barred-requires : goal.is_barred-requires
 is_barred-requires t c =
     let p = c.requires in
-    let some : 0 < c.args.left = omega arith in
+    let some : 0 < c.args.left = grind arith in
     (p.0.blocks_fit, omega (arith, p.0.few, p.4, some))
 
 pub explore-requires : goal.explore-requires
 explore-requires t c =
     let p = c.requires in
-    let some : 0 < c.args.left = omega arith in
+    let some : 0 < c.args.left = grind arith in
     (omega (arith, c.decreases), (p.0, p.1, p.2, p.3, omega (arith, p.4), rw (one_more _ _ p.4 some) at c.leave-without.ensures.0, p.6))
 
 pub returns-then-is_out-is_barred : goal.returns-then-is_out-is_barred
 returns-then-is_out-is_barred t c =
     let p = c.requires in
-    let some : 0 < c.args.left = omega arith in record {
+    let some : 0 < c.args.left = grind arith in record {
       kept = kept-longer _ _ _ some c.explore.ensures.kept;
       explored = explored-judged c.limit_at-limit.ensures c.if-judged.false c.judge-judged.ensures
           (explored-left _ some p.4 p.5.set_fits p.6.tie_fits
@@ -86,23 +86,22 @@ returns-then-is_out-is_barred t c =
 pub take-with-requires : goal.take-with-requires
 take-with-requires t c =
     let p = c.requires in
-    let some : 0 < c.args.left = omega arith in
+    let some : 0 < c.args.left = grind arith in
     (p.0.blocks_fit, omega (arith, p.0.few, p.4, some), p.5)
 
 pub explore-taken-requires : goal.explore-taken-requires
 explore-taken-requires t c =
     let p = c.requires in
-    let some : 0 < c.args.left = omega arith in
+    let some : 0 < c.args.left = grind arith in
     (omega (arith, c.decreases), (p.0, p.1, p.2, p.3, omega (arith, p.4), rw (one_more _ _ p.4 some) at c.take-with.ensures.0, p.6))
 
 pub returns-then-taken-eq0 : goal.returns-then-taken-eq0
 returns-then-taken-eq0 t c =
     let p = c.requires in
-    let some : 0 < c.args.left = omega arith in
-    let free = sym c.is_barred.ensures ∙ (neither c.is_out.result c.is_barred.result c.if-is_out-is_barred.false).1 in record {
+    let some : 0 < c.args.left = grind arith in record {
       kept = kept-longer _ _ _ some c.explore-taken.ensures.kept;
       explored = explored-judged c.limit_at-limit.ensures c.if-judged.false c.judge-judged.ensures
-          (explored-spent _ some p.4 p.5.set_fits p.6.tie_fits free c.take-with.ensures.1 c.if-taken-eq0.true
+          (explored-spent _ some p.4 p.5.set_fits p.6.tie_fits (sym c.is_barred.ensures ∙ (neither c.is_out.result c.is_barred.result c.if-is_out-is_barred.false).1) c.take-with.ensures.1 c.if-taken-eq0.true
           c.explore-taken.ensures.explored);
     }
 
@@ -113,34 +112,32 @@ overflow_cast-at-2 t c =
 pub is_due-requires : goal.is_due-requires
 is_due-requires t c =
     let p = c.requires in
-    let some : 0 < c.args.left = omega arith in
+    let some : 0 < c.args.left = grind arith in
     (p.0.blocks_fit, omega (arith, p.0.few, p.4, some))
 
 pub returns-then-is_due : goal.returns-then-is_due
 returns-then-is_due t c =
     let p = c.requires in
-    let some : 0 < c.args.left = omega arith in
-    let free = sym c.is_barred.ensures ∙ (neither c.is_out.result c.is_barred.result c.if-is_out-is_barred.false).1 in record {
+    let some : 0 < c.args.left = grind arith in record {
       kept = kept-longer _ _ _ some c.explore-taken.ensures.kept;
       explored = explored-judged c.limit_at-limit.ensures c.if-judged.false c.judge-judged.ensures
-          (explored-taken _ some p.4 p.5.set_fits p.6.tie_fits free
+          (explored-taken _ some p.4 p.5.set_fits p.6.tie_fits (sym c.is_barred.ensures ∙ (neither c.is_out.result c.is_barred.result c.if-is_out-is_barred.false).1)
           (sym c.is_due.ensures ∙ c.if-is_due.true) c.take-with.ensures.1 c.explore-taken.ensures.explored);
     }
 
 pub explore-requires-2 : goal.explore-requires-2
 explore-requires-2 t c =
     let p = c.requires in
-    let some : 0 < c.args.left = omega arith in
+    let some : 0 < c.args.left = grind arith in
     (omega (arith, c.decreases), (p.0, p.1, p.2, p.3, omega (arith, p.4), rw (one_more _ _ p.4 some) at c.leave-without.ensures.0, held-spent _ _ _ p.6 c.explore-taken.ensures.kept))
 
 pub returns : goal.returns
 returns t c =
     let p = c.requires in
-    let some : 0 < c.args.left = omega arith in
-    let free = sym c.is_barred.ensures ∙ (neither c.is_out.result c.is_barred.result c.if-is_out-is_barred.false).1 in
+    let some : 0 < c.args.left = grind arith in
     let fuel : 0 < c.explore-taken.result.fuel = omega arith in record {
       kept = kept-joined _ _ _ _ some fuel c.explore-taken.ensures.kept c.explore-2.ensures.kept;
       explored = explored-judged c.limit_at-limit.ensures c.if-judged.false c.judge-judged.ensures
-          (explored-both _ some p.4 p.5.set_fits p.6.tie_fits free c.take-with.ensures.1
+          (explored-both _ some p.4 p.5.set_fits p.6.tie_fits (sym c.is_barred.ensures ∙ (neither c.is_out.result c.is_barred.result c.if-is_out-is_barred.false).1) c.take-with.ensures.1
           c.leave-without.ensures.1 fuel c.explore-taken.ensures.kept c.explore-2.ensures.kept c.explore-taken.ensures.explored c.explore-2.ensures.explored);
     }
