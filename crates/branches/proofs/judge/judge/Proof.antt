@@ -93,7 +93,7 @@ slice-aggregate-keeps-limits-2 c = search rules
 keeps-limits-requires : tie.Need-keeps_limits-requires
 keeps-limits-requires c κs =
     let p = c.requires in
-    (p.0.blocks_fit.columns, omega (arith, p.0.few), c.bounds_at-bounds.ensures.high_fits, c.bounds_at-bounds.ensures.low_fits)
+    (p.0.blocks_fit.columns, omega (arith, p.0.few), search rules, search rules)
 
 returns-5 : tie.Need-returns-then-not-keeps_limits
 returns-5 c =
@@ -110,7 +110,7 @@ slice-aggregate-ruled-out-2 c = search rules
 ruled-out-requires : tie.Need-ruled_out-ruled-requires
 ruled-out-requires c κs =
     let p = c.requires in
-    (p.0.blocks_fit, p.0.few, omega (arith, p.2), c.bounds_at-bounds.ensures.high_fits, c.bounds_at-bounds.ensures.low_fits)
+    (p.0.blocks_fit, p.0.few, omega (arith, p.2), search rules, search rules)
 
 returns-6 : tie.Need-returns
 returns-6 c =

@@ -3,56 +3,9 @@ use mathlib.Core.Path.{sym, ◌∙◌}
 use native.Mathlib.Omega.{arith}
 use Rattle.book.proofs.Refused.{one-cause, none_found, after-all, without-size, broken-found, field_found, stray-found, many-found}
 use Rattle.book.proofs.Refused.{steps-long}
-use borrow.Author.Rules.{rules}
-use Rattle.book.proofs.causes.refusal_of.Statement.{statement}
-use Rattle.book.proofs.causes.refusal_of.Tie as tie
+use Rattle.book.proofs.causes.refusal_of.Goals as goal
 
-has-wrong-head-requires : tie.Need-has_wrong_head-requires
-has-wrong-head-requires c κs = search rules
-
-next-found-requires : tie.Need-next_found-head-requires
-next-found-requires c κs = search rules
-
-next-found-requires-2 : tie.Need-next_found-broken-requires
-next-found-requires-2 c κs = search rules
-
-next-found-requires-3 : tie.Need-next_found-outside-requires
-next-found-requires-3 c κs = search rules
-
-record-count-requires : tie.Need-record_count-requires
-record-count-requires c κs = search rules
-
-are-short-requires : tie.Need-are_short-short-requires
-are-short-requires c κs = search rules
-
-next-found-requires-4 : tie.Need-next_found-stray-requires
-next-found-requires-4 c κs = search rules
-
-has-crowded-portfolio-requires : tie.Need-has_crowded_portfolio-requires
-has-crowded-portfolio-requires c κs = search rules
-
-next-found-requires-5 : tie.Need-next_found-crowded-requires
-next-found-requires-5 c κs = search rules
-
-has-wrong-hours-requires : tie.Need-has_wrong_hours-requires
-has-wrong-hours-requires c κs = search rules
-
-next-found-requires-6 : tie.Need-next_found-uncounted-requires
-next-found-requires-6 c κs = search rules
-
-finds-wrong-link-requires : tie.Need-finds_wrong_link-requires
-finds-wrong-link-requires c κs = search rules
-
-next-found-requires-7 : tie.Need-next_found-misnamed-requires
-next-found-requires-7 c κs = search rules
-
-finds-too-many-steps-requires : tie.Need-finds_too_many_steps-too_many-requires
-finds-too-many-steps-requires c κs = search rules
-
-next-found-requires-8 : tie.Need-next_found-requires
-next-found-requires-8 c κs = search rules
-
-returns : tie.Need-returns
+pub returns : goal.returns
 returns c =
     let crowd = c in
     let misnamed = crowd in
@@ -87,24 +40,3 @@ returns c =
     let ten = one-cause b _ _ 10 _ _ _ (omega arith) nine link.finds_wrong_link.ensures misnamed.next_found-misnamed.ensures in
     let eleven = one-cause b _ _ 11 _ _ _ (omega arith) ten (λ z. crowd.finds_too_many_steps-too_many.ensures z (steps-long b _ pre.1)) c.next_found.ensures in
     after-all b _ eleven
-
-pub refusal_of_spec : {M : Type 1} → statement M
-refusal_of_spec =
-    tie.close
-    (tie.spec
-    has-wrong-head-requires
-    next-found-requires
-    next-found-requires-2
-    next-found-requires-3
-    record-count-requires
-    are-short-requires
-    next-found-requires-4
-    has-crowded-portfolio-requires
-    next-found-requires-5
-    has-wrong-hours-requires
-    next-found-requires-6
-    finds-wrong-link-requires
-    next-found-requires-7
-    finds-too-many-steps-requires
-    next-found-requires-8
-    returns)
