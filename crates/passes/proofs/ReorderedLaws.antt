@@ -1,6 +1,6 @@
 -- THE COLUMNS IN AN ORDER are those of the day with its blocks in that order, whose tables are the same; the published set in that order is the cheapest one
 -- there; and put back by number it is the published one of the day itself, with the same prices and traded quantities. Assumes nothing.
-use Prim.Native.Nat.{ℕ, zero, suc, ◌-◌, ◌≤◌, ◌<◌}
+use Prim.Native.Nat.{ℕ, zero, suc, ◌-◌, ◌^◌, ◌≤◌, ◌<◌}
 use mathlib.Core.Bool.{Bool, false}
 use mathlib.Core.List.{List}
 use mathlib.Core.Path.{◌≡◌, refl, sym, ap, ◌∙◌}
@@ -245,10 +245,10 @@ module _ {t : Tables} {other : List ℕ} where
 
   -- the set that is found there is the published one
   pub found_back : {steps : ℕ → List Step} {order place : List ℕ} (best : Best) {numbered : ℕ} → t.count ≤ 32 →
-      IsOrderOf t.blocks t.count order place → Reordered t.count order place t.blocks other → ByNumber t.count place best.set numbered →
+      IsOrderOf t.blocks t.count order place → Reordered t.count order place t.blocks other → (best.set < 2 ^ t.count → ByNumber t.count place best.set numbered) →
       FoundThere (with_columns other t) steps best →
       FoundIn t steps record { limit = best.limit; tie = best.tie; fuel = best.fuel; set = numbered; day = best.day }
   found_back {order = order} best few is columns by found day p rest same known turning rise =
       let a = found (rearranged (at order) day) p rest _ same (known-there known is columns) record { falls = turning.falls; rises = turning.rises }
       (published-cheapest known is columns few rise) in
-      (published-back known is by a.0, by.fits, day-back known is a.2)
+      (published-back known is (by a.1) a.0, (by a.1).fits, day-back known is a.2)

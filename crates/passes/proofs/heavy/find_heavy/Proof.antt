@@ -6,7 +6,6 @@ use native.Mathlib.Omega.{arith}
 use Rattle.places.specs.Layout.{last_limit}
 use Rattle.passes.specs.Passes.{LimitHeld}
 use Rattle.passes.proofs.PassLaws.{pass-is, pass-found, fuel-left}
-use borrow.Author.Rules.{rules}
 use Rattle.passes.proofs.heavy.find_heavy.Statement.{statement}
 use Rattle.passes.proofs.heavy.find_heavy.Tie as tie
 
@@ -37,7 +36,7 @@ returns c =
 
 limit-after-requires : tie.Need-limit_after-limit-requires invariant-loop decreases-loop
 limit-after-requires c κs =
-    (c.loop-limit.invariant.0.0, c.loop-limit-test.true, c.requires.1)
+    (c.loop-limit.invariant.0.0, omega (arith, c.loop-limit-test.true), c.requires.1)
 
 loop-less : tie.Need-loop-limit-smaller invariant-loop decreases-loop
 loop-less c = omega (arith, c.limit_after-limit.ensures)

@@ -1,5 +1,4 @@
 -- `passes::stages::find_at_guess` meets its contract: what the pass at the guess finds with fuel left, else what the others find. Assumes nothing.
-use native.Mathlib.Omega.{arith}
 use borrow.Author.Rules.{rules}
 use Rattle.passes.proofs.stages.find_at_guess.Statement.{statement}
 use Rattle.passes.proofs.stages.find_at_guess.Tie as tie

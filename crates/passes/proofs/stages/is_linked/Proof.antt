@@ -1,6 +1,6 @@
 -- `passes::stages::is_linked` meets its contract: the blocks before i are looked at. Assumes nothing.
 use Prim.Native.Nat.{◌-◌, ◌≤◌}
-use mathlib.Core.Path.{◌≡◌, refl, ◌∙◌}
+use mathlib.Core.Path.{◌≡◌, refl}
 use native.Mathlib.Omega.{arith}
 use Rattle.passes.specs.Passes.{is_linked}
 use Rattle.passes.proofs.PassLaws.{linked-next, linked-all}
