@@ -13,7 +13,7 @@ mod proved_texts;
 use answers::hour_answer;
 use auction_listing::books::{count, Expected, Family, FAMILIES};
 use auction_listing::paper::{self, Book, HourAnswer, Published, Texts};
-use auction_listing::twin::by_value::{clearing, result::Clearing};
+use auction_listing::twin::by_value::clearing;
 use large_stack::with_stack;
 use proved_texts::proved_texts;
 use std::fs;
@@ -44,7 +44,7 @@ fn cleared(name: &str, book: &[u8]) -> Vec<u8> {
     // Two fillers, so that a byte that is not written shows.
     let (mut result, mut twin) = (untouched(book, 0x55), untouched(book, 0xaa));
     assert_eq!(auction::clear_into(book, &mut result), Ok(()), "{name}");
-    let published = matches!(clearing::clear(book, &mut twin), Clearing::Published);
+    let published = clearing::clear(book, &mut twin).is_ok();
     assert!(published, "{name}: the twin refuses");
     assert!(result == twin, "{name}: the twin has another result");
     result

@@ -10,7 +10,7 @@ use auction_listing::books::{
     DAYS_AND_EDITIONS, FAMILIES,
 };
 use auction_listing::paper::{self, result_length_for, Published};
-use auction_listing::twin::by_value::{clearing, result::Clearing};
+use auction_listing::twin::by_value::clearing;
 use auction_listing::twin::count::{taken, Nodes};
 use auction_listing::twin::in_place::{self, Workspace};
 use auction_listing::twin::source::differences;
@@ -37,8 +37,8 @@ fn by_value(book: &[u8], size: usize) -> Run {
     let mut result = untouched(size);
     taken();
     let answer = match clearing::clear(book, &mut result) {
-        Clearing::Published => 0,
-        Clearing::Refused(number) => u32::from(number),
+        Ok(()) => 0,
+        Err(refusal) => u32::from(u8::from(refusal)),
     };
     (answer, result, taken())
 }

@@ -1,30 +1,19 @@
 -- THE ACCOUNTS: all orders posted to empty accounts; and of an accepted book with its result the orders and the prices are those of the rules. Assumes
 -- nothing.
-use Prim.Native.Nat.{ℕ, zero, suc, ◌+◌, ◌-◌, ◌*◌, ◌≤◌, ◌<◌}
+use Prim.Native.Nat.{ℕ, zero, suc, ◌+◌, ◌*◌, ◌≤◌, ◌<◌}
 use mathlib.Core.Bool.{Bool, true, false, cond}
 use mathlib.Core.Path.{◌≡◌, refl, sym, ap, ap₂, ◌∙◌}
 use mathlib.Core.List.{List, [], ◌∷◌, ◌++◌, map}
 use native.Mathlib.Omega.{arith}
 use lib.Dec.{eqb}
-use lib.ListN.{length, drop, get_or, replicate, length-replicate, get_or-replicate, get_or-eq_default}
+use lib.ListN.{length, get_or, replicate, length-replicate, get_or-replicate, get_or-eq_default}
 use native.Mathlib.Decide.{dec_le}
 use native.Mathlib.Nat.{lt_of_not-le}
 use Rattle.rules.specs.Orders.{Block, canonical}
 use Rattle.rules.specs.Hour.{by_side, when}
-use Rattle.rules.specs.Day.{day_sum, keep, day_of}
+use Rattle.rules.specs.Day.{keep, day_of}
 use Rattle.rules.specs.Outcome.{published, outcome}
-use Rattle.rules.specs.Cash.{
-  Executed,
-  Cash,
-  cash_by,
-  over_executed,
-  cash_of,
-  owned_by,
-  executed_steps,
-  executed_blocks,
-  executed_orders,
-  published_price,
-}
+use Rattle.rules.specs.Cash.{Executed, cash_by, over_executed, cash_of, owned_by, executed_steps, executed_blocks, executed_orders, published_price}
 use Rattle.rules.proofs.Tests.{by-test}
 use Rattle.rules.proofs.HourSums.{day_sum-le}
 use Rattle.rules.proofs.CashLaws.{over-same, over-append}
@@ -44,7 +33,7 @@ use Rattle.result.specs.Promise.{RowsInFull}
 use Rattle.result.proofs.RowsLaws.{chosen_is, executed-is}
 use Rattle.result.proofs.PromiseLaws.{result_says, taken_is, step-rows-read, promise-kept, hour-at}
 use Rattle.gains.proofs.GainLaws.{column-at}
-use Rattle.accounts.specs.Layout.{place_in, column_count, account_places}
+use Rattle.accounts.specs.Layout.{place_in, column_count}
 use Rattle.accounts.specs.Accounts.{step_in, block_in, steps_in, blocks_in, orders_in, among, cash_in, AccountsOf}
 use Rattle.accounts.specs.Postings.{figure_of, figure, account, OrdersPosted, StepFits}
 

@@ -1,7 +1,7 @@
 -- WHAT AN ORDER TRADES AND ITS CASH, out of its row and the prices as they count; and that these numbers fit. Assumes nothing.
 use Prim.Native.Nat.{ℕ, ◌+◌, ◌-◌, ◌*◌, ◌^◌, ◌≤◌, ◌<◌}
 use mathlib.Core.Bool.{Bool, true, false}
-use mathlib.Core.Path.{◌≡◌, refl, sym, ap, ◌∙◌}
+use mathlib.Core.Path.{◌≡◌, refl, sym, ◌∙◌}
 use mathlib.Core.List.{List}
 use native.Mathlib.Omega.{arith}
 use native.Mathlib.Nat.{mul_assoc, mul_comm, mul-zero}
@@ -10,7 +10,6 @@ use lib.ListN.{length, get_or}
 use Rattle.rules.specs.Orders.{buy}
 use Rattle.rules.specs.Hour.{when}
 use Rattle.rules.specs.Day.{change_hour, autumn_hours, weight, day_sum, hour_count}
-use Rattle.rules.specs.Contender.{Counts}
 use Rattle.rules.specs.Cash.{traded_by, cash_by}
 use Rattle.rules.proofs.Tests.{by-eq}
 use Rattle.rules.proofs.HourSums.{day_sum-same, day_sum-le, day_sum-times, day_sum-once}
@@ -20,7 +19,7 @@ use Rattle.records.specs.Records.{day_hours, hour_byte, holds_hour}
 use Rattle.fields.specs.Hours.{counted_hours}
 use Rattle.orders.specs.Columns.{block_hours_at}
 use Rattle.places.specs.Layout.{most_counted, most_limit}
-use Rattle.places.specs.Hours.{sum_of_hours, times_in, counted_column, of_hour}
+use Rattle.places.specs.Hours.{sum_of_hours, times_in, of_hour}
 use Rattle.places.proofs.CountedLaws.{times-are, counted-at, block-sum}
 use Rattle.result.specs.Result.{price_in, row_in}
 use Rattle.result.proofs.PromiseLaws.{hours-length, hour-at}

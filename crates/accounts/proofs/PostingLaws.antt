@@ -1,18 +1,18 @@
 -- ONE ORDER POSTED: what is added to a column, and all of an order's figures. Assumes nothing.
 use Prim.Native.Nat.{ℕ, zero, suc, ◌+◌, ◌*◌, ◌^◌, ◌≤◌, ◌<◌}
 use mathlib.Core.Bool.{Bool, true, false}
-use mathlib.Core.Path.{◌≡◌, refl, sym, ◌∙◌}
+use mathlib.Core.Path.{◌≡◌, refl, ◌∙◌}
 use mathlib.Core.List.{List}
 use native.Mathlib.Omega.{arith}
 use lib.Dec.{eqb}
 use lib.ListN.{length, get_or, set, length-set}
 use lib.Seq.{get_or-set_same, get_or-set_other}
-use borrow.Author.Tests.{eq-eqb, ne_eqb, eqb-true, eqb-false}
+use borrow.Author.Tests.{ne_eqb}
 use Rattle.rules.specs.Orders.{Side, buy, sell}
 use Rattle.rules.specs.Hour.{by_side, when}
 use Rattle.rules.proofs.Tests.{by-eq}
 use Rattle.orders.specs.Columns.{side_for}
-use Rattle.accounts.specs.Layout.{place_in, account_places, bought_column, sold_column, paid_column, received_column, orders_column}
+use Rattle.accounts.specs.Layout.{place_in, account_places}
 use Rattle.accounts.specs.Postings.{share_of, Added, figure_of, Posted}
 
 -- A NUMBER ADDED IN A COLUMN: one write for the portfolio, one for the totals

@@ -1,7 +1,6 @@
 -- ORDERS POSTED ONE AFTER ANOTHER: what an account has of an order and of those behind it; a walk along them, and its end. Assumes nothing.
-use Prim.Native.Nat.{ℕ, zero, suc, ◌+◌, ◌-◌, ◌*◌, ◌^◌, ◌≤◌, ◌<◌}
-use mathlib.Core.Bool.{Bool, true, false}
-use mathlib.Core.Path.{◌≡◌, refl, ◌∙◌}
+use Prim.Native.Nat.{ℕ, zero, suc, ◌+◌, ◌*◌, ◌^◌, ◌≤◌, ◌<◌}
+use mathlib.Core.Path.{◌≡◌, refl}
 use mathlib.Core.List.{List, [], ◌∷◌}
 use native.Mathlib.Omega.{arith}
 use lib.Dec.{eqb}
@@ -65,18 +64,15 @@ module _ (hours : ℕ) (price : ℕ → ℕ) where
   underway-start bound whole total before = record { size = refl; at = λ column q inside few. refl; most = λ i. omega arith }
 
   -- there is room for one order more
-  times-one : (bound left : ℕ) → 0 < left → bound + bound * (left - 1) ≡ bound * left
-  times-one bound zero some = absurd (omega arith)
-  times-one bound (suc left) some = let e : suc left - 1 ≡ left = omega arith in rw e (omega arith)
+  pub underway-room : (bound : ℕ) (whole rest : List Executed) (total left : ℕ) (before after : List ℕ) (room : ℕ) →
+      Underway bound whole rest total (suc left) before after → bound * total ≤ room →
+      ((i : ℕ) → get_or before i 0 + room < 2 ^ 64) → (i : ℕ) → get_or after i 0 + bound < 2 ^ 64
+  underway-room bound whole rest total left before after room way small free i = omega (arith, way.most i, free i)
 
-  module _ (bound : ℕ) (whole rest : List Executed) (total left : ℕ) (before after : List ℕ) (way : Underway bound whole rest total left before after) where
-    pub underway-room : (room : ℕ) → bound * total ≤ room → 0 < left → ((i : ℕ) → get_or before i 0 + room < 2 ^ 64) → (i : ℕ) → get_or after i 0 + bound < 2 ^ 64
-    underway-room room small some free i = omega (arith, way.most i, times-one bound left some, free i)
-
-  pub underway-more : (bound : ℕ) (whole rest : List Executed) (o : Executed) (total left : ℕ) (before mid after : List ℕ) → 1 ≤ o.portfolio → 0 < left →
-      Underway bound whole (o ∷ rest) total left before mid → OrdersPosted hours price bound (o ∷ []) mid after →
-      Underway bound whole rest total (left - 1) before after
-  underway-more bound whole rest o total left before mid after mine some way posted =
+  pub underway-more : (bound : ℕ) (whole rest : List Executed) (o : Executed) (total left : ℕ) (before mid after : List ℕ) → 1 ≤ o.portfolio →
+      Underway bound whole (o ∷ rest) total (suc left) before mid → OrdersPosted hours price bound (o ∷ []) mid after →
+      Underway bound whole rest total left before after
+  underway-more bound whole rest o total left before mid after mine way posted =
       record {
         size = omega (arith, way.size, posted.size);
         at = λ column q inside few.
@@ -88,7 +84,7 @@ module _ (hours : ℕ) (price : ℕ → ℕ) where
               account-more column q o [] mine,
               account-none column q,
             );
-        most = λ i. omega (arith, way.most i, posted.most i, times-one bound left some);
+        most = λ i. omega (arith, way.most i, posted.most i);
       }
 
   -- at the end all are posted

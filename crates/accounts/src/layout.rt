@@ -1,13 +1,12 @@
 // Where the accounts have what: five columns in one list, each with a place for every portfolio. No code, no contract; the same numbers for the contracts
 // stand in specs/Layout.antt.
 
-// The numbers that a portfolio's byte can be: the places of a column.
-pub const PORTFOLIO_NUMBERS: usize = 256;
+// The numbers that a portfolio's byte can be, the places of a column, and the last portfolio.
+pub use chains::PORTFOLIO_NUMBERS;
+pub use fields::LAST_PORTFOLIO;
 
-// The last portfolio: 1 to 255.
-pub const LAST_PORTFOLIO: u8 = 255;
-
-// The columns: quantity bought and sold, cash paid and received, and how many orders there are.
+// The columns: quantity bought and sold, cash paid and received, and how many orders there are. No enum: a column is an index, and the places are
+// reckoned from it.
 pub const BOUGHT: usize = 0;
 
 pub const SOLD: usize = 1;

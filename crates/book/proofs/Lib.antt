@@ -3,3 +3,4 @@ pub mod Refused
 pub mod StepLimits
 pub mod Accepted
 pub mod RecordSums
+pub mod OneByOne

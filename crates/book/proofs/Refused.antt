@@ -17,11 +17,14 @@ use Rattle.chains.specs.Chains.{count_on, step_order, block_order}
 use Rattle.chains.specs.Causes.{broken_on, broken_chain, wrong_field_on, wrong_field, stray_record, wrong_hours, wrong_link}
 use Rattle.book.specs.Refusals.{wrong_size, wrong_head, too_many_of, too_many_blocks, too_many_steps, first_cause, own_causes, refusal}
 use Rattle.chains.specs.Passes.{surveyed}
-use Rattle.book.specs.Passes.{next_found}
-use Rattle.book.specs.Answers.{reading, number_of}
+use Rattle.book.specs.Numbers.{refusal_number, refusal_numbered, answered, tested, number_of}
+use Rattle.book.specs.Answers.{counted, reading}
 use Rattle.chains.specs.declared.Chain.TheVariants as chain-of
 use Rattle.chains.specs.declared.Surveyed.{Surveyed}
-use Rattle.book.specs.declared.Reading.TheVariants as reading-of
+use Rattle.book.specs.declared.Counted.{Counted}
+use Rattle.book.specs.declared.refusal.Refusal.{Refusal}
+use Rattle.std.specs.Prelude.{Result, Ok, Err}
+use Rattle.rules.proofs.Tests.{by-test, by-eq}
 use Rattle.chains.proofs.Laws.{or_right, and_left, and_right}
 use Rattle.chains.proofs.Distinct.{on_some, stray-short}
 
@@ -38,57 +41,67 @@ count-bounds b e =
     (not-false _ (or_right (not (eqb (length b) (record_size * record_count b)) || ltb (length b) record_size) _ e))
 
 -- THE CAUSES ONE AFTER ANOTHER
--- A book's number, where the causes looked for gave `found` (0 where none holds) and those of `rest` are still to be looked for
-unfoldable pub Left : List ℕ → ℕ → List (Bool × ℕ) → Type 0
-Left b found rest = refusal b ≡ cond (eqb found 0) (first_cause rest) found
+-- Where no cause looked for before holds: those of `rest` are still to be looked for
+pub record Left (b : List ℕ) (rest : List (Bool × ℕ)) : Type 0 where
+  pub is : refusal b ≡ first_cause rest
 
--- One cause more. The test for it has to be right only where none was found before
-pub one-cause : (b : List ℕ) (found next number : ℕ) (test cause : Bool) (rest : List (Bool × ℕ)) → 0 < number
-    → Left b found ((cause, number) ∷ rest) → (found ≡ 0 → test ≡ cause) → next ≡ next_found found test number → Left b next rest
-unfolding first_cause next_found Left
-one-cause b found next number test cause rest p left agree e = left ∙ rw e (at (eqb found 0) refl)
+-- 1 comes first
+pub all-left : (b : List ℕ)
+    → Left b
+    ((wrong_size b, 1) ∷ (wrong_head b, 2) ∷ (broken_chain b, 3) ∷ (wrong_field b, 4) ∷ (stray_record b, 5) ∷ (too_many_blocks b, 6) ∷ (wrong_hours b, 9)
+    ∷ (wrong_link b, 10) ∷ (too_many_steps b, 11) ∷ [])
+unfolding refusal own_causes
+all-left b = record { is = refl }
+
+-- A test that refused nothing does not hold ..
+pub passed : (test : Bool) (why : Refusal) → Ok tt ≡ tested test why → test ≡ false
+passed true why e = absurd (cc)
+passed false why e = refl
+
+-- .. one that refused does, for that refusal ..
+pub stops : (test : Bool) (why got : Refusal) → Err got ≡ tested test why → (test ≡ true) × (got ≡ why)
+stops true why got e = (refl, (cc))
+stops false why got e = absurd (cc)
+
+-- .. and after one that does not the causes after it are left
+pub next : {b : List ℕ} {number : ℕ} {test cause : Bool} {rest : List (Bool × ℕ)} (why : Refusal)
+    → Left b ((cause, number) ∷ rest) → test ≡ cause → Ok tt ≡ tested test why → Left b rest
+unfolding first_cause
+next {b} {number} {test} {cause} why left right none = record { is = left.is ∙ rw (sym right ∙ passed test why none) }
+
+-- Where the last one does not hold either, the book is accepted
+pub accepts : {b : List ℕ} → Left b [] → refusal b ≡ 0
+unfolding first_cause
+accepts left = left.is
+
+-- A test that refused gives the book's refusal
+pub stopped : {b : List ℕ} {number : ℕ} {test cause : Bool} {rest : List (Bool × ℕ)} {got : Refusal} {A : Type 0} (why : Refusal) (value : A)
+    → Left b ((cause, number) ∷ rest) → test ≡ cause → refusal_numbered number ≡ why → 0 < number → Err got ≡ tested test why
+    → Err got ≡ answered (refusal b) value
+unfolding first_cause answered
+stopped {b} {number} {test} {cause} {rest} {got} why value left right named some told = at test right told
   where
-    holds : (t : Bool) → ◌≡◌ {A = ℕ} (cond t number (first_cause rest)) (cond (eqb (cond t number 0) 0) (first_cause rest) (cond t number 0))
-    holds true = rw (ne_eqb number 0 (λ w. omega arith))
-    holds false = refl
+    at : (t : Bool) → t ≡ cause → Err got ≡ tested t why → Err got ≡ answered (refusal b) value
+    at true is e = let same : got ≡ why = cc in rw (left.is, ← is, ne_eqb number 0 (λ w. omega arith), named, same)
+    at false is e = absurd (cc)
 
-    at : (none : Bool) → eqb found 0 ≡ none
-        → ◌≡◌ {A = ℕ} (cond none (cond cause number (first_cause rest)) found)
-        (cond (eqb (cond none (cond test number 0) found) 0) (first_cause rest) (cond none (cond test number 0) found))
-    at true f = rw (agree (eqb-true found 0 f)) (holds cause)
-    at false f = rw f
-
--- After the last cause what was found is the book's number
-pub after-all : (b : List ℕ) (found : ℕ) → Left b found [] → found ≡ refusal b
-unfolding first_cause Left
-after-all b found left = sym (left ∙ at (eqb found 0) refl)
+-- The last test gives the answer
+pub ends : {b : List ℕ} {number : ℕ} {test cause : Bool} {r : Result (Unit {0}) Refusal} (why : Refusal)
+    → Left b ((cause, number) ∷ []) → test ≡ cause → refusal_numbered number ≡ why → 0 < number → r ≡ tested test why → r ≡ answered (refusal b) tt
+unfolding first_cause answered
+ends {b} {number} {test} {cause} why left right named some told = told ∙ at test right
   where
-    at : (none : Bool) → eqb found 0 ≡ none → ◌≡◌ {A = ℕ} (cond none 0 found) found
-    at true f = sym (eqb-true found 0 f)
-    at false f = refl
+    at : (t : Bool) → t ≡ cause → tested t why ≡ answered (refusal b) tt
+    at true is = rw (left.is, ← is, ne_eqb number 0 (λ w. omega arith), named)
+    at false is = rw (left.is, ← is)
 
--- Where nothing is found the cause just looked for does not hold, and nothing was found before
-pub none_found : (found next number : ℕ) (test : Bool) → 0 < number → next ≡ next_found found test number → next ≡ 0 → (found ≡ 0) × (test ≡ false)
-unfolding next_found
-none_found found next number test p e z = at (eqb found 0) test refl (sym e ∙ z)
-  where
-    at : (none t : Bool) → eqb found 0 ≡ none → ◌≡◌ {A = ℕ} (cond none (cond t number 0) found) 0 → (found ≡ 0) × (t ≡ false)
-    at true true f z = absurd (omega arith)
-    at true false f z = (eqb-true found 0 f, refl)
-    at false t f z = absurd (eqb-false found 0 f z)
-
--- 1 comes first ..
-pub refusal-size : (b : List ℕ) → wrong_size b ≡ true → refusal b ≡ 1
-unfolding refusal own_causes first_cause
-refusal-size b e = rw e
-
--- .. and without it the others are looked for
+-- .. and without 1 the others are left
 pub without-size : (b : List ℕ) → wrong_size b ≡ false
-    → Left b 0
+    → Left b
     ((wrong_head b, 2) ∷ (broken_chain b, 3) ∷ (wrong_field b, 4) ∷ (stray_record b, 5) ∷ (too_many_blocks b, 6) ∷ (wrong_hours b, 9) ∷ (wrong_link b, 10)
     ∷ (too_many_steps b, 11) ∷ [])
-unfolding refusal own_causes first_cause Left
-without-size b e = rw e
+unfolding first_cause
+without-size b e = record { is = (all-left b).is ∙ rw e }
 
 -- 3 and 4 from what the walks along the chains found
 pub broken-found : (b : List ℕ) (s t u : Surveyed) → s ≡ surveyed b chain-of.Steps → t ≡ surveyed b chain-of.Blocks → u ≡ surveyed b chain-of.Links
@@ -129,45 +142,85 @@ pub blocks-counted : (b : List ℕ) (t : Surveyed) → t ≡ surveyed b chain-of
 unfolding surveyed block_order
 blocks-counted b t q = rw q
 
--- A book with number 0 is accepted, with the lengths of its chains ..
-pub reading-accepted : (b : List ℕ) (s t : ℕ) → refusal b ≡ 0 → s ≡ length (step_order b) → t ≡ length (block_order b)
-    → reading-of.Accepted s t ≡ reading b
-unfolding reading
-reading-accepted b s t e p q = rw (eq-eqb _ _ e, p, q)
+-- Each number that the causes give has its refusal
+abbrev pub HaveRefusals : List (Bool × ℕ) → Type 0
+HaveRefusals [] = Unit {0}
+HaveRefusals (cause ∷ l) = (refusal_number (refusal_numbered cause.1) ≡ cause.1) × HaveRefusals l
 
--- .. and any other is refused with its number
-pub reading-refused : (b : List ℕ) (n : ℕ) → n ≡ refusal b → (n ≡ 0 → ⊥) → reading-of.Refused n ≡ reading b
-unfolding reading
-reading-refused b n e other = rw (← e, ne_eqb _ _ other)
+first-refusal : (l : List (Bool × ℕ)) → HaveRefusals l → (first_cause l ≡ 0 → ⊥) → refusal_number (refusal_numbered (first_cause l)) ≡ first_cause l
+unfolding first_cause
+first-refusal [] h n = absurd (n refl)
+first-refusal (cause ∷ l) h n = at cause.0 n (λ g. first-refusal l h.1 g)
+  where
+    at : (t : Bool) → (cond t cause.1 (first_cause l) ≡ 0 → ⊥)
+        → ((first_cause l ≡ 0 → ⊥) → refusal_number (refusal_numbered (first_cause l)) ≡ first_cause l)
+        → refusal_number (refusal_numbered (cond t cause.1 (first_cause l))) ≡ cond t cause.1 (first_cause l)
+    at true g later = h.0
+    at false g later = later g
+
+pub own-have : (b : List ℕ) → HaveRefusals (own_causes b)
+unfolding own_causes refusal_numbered
+own-have b = (refl, (refl, (refl, (refl, (refl, (refl, (refl, (refl, (refl, tt)))))))))
+
+pub have-append : (l n : List (Bool × ℕ)) → HaveRefusals l → HaveRefusals n → HaveRefusals (l ++ n)
+have-append [] n h k = k
+have-append (cause ∷ l) n h k = (h.0, have-append l n h.1 k)
+
+pub own-refusal : (b : List ℕ) → (refusal b ≡ 0 → ⊥) → refusal_number (refusal_numbered (refusal b)) ≡ refusal b
+unfolding refusal
+own-refusal b n = first-refusal (own_causes b) (own-have b) n
+
+-- The number of what is answered for a number that is 0 or has its refusal
+pub number-answered : {A : Type 0} (n : ℕ) (value : A) → ((n ≡ 0 → ⊥) → refusal_number (refusal_numbered n) ≡ n) → number_of (answered n value) ≡ n
+unfolding answered
+number-answered n value has = at (eqb n 0) refl
+  where
+    at : (none : Bool) → eqb n 0 ≡ none → number_of (cond none (Ok value) (Err (refusal_numbered n))) ≡ n
+    at true e = sym (eqb-true n 0 e)
+    at false e = has (eqb-false n 0 e)
+
+-- .. so the number of what is answered for the first cause of a list is that cause's, 0 where none holds
+pub number-of-causes : {A : Type 0} (l : List (Bool × ℕ)) (value : A) → HaveRefusals l → number_of (answered (first_cause l) value) ≡ first_cause l
+number-of-causes l value h = number-answered (first_cause l) value (first-refusal l h)
 
 -- The answer's number is the book's
 pub number-reading : (b : List ℕ) → number_of (reading b) ≡ refusal b
-unfolding reading
-number-reading b = at (eqb (refusal b) 0) refl
-  where
-    at : (none : Bool) → eqb (refusal b) 0 ≡ none
-        → number_of (cond none (reading-of.Accepted (length (step_order b)) (length (block_order b))) (reading-of.Refused (refusal b))) ≡ refusal b
-    at true e = sym (eqb-true (refusal b) 0 e)
-    at false e = refl
+unfolding reading answered
+number-reading b = number-answered (refusal b) (counted b) (own-refusal b)
+
+-- What is answered for no number, and for one
+pub answered-none : {A : Type 0} (n : ℕ) (value : A) → n ≡ 0 → answered n value ≡ Ok value
+unfolding answered
+answered-none n value e = rw (eq-eqb _ _ e)
+
+pub answered_some : {A : Type 0} (n : ℕ) (value : A) → (n ≡ 0 → ⊥) → answered n value ≡ Err (refusal_numbered n)
+unfolding answered
+answered_some n value e = rw (ne_eqb _ _ e)
+
+-- What an accepting answer says of the number
+pub answer-none : {A : Type 0} (n : ℕ) (value other : A) → answered n value ≡ Ok other → (n ≡ 0) × (other ≡ value)
+unfolding answered
+answer-none n value other e =
+    by-eq (λ t. cond t (Ok value) (Err (refusal_numbered n)) ≡ Ok other → (n ≡ 0) × (other ≡ value)) n 0 (λ z e. (z, (cc))) (λ z e. absurd (cc)) e
+
+-- What a refusing answer says of the number
+pub answer-some : {A : Type 0} (n : ℕ) (value : A) (why : Refusal) → answered n value ≡ Err why → (n ≡ 0 → ⊥) × (why ≡ refusal_numbered n)
+unfolding answered
+answer-some n value why e =
+    by-eq (λ t. cond t (Ok value) (Err (refusal_numbered n)) ≡ Err why → (n ≡ 0 → ⊥) × (why ≡ refusal_numbered n)) n 0 (λ z e. absurd (cc))
+    (λ z e. (z, (cc))) e
 
 -- What an accepting answer says
-pub answer-accepted : (b : List ℕ) (s t : ℕ) → reading b ≡ reading-of.Accepted s t
-    → (refusal b ≡ 0) × (s ≡ length (step_order b)) × (t ≡ length (block_order b))
-answer-accepted b s t e =
-    let z : refusal b ≡ 0 = (sym (number-reading b) ∙ ap number_of e) in
-    let r = reading-accepted b _ _ z refl refl in
-    (z, (cc), (cc))
+pub answer-accepted : (b : List ℕ) (c : Counted) → reading b ≡ Ok c → (refusal b ≡ 0) × (c ≡ counted b)
+unfolding reading answered
+answer-accepted b c e = answer-none (refusal b) (counted b) c e
 
 -- What a refusing answer says
-pub answer-refused : (b : List ℕ) (n : ℕ) → reading b ≡ reading-of.Refused n → (refusal b ≡ n) × (n ≡ 0 → ⊥)
-answer-refused b n e =
-    let z : refusal b ≡ n = (sym (number-reading b) ∙ ap number_of e) in (
-      z,
-      λ w.
-          let r = reading-accepted b _ _ (z ∙ w) refl refl in
-          let f : ◌≡◌ {A = ℕ} 0 1 = cc in
-          omega arith,
-    )
+pub answer-refused : (b : List ℕ) (why : Refusal) → reading b ≡ Err why → (refusal b ≡ 0 → ⊥) × (refusal b ≡ refusal_number why) × (why ≡ refusal_numbered (refusal b))
+unfolding reading answered
+answer-refused b why e =
+    let a = answer-some (refusal b) (counted b) why e in
+    (a.0, sym (own-refusal b a.0) ∙ ap refusal_number (sym a.1), a.1)
 
 -- Cause n is in a list of causes, and holds
 abbrev pub holds : List (Bool × ℕ) → ℕ → Bool

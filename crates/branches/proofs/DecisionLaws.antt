@@ -10,16 +10,15 @@ use lib.Dec.{eqb, leb}
 use lib.ListN.{length, get_or-append}
 use lib.Seq.{get_or-append_seam}
 use borrow.Author.Tests.{eqb-true, ne_eqb, lt-ltb, le-ltb}
-use lib.Pow.{pow_mono, shr_le}
+use lib.Pow.{shr_le}
 use Rattle.rules.specs.Hour.{when}
 use Rattle.rules.specs.Day.{decisions}
 use Rattle.rules.proofs.Tests.{by-test, clash}
 use Rattle.rules.proofs.SetBits.{bits_at, bits-taken, bits_left}
 use Rattle.book.specs.Bounds.{most_blocks}
 use Rattle.places.specs.Blocks.{side_at, hours_at, limit_at, against_at, gain_at, parent_at, ahead_at, behind_at, keeps_at}
-use Rattle.places.specs.Layout.{most_loss}
 use Rattle.places.specs.Reach.{is_out}
-use Rattle.branches.specs.Decisions.{names_left, names_gone, is_barred, is_due, is_forced, is_ruled_out, out_gains, RuledOut}
+use Rattle.branches.specs.Decisions.{names_left, names_gone, is_barred, is_due, is_forced, is_ruled_out, out_gains}
 
 -- A BLOCK THAT IS NAMED by a column
 module _ (name chosen : ℕ) where
@@ -198,12 +197,6 @@ module _ (blocks : List ℕ) (count at : ℕ) where
       gain-is : g ≡ when test (gain_at blocks i)
       gain-is = by-test (λ u. g ≡ cond u (gain_at blocks i) 0 → g ≡ when u (gain_at blocks i)) test (λ _ z. z) (λ _ z. z) gg
 
-  pub gains-all : count ≤ most_blocks → (out i gains : ℕ) → GainsTo out i gains → count ≤ i →
-      (gains ≡ out_gains blocks at out (count - at)) × (gains ≤ most_loss)
-  gains-all few out i gains v le =
-      let e : i ≡ count = omega (arith, v.to) in
-      (rw e at v.gained, omega (arith, v.gains_fit))
-
 module _ (blocks : List ℕ) (count at chosen out : ℕ) (high low : List ℕ) where
   abbrev ruled_at : ℕ → ℕ → Bool
   ruled_at r k = is_ruled_out blocks (at + k) (is_out out k) (names_gone (parent_at blocks (at + k)) at chosen r) high low
@@ -248,11 +241,3 @@ module _ (blocks : List ℕ) (count at chosen out : ℕ) (high low : List ℕ) w
       top =
           let here : at + (i - at) ≡ i = omega (arith, v.gained.from) in
           top_bit (i - at) r b test v.fits e ∙ et ∙ rw (gone_at (i - at) (omega arith), here, ew, eg)
-
-  -- no bit is lost
-  pub ruled-room : count ≤ most_blocks → (i r b gains : ℕ) (test : Bool) → RuledTo i r gains → i < count → b ≡ cond test (2 ^ (i - at)) 0 → r + b < 2 ^ 32
-  ruled-room few i r b gains test v inside e =
-      omega (arith, more-fits (i - at) r b test v.fits e, pow_mono {i = suc (i - at)} {j = 32} (omega (arith, v.gained.from)))
-
-  pub ruled-all : (i r gains : ℕ) → RuledTo i r gains → count ≤ i → RuledOut blocks count at chosen out high low r
-  ruled-all i r gains v le k a = v.is k (omega (arith, v.gained.to))

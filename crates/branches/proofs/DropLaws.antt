@@ -29,7 +29,9 @@ use Rattle.rules.proofs.SetPriceLaws.{least_shift, most_shift}
 use Rattle.rules.proofs.LawCutLaws.{could_keep, taken-could}
 use Rattle.places.specs.Hours.{sum_of_hours, sum_over, counted_column, cell, of_hour, DayPrices, PricesOf, least_gap}
 use Rattle.places.specs.Blocks.{side_at, hours_at, limit_at, against_at, gain_at, parent_at, row_quantity, keeps_at, all_keep, added_in}
-use Rattle.places.specs.Reach.{is_out, must_from, may_from, RestOf, ReachOf}
+use Rattle.places.specs.Reach.{is_out, must_from, may_from, RestOf, AllBalance, Reaches}
+use Rattle.places.specs.Reach as hour
+use Rattle.std.specs.Prelude.{Some}
 use Rattle.branches.specs.Decisions.{names_gone, is_ruled_out, out_gains, RuledOut}
 use Rattle.branches.specs.Meaning.{AnHour, Shown, Known, Branch, loss_above, best_for_sells, best_for_buys, BoundsOf, At, DroppedFrom, JudgedFrom, last_reached}
 use Rattle.branches.specs.Tables.{Tables}
@@ -281,15 +283,6 @@ module _ {tables : Tables} {left out : ℕ} {node : Node} {limit : ℕ}
     avoided-lost-with : (k : ℕ) → k < left → is_out r k ≡ false → gains + own tables.blocks (length d + k) (get_or t k false) ≤ rest_loss
     avoided-lost-with k inside is = rw gained-here (gains-lost-with at.known left (length d) r k t at.size l avoids inside is)
 
--- a branch that is dropped, and one that is not looked into
-module _ {tables : Tables} {left out : ℕ} {node : Node} {limit : ℕ} where
-  pub judged-dropped : {r : ℕ} → DroppedFrom tables left out node limit →
-      JudgedFrom tables left out node limit true r
-  judged-dropped drop = record { dropped = λ _. drop; out_of = λ z. clash refl z }
-
-  pub judged-as-it-was : JudgedFrom tables left out node limit false out
-  judged-as-it-was = record { dropped = λ z. clash z refl; out_of = λ _ day p rest d at. at.out_of }
-
 -- ONE LAW FOR EACH REASON to drop a branch, where what is out would gain so much
 module _ {tables : Tables} {left out : ℕ} {node : Node} {limit gains : ℕ}
     (gained : gains ≡ out_gains tables.blocks (tables.count - left) out (tables.count - (tables.count - left))) where
@@ -303,9 +296,8 @@ module _ {tables : Tables} {left out : ℕ} {node : Node} {limit gains : ℕ}
       ))
 
   module _ {least free : List ℕ}
-      (added : RestOf tables.blocks tables.count (tables.count - left) out (node.loss + gains) limit node.places least free)
-      {balances : Bool} {from to : List ℕ} (reach : ReachOf tables.first tables.last least free balances from to) where
-    -- a lawful completion that loses less has its places from `from` to `to`
+      (added : RestOf tables.blocks tables.count (tables.count - left) out (node.loss + gains) limit node.places least free) where
+    -- a lawful completion that loses less has its places where the hours reach
     module _ {day : Day} {p rest : ℕ → ℕ} {d : List Bool} (t : List Bool) (at : At tables left node limit out day p rest d)
         (l : length t ≡ left) (law : lawful day (d ++ t) ≡ true) where
       known : Known day p rest tables
@@ -317,9 +309,9 @@ module _ {tables : Tables} {left out : ℕ} {node : Node} {limit gains : ℕ}
       size : length d + left ≡ tables.count
       size = at.size
 
-      in_reach : loss_above day p rest (d ++ t) < limit → (h : ℕ) → AnHour h →
-          (of_hour from h ≤ place day.blocks (d ++ t) h) × (place day.blocks (d ++ t) h ≤ of_hour to h)
-      in_reach k h c =
+      reached : loss_above day p rest (d ++ t) < limit → (h : ℕ) → AnHour h →
+          (hour.first_reached tables.first least h ≤ place day.blocks (d ++ t) h) × (place day.blocks (d ++ t) h ≤ hour.last_reached tables.last least free h)
+      reached k h c =
           let a = c.first in
           let b = c.last in
           let here : tables.count - left ≡ length d = omega arith in
@@ -330,8 +322,8 @@ module _ {tables : Tables} {left out : ℕ} {node : Node} {limit gains : ℕ}
           let may = rw (here, after) at (added.free_is h a b) in
           let split = place-split day.blocks d t h in
           let is = branch.places_are h c in (
-            rw (reach.from_is h a b) (larger-least (of_hour least h) (of_hour tables.first h) _ (omega arith) range.0),
-            rw (reach.to_is h a b) (smaller-most (of_hour least h + of_hour free h) (of_hour tables.last h) _ (omega arith) range.1),
+            larger-least (of_hour least h) (of_hour tables.first h) _ (omega arith) range.0,
+            smaller-most (of_hour least h + of_hour free h) (of_hour tables.last h) _ (omega arith) range.1,
           )
         where
           avoids : Avoids left out t
@@ -343,159 +335,167 @@ module _ {tables : Tables} {left out : ℕ} {node : Node} {limit gains : ℕ}
               let e : length d - length d + j ≡ j = omega arith in
               rw e (avoids j inside, λ is. omega (arith, k, rest-lost t at l law, avoided-lost-with t at l law out gained avoids j inside is))
 
-      -- its gaps are at least the least gaps there
-      gaps-least : loss_above day p rest (d ++ t) < limit → (more : ℕ) → more ≤ losses day.hours p (drop (length d) day.blocks) t →
-          node.loss + more + sum_over tables.change (least_gap tables.gaps tables.turn from to) ≤ loss_above day p rest (d ++ t)
-      unfolding loss_above
-      gaps-least k more lost =
-          let g = least_gap tables.gaps tables.turn from to in
-          omega (
-            arith,
-            branch.loss_is,
-            bound-with day p d t more (λ h. g h + rest h) lost (λ h c. gap-least h (an-hour c)),
-            day_sum-add day.hours g rest,
-            rw known.change_is at (day-sum day.hours g),
-          )
-        where
-          gap-least : (h : ℕ) → AnHour h →
-              least_gap tables.gaps tables.turn from to h + rest h ≤ slack (p h)
-              (hour_of day (taken day.blocks (d ++ t)) h)
-          gap-least h c =
-              let a = c.first in
-              let b = c.last in
-              let r = in_reach k h c in
-              let above = (larger-above (of_hour least h) (of_hour tables.first h)).1 in
-              let below = (smaller-below (of_hour least h + of_hour free h) (of_hour tables.last h)).1 in
-              let from_is = reach.from_is h a b in
-              let to_is = reach.to_is h a b in
-              omega (
-                arith,
-                gap-of-lawful known (d ++ t) (whole t at l law) law h c,
-                nearest-least (λ i. cell tables.gaps h i) (of_hour tables.turn h) (of_hour from h) (of_hour to h) (place day.blocks (d ++ t) h) r.0
-                    r.1
-                    (λ x y i j z w. at.turning.falls h x y a b (omega arith) j (omega arith) w)
-                    (λ x y i j z w. at.turning.rises h x y a b (omega arith) j (omega arith) w),
-              )
-
-      -- each of its blocks keeps its limit at the best prices there
-      block-could : {high low : List ℕ} → BoundsOf tables.shifts tables.unit_prices tables.change from to high low → balances ≡ true →
-          loss_above day p rest (d ++ t) < limit → (j : ℕ) → j < tables.count → get_or (d ++ t) j false ≡ true →
-          keeps_at (side_at tables.blocks j) (hours_at tables.blocks j) (limit_at tables.blocks j) high low ≡ true
-      block-could bounds e k j inside set-bit =
-          let s = known.shown j inside in
-          let could = taken-could day known.prices known.hours (d ++ t) (whole t at l law ∙ sym known.counted) law (of_hour from) (of_hour to)
-          record { from = λ h c. (in_reach k h (an-hour c)).0; to = λ h c. (in_reach k h (an-hour c)).1 }
-          j no_block (omega (arith, known.counted)) set-bit in
-          could-same known bounds fits_in.0 fits_in.1 s
-          ∙ rw (block-at day.blocks j s.block _ no_block s.next) at could
-        where
-          fits_in : ((h : ℕ) → AnHour h → of_hour from h ≤ last_reached day h) × ((h : ℕ) → AnHour h → of_hour to h ≤ last_reached day h)
-          fits_in = (
-            λ h c.
-                let below = (smaller-below (of_hour least h + of_hour free h) (of_hour tables.last h)).1 in
-                omega (arith, reach.balanced e h c.first c.last, reach.to_is h c.first c.last, known.last_is h c),
-            λ h c.
-                let below = (smaller-below (of_hour least h + of_hour free h) (of_hour tables.last h)).1 in
-                omega (arith, reach.to_is h c.first c.last, known.last_is h c),
-          )
-
-      -- the decided ones, and one of the rest
-      decided-could : {high low : List ℕ} → BoundsOf tables.shifts tables.unit_prices tables.change from to high low → balances ≡ true →
-          loss_above day p rest (d ++ t) < limit → all_keep tables.blocks node.set high low (tables.count - left) ≡ true
-      decided-could {high} {low} bounds e k =
-          all_keep_lem tables.blocks node.set high low (tables.count - left) (λ j m bit.
-          let here : j < length d = omega (arith, size) in
-          block-could bounds e k j (omega arith)
-          (get_or-append d t false j here ∙ decided-bit branch j here ∙ eq-eqb _ 1 bit))
-
-      rest-could : {high low : List ℕ} → BoundsOf tables.shifts tables.unit_prices tables.change from to high low → balances ≡ true →
-          loss_above day p rest (d ++ t) < limit → (j : ℕ) → j < left → get_or t j false ≡ true →
-          keeps_at (side_at tables.blocks (tables.count - left + j)) (hours_at tables.blocks (tables.count - left + j)) (limit_at tables.blocks (tables.count - left + j)) high low ≡ true
-      rest-could bounds e k j inside bit =
-          let here : tables.count - left ≡ length d = omega (arith, size) in
-          block-could bounds e k (tables.count - left + j) (omega (arith, size)) (rw here (get_or-behind d t j ∙ bit))
-
     -- some hour can no longer balance
-    pub dropped-unbalanced : balances ≡ false → DroppedFrom tables left out node limit
+    pub dropped-unbalanced : (AllBalance tables.first tables.last least free → ⊥) → DroppedFrom tables left out node limit
     dropped-unbalanced e day p rest d t at l law =
-        unless _ _ (λ k. absurd (reach.unbalanced e (λ h a b.
-        let r = in_reach t at l law k h record { first = a; last = b } in omega arith)))
+        unless _ _ (λ k. absurd (e (λ h a b.
+        let r = reached t at l law k h record { first = a; last = b } in omega arith)))
 
-    -- the least gaps within reach come to as much
-    pub dropped-by-gaps : limit ≤ node.loss + sum_over tables.change (least_gap tables.gaps tables.turn from to) → DroppedFrom tables left out node limit
-    dropped-by-gaps z day p rest d t at l law = unless _ _ (λ k. absurd (omega (arith, gaps-least t at l law k 0 (omega arith))))
+    module _ {from to : List ℕ} (reach : Reaches tables.first tables.last least free from to) where
+      -- a lawful completion that loses less has its places from `from` to `to`
+      module _ {day : Day} {p rest : ℕ → ℕ} {d : List Bool} (t : List Bool) (at : At tables left node limit out day p rest d)
+          (l : length t ≡ left) (law : lawful day (d ++ t) ≡ true) where
+        in_reach : loss_above day p rest (d ++ t) < limit → (h : ℕ) → AnHour h →
+            (of_hour from h ≤ place day.blocks (d ++ t) h) × (place day.blocks (d ++ t) h ≤ of_hour to h)
+        in_reach k h c =
+            let r = reached t at l law k h c in
+            (rw (reach.from_is h c.first c.last) r.0, rw (reach.to_is h c.first c.last) r.1)
 
-    -- a taken block misses its limit at the best prices within reach
-    module _ {high low : List ℕ} (bounds : BoundsOf tables.shifts tables.unit_prices tables.change from to high low) (e : balances ≡ true) where
-      pub dropped-by-limit : all_keep tables.blocks node.set high low (tables.count - left) ≡ false → DroppedFrom tables left out node limit
-      dropped-by-limit misses day p rest d t at l law =
-          unless _ _ (λ k. clash (decided-could t at l law bounds e k) misses)
-
-      -- WHAT IS OUT: what was before, a child of a block that is gone, and an undecided block that misses its limit at the best prices within reach
-      module _ (le : left ≤ tables.count) (r : ℕ) (is : RuledOut tables.blocks tables.count (tables.count - left) node.set out high low r)
-          {day : Day} {p rest : ℕ → ℕ} {d : List Bool} (at : At tables left node limit out day p rest d) (t : List Bool) (l : length t ≡ left)
-          (law : lawful day (d ++ t) ≡ true) (less : loss_above day p rest (d ++ t) < limit) where
-        here-is : tables.count - left ≡ length d
-        here-is = omega (arith, at.size)
-
-        set-closed : Closed at.known.parent (d ++ t)
-        set-closed = lawful-closed at.known (d ++ t) (length-append d t ∙ rw l at.size) law
-
-        -- so a block whose parent is gone is not taken, if none before it that is out is
-        gone-not : (k : ℕ) → k < left → names_gone (parent_at tables.blocks (length d + k)) (length d) node.set r ≡ true →
-            ((j : ℕ) → j < k → is_out r j ≡ true → get_or t j false ≡ false) → get_or t k false ≡ true → ⊥
-        gone-not k inside gone before bit = by-which (gone-which name (length d) node.set r gone)
+        -- its gaps are at least the least gaps there
+        gaps-least : loss_above day p rest (d ++ t) < limit → (more : ℕ) → more ≤ losses day.hours p (drop (length d) day.blocks) t →
+            node.loss + more + sum_over tables.change (least_gap tables.gaps tables.turn from to) ≤ loss_above day p rest (d ++ t)
+        unfolding loss_above
+        gaps-least k more lost =
+            let g = least_gap tables.gaps tables.turn from to in
+            omega (
+              arith,
+              at.branch.loss_is,
+              bound-with day p d t more (λ h. g h + rest h) lost (λ h c. gap-least h (an-hour c)),
+              day_sum-add day.hours g rest,
+              rw at.known.change_is at (day-sum day.hours g),
+            )
           where
-            name : ℕ
-            name = parent_at tables.blocks (length d + k)
+            gap-least : (h : ℕ) → AnHour h →
+                least_gap tables.gaps tables.turn from to h + rest h ≤ slack (p h)
+                (hour_of day (taken day.blocks (d ++ t)) h)
+            gap-least h c =
+                let a = c.first in
+                let b = c.last in
+                let r = in_reach k h c in
+                let above = (larger-above (of_hour least h) (of_hour tables.first h)).1 in
+                let below = (smaller-below (of_hour least h + of_hour free h) (of_hour tables.last h)).1 in
+                let from_is = reach.from_is h a b in
+                let to_is = reach.to_is h a b in
+                omega (
+                  arith,
+                  gap-of-lawful at.known (d ++ t) (whole t at l law) law h c,
+                  nearest-least (λ i. cell tables.gaps h i) (of_hour tables.turn h) (of_hour from h) (of_hour to h) (place day.blocks (d ++ t) h) r.0
+                      r.1
+                      (λ x y i j z w. at.turning.falls h x y a b (omega arith) j (omega arith) w)
+                      (λ x y i j z w. at.turning.rises h x y a b (omega arith) j (omega arith) w),
+                )
 
-            named : name ≡ suc (name - 1)
-            named = let some = gone-named name (length d) node.set r gone in omega arith
-
-            link : at.known.parent (length d + k) ≡ suc (name - 1)
-            link = sym (at.known.parent_is (length d + k) (omega (arith, at.size))) ∙ named
-
-            parent_in : get_or (d ++ t) (name - 1) false ≡ true
-            parent_in = set-closed (length d + k) (name - 1) link (get_or-behind d t k ∙ bit)
-
-            by-which : ((name - 1 < length d) × (eqb (node.set / 2 ^ (name - 1) % 2) 1 ≡ false)) ⊎
-                ((length d ≤ name - 1) × (is_out r (name - 1 - length d) ≡ true)) → ⊥
-            by-which (inl (early, zero_bit)) =
-                clash (sym (get_or-append d t false (name - 1) early) ∙ parent_in)
-                (decided-bit at.branch (name - 1) early ∙ zero_bit)
-            by-which (inr (late, outs)) =
-                let e : length d + (name - 1 - length d) ≡ name - 1 = omega arith in
-                clash (sym (get_or-behind d t (name - 1 - length d)) ∙ rw e parent_in)
-                (before (name - 1 - length d) (omega (arith, link, at.known.parents.before (length d + k))) outs)
-
-        ruled-not : (n k : ℕ) → k < n → k < left → is_out r k ≡ true → get_or t k false ≡ false
-        unfolding is_ruled_out
-        ruled-not zero k a inside ruled = absurd (omega arith)
-        ruled-not (suc n) k a inside ruled =
-            by-test (λ u. get_or t k false ≡ u → u ≡ false) (get_or t k false)
-            (λ bit _.
-            let keeps = rest-could t at l law bounds e less k inside bit in
-            let was = sym (is k (omega arith)) ∙ ruled in
-            by-which bit (λ j b outs. ruled-not n j (omega arith) (omega arith) outs) (either-out (is_out out k) _ _ keeps was))
-            (λ _ _. refl) refl
+        -- each of its blocks keeps its limit at the best prices there
+        block-could : {high low : List ℕ} → BoundsOf tables.shifts tables.unit_prices tables.change from to high low →
+            loss_above day p rest (d ++ t) < limit → (j : ℕ) → j < tables.count → get_or (d ++ t) j false ≡ true →
+            keeps_at (side_at tables.blocks j) (hours_at tables.blocks j) (limit_at tables.blocks j) high low ≡ true
+        block-could bounds k j inside set-bit =
+            let s = at.known.shown j inside in
+            let could = taken-could day at.known.prices at.known.hours (d ++ t) (whole t at l law ∙ sym at.known.counted) law (of_hour from) (of_hour to)
+            record { from = λ h c. (in_reach k h (an-hour c)).0; to = λ h c. (in_reach k h (an-hour c)).1 }
+            j no_block (omega (arith, at.known.counted)) set-bit in
+            could-same at.known bounds fits_in.0 fits_in.1 s
+            ∙ rw (block-at day.blocks j s.block _ no_block s.next) at could
           where
-            by-which : get_or t k false ≡ true → ((j : ℕ) → j < k → is_out r j ≡ true → get_or t j false ≡ false) → (is_out out k ≡ true) ⊎
-                (names_gone (parent_at tables.blocks (tables.count - left + k)) (tables.count - left) node.set r ≡ true) → true ≡ false
-            by-which bit before (inl was) = sym bit ∙ at.out_of t k l law less inside was
-            by-which bit before (inr gone) = absurd (gone-not k inside (rw here-is at gone) before bit)
+            fits_in : ((h : ℕ) → AnHour h → of_hour from h ≤ last_reached day h) × ((h : ℕ) → AnHour h → of_hour to h ≤ last_reached day h)
+            fits_in = (
+              λ h c.
+                  let below = (smaller-below (of_hour least h + of_hour free h) (of_hour tables.last h)).1 in
+                  omega (arith, reach.balanced h c.first c.last, reach.to_is h c.first c.last, at.known.last_is h c),
+              λ h c.
+                  let below = (smaller-below (of_hour least h + of_hour free h) (of_hour tables.last h)).1 in
+                  omega (arith, reach.to_is h c.first c.last, at.known.last_is h c),
+            )
 
-      -- or the branch is dropped: what they would gain and the least gaps come to as much
-      pub judged-open : left ≤ tables.count → {r gaps more : ℕ} →
-          RuledOut tables.blocks tables.count (tables.count - left) node.set out high low r →
-          gaps ≡ sum_over tables.change (least_gap tables.gaps tables.turn from to) →
-          more ≡ out_gains tables.blocks (tables.count - left) r (tables.count - (tables.count - left)) →
-          JudgedFrom tables left out node limit (leb limit (node.loss + gaps + more)) r
-      judged-open le {r} {gaps} {more} is gapped mores = record {
-        dropped = λ much day p rest d t at l law. unless _ _ (λ less. absurd (omega (
-          arith,
-          leb-true limit (node.loss + gaps + more) much,
-          gaps-least t at l law less more (avoided-lost t at l law r mores
-              (λ k inside ruled. ruled-not le _ is at t l law less (suc k) k (omega arith) inside ruled)),
-        )));
-        out_of = λ _ day p rest d at t k l law less inside ruled. ruled-not le _ is at t l law less (suc k) k (omega arith) inside ruled;
-      }
+        -- the decided ones, and one of the rest
+        decided-could : {high low : List ℕ} → BoundsOf tables.shifts tables.unit_prices tables.change from to high low →
+            loss_above day p rest (d ++ t) < limit → all_keep tables.blocks node.set high low (tables.count - left) ≡ true
+        decided-could {high} {low} bounds k =
+            all_keep_lem tables.blocks node.set high low (tables.count - left) (λ j m bit.
+            let here : j < length d = omega (arith, at.size) in
+            block-could bounds k j (omega arith)
+            (get_or-append d t false j here ∙ decided-bit at.branch j here ∙ eq-eqb _ 1 bit))
+
+        rest-could : {high low : List ℕ} → BoundsOf tables.shifts tables.unit_prices tables.change from to high low →
+            loss_above day p rest (d ++ t) < limit → (j : ℕ) → j < left → get_or t j false ≡ true →
+            keeps_at (side_at tables.blocks (tables.count - left + j)) (hours_at tables.blocks (tables.count - left + j)) (limit_at tables.blocks (tables.count - left + j)) high low ≡ true
+        rest-could bounds k j inside bit =
+            let here : tables.count - left ≡ length d = omega (arith, at.size) in
+            block-could bounds k (tables.count - left + j) (omega (arith, at.size)) (rw here (get_or-behind d t j ∙ bit))
+
+      -- the least gaps within reach come to as much
+      pub dropped-by-gaps : limit ≤ node.loss + sum_over tables.change (least_gap tables.gaps tables.turn from to) → DroppedFrom tables left out node limit
+      dropped-by-gaps z day p rest d t at l law = unless _ _ (λ k. absurd (omega (arith, gaps-least t at l law k 0 (omega arith))))
+
+      -- a taken block misses its limit at the best prices within reach
+      module _ {high low : List ℕ} (bounds : BoundsOf tables.shifts tables.unit_prices tables.change from to high low) where
+        pub dropped-by-limit : all_keep tables.blocks node.set high low (tables.count - left) ≡ false → DroppedFrom tables left out node limit
+        dropped-by-limit misses day p rest d t at l law =
+            unless _ _ (λ k. clash (decided-could t at l law bounds k) misses)
+
+        -- WHAT IS OUT: what was before, a child of a block that is gone, and an undecided block that misses its limit at the best prices within reach
+        module _ (le : left ≤ tables.count) (r : ℕ) (is : RuledOut tables.blocks tables.count (tables.count - left) node.set out high low r)
+            {day : Day} {p rest : ℕ → ℕ} {d : List Bool} (at : At tables left node limit out day p rest d) (t : List Bool) (l : length t ≡ left)
+            (law : lawful day (d ++ t) ≡ true) (less : loss_above day p rest (d ++ t) < limit) where
+          here-is : tables.count - left ≡ length d
+          here-is = omega (arith, at.size)
+
+          set-closed : Closed at.known.parent (d ++ t)
+          set-closed = lawful-closed at.known (d ++ t) (length-append d t ∙ rw l at.size) law
+
+          -- so a block whose parent is gone is not taken, if none before it that is out is
+          gone-not : (k : ℕ) → k < left → names_gone (parent_at tables.blocks (length d + k)) (length d) node.set r ≡ true →
+              ((j : ℕ) → j < k → is_out r j ≡ true → get_or t j false ≡ false) → get_or t k false ≡ true → ⊥
+          gone-not k inside gone before bit = by-which (gone-which name (length d) node.set r gone)
+            where
+              name : ℕ
+              name = parent_at tables.blocks (length d + k)
+
+              named : name ≡ suc (name - 1)
+              named = let some = gone-named name (length d) node.set r gone in omega arith
+
+              link : at.known.parent (length d + k) ≡ suc (name - 1)
+              link = sym (at.known.parent_is (length d + k) (omega (arith, at.size))) ∙ named
+
+              parent_in : get_or (d ++ t) (name - 1) false ≡ true
+              parent_in = set-closed (length d + k) (name - 1) link (get_or-behind d t k ∙ bit)
+
+              by-which : ((name - 1 < length d) × (eqb (node.set / 2 ^ (name - 1) % 2) 1 ≡ false)) ⊎
+                  ((length d ≤ name - 1) × (is_out r (name - 1 - length d) ≡ true)) → ⊥
+              by-which (inl (early, zero_bit)) =
+                  clash (sym (get_or-append d t false (name - 1) early) ∙ parent_in)
+                  (decided-bit at.branch (name - 1) early ∙ zero_bit)
+              by-which (inr (late, outs)) =
+                  let e : length d + (name - 1 - length d) ≡ name - 1 = omega arith in
+                  clash (sym (get_or-behind d t (name - 1 - length d)) ∙ rw e parent_in)
+                  (before (name - 1 - length d) (omega (arith, link, at.known.parents.before (length d + k))) outs)
+
+          ruled-not : (n k : ℕ) → k < n → k < left → is_out r k ≡ true → get_or t k false ≡ false
+          unfolding is_ruled_out
+          ruled-not zero k a inside ruled = absurd (omega arith)
+          ruled-not (suc n) k a inside ruled =
+              by-test (λ u. get_or t k false ≡ u → u ≡ false) (get_or t k false)
+              (λ bit _.
+              let keeps = rest-could t at l law bounds less k inside bit in
+              let was = sym (is k (omega arith)) ∙ ruled in
+              by-which bit (λ j b outs. ruled-not n j (omega arith) (omega arith) outs) (either-out (is_out out k) _ _ keeps was))
+              (λ _ _. refl) refl
+            where
+              by-which : get_or t k false ≡ true → ((j : ℕ) → j < k → is_out r j ≡ true → get_or t j false ≡ false) → (is_out out k ≡ true) ⊎
+                  (names_gone (parent_at tables.blocks (tables.count - left + k)) (tables.count - left) node.set r ≡ true) → true ≡ false
+              by-which bit before (inl was) = sym bit ∙ at.out_of t k l law less inside was
+              by-which bit before (inr gone) = absurd (gone-not k inside (rw here-is at gone) before bit)
+
+        module _ (le : left ≤ tables.count) (r : ℕ) (is : RuledOut tables.blocks tables.count (tables.count - left) node.set out high low r) where
+          pub judged-open : JudgedFrom tables left out node limit (Some r)
+          judged-open day p rest d at t k l law less inside ruled = ruled-not le r is at t l law less (suc k) k (omega arith) inside ruled
+
+          -- or the at.branch is dropped: what they would gain and the least gaps come to as much
+          pub dropped-by-gains : {gaps more : ℕ} → gaps ≡ sum_over tables.change (least_gap tables.gaps tables.turn from to) →
+              more ≡ out_gains tables.blocks (tables.count - left) r (tables.count - (tables.count - left)) → limit ≤ node.loss + gaps + more →
+              DroppedFrom tables left out node limit
+          dropped-by-gains {gaps} {more} gapped mores much day p rest d t at l law = unless _ _ (λ less. absurd (omega (
+            arith,
+            gaps-least t at l law less more (avoided-lost t at l law r mores
+                (λ k inside ruled. ruled-not le r is at t l law less (suc k) k (omega arith) inside ruled)),
+          )))

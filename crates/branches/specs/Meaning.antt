@@ -1,6 +1,6 @@
 -- WHAT A BRANCH OF THE SEARCH MEANS: the day behind its tables, the decided blocks behind its state, why it is dropped, and one more block decided. These are
 -- the contracts of private functions; the promise of the clearing itself is in Promise. Definitions only. Assumes nothing.
-use Rattle.std.specs.Prelude.{ℕ, suc, ◌+◌, ◌-◌, ◌*◌, ◌^◌, ◌≤◌, ◌<◌, Bool, true, false, not, eqb, List, ◌∷◌, ◌++◌, ◌≡◌, length, drop, get_or}
+use Rattle.std.specs.Prelude.{ℕ, suc, ◌+◌, ◌-◌, ◌*◌, ◌^◌, ◌≤◌, ◌<◌, Bool, true, false, not, eqb, List, ◌∷◌, ◌++◌, ◌≡◌, length, drop, get_or, Option, MatchOption}
 use Rattle.book.specs.Bounds.{most_blocks}
 use Rattle.places.specs.Layout.{hour_places, most_added}
 use Rattle.records.specs.Records.{holds_hour}
@@ -159,10 +159,11 @@ DroppedFrom t left out node limit =
     (day : _) (p rest : ℕ → ℕ) (d tail : List Bool) → At t left node limit out day p rest d →
     length tail ≡ left → lawful day (d ++ tail) ≡ true → limit ≤ loss_above day p rest (d ++ tail)
 
--- A BRANCH JUDGED: it is dropped, or these blocks are out of it.
-pub record JudgedFrom (t : Tables) (left out : ℕ) (node : Node) (limit : ℕ) (isDropped : Bool) (r : ℕ) : Type 0 where
-  pub dropped : isDropped ≡ true → DroppedFrom t left out node limit
-  pub out_of : isDropped ≡ false → (day : _) (p rest : ℕ → ℕ) (d : List Bool) → At t left node limit out day p rest d → OutOf day p rest d left limit r
+-- A BRANCH JUDGED: none where it is dropped, else the blocks that are out of it.
+abbrev pub JudgedFrom : (t : Tables) (left out : ℕ) (node : Node) (limit : ℕ) → Option ℕ → Type 0
+JudgedFrom t left out node limit judged =
+    MatchOption judged (DroppedFrom t left out node limit)
+    (λ r. (day : _) (p rest : ℕ → ℕ) (d : List Bool) → At t left node limit out day p rest d → OutOf day p rest d left limit r)
 
 -- ONE MORE BLOCK decided: the set, the loss, what the left-out blocks come to, and the places moved on by what a sell sells if taken, a buy buys if left out
 pub record TakenTo (blocks : List ℕ) (at : ℕ) (node r : Node) : Type 0 where

@@ -1,6 +1,7 @@
 -- WHAT THE SEARCH WORKS ON: the tables of the hours and the columns of the blocks, as one record. A list that a later change adds is a field here.
 -- Definitions only. Assumes nothing.
 use Rattle.std.specs.Prelude.{ℕ, Bool, List}
+use Rattle.places.specs.declared.tables.Tables as code
 use Rattle.places.specs.Hours.{clears_first, clears_last, gaps_turn, change_often, gives_way_in}
 
 pub record Tables : Type 0 where
@@ -35,3 +36,7 @@ tables_of unit_prices gaps hours blocks count =
       blocks = blocks;
       count = count;
     }
+
+-- The tables as the code lends them.
+abbrev pub seen : code.Tables → Tables
+seen t = tables_of t.unit_prices.now t.gap.now t.hours.now t.blocks.now t.count

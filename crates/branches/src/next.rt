@@ -16,11 +16,10 @@ pub fn take(blocks: &[u32], at: u32, node: Node) -> Node
     ensures { Fits (at + 1) result × TakenTo blocks.now at node result }
 {
     let i = at as usize;
-    let places = node.places;
-    let moved = moved_where(blocks[SIDE + i] != 0, places, blocks, i);
+    let moved = moved_where(blocks[SIDE + i] != 0, node.places, blocks, i);
     Node {
         set: node.set + bit(at),
-        loss: node.loss + (blocks[AGAINST + i] as u64),
+        loss: node.loss + u64::from(blocks[AGAINST + i]),
         tie: node.tie,
         places: moved,
     }
@@ -32,17 +31,17 @@ pub fn leave(blocks: &[u32], at: u32, node: Node) -> Node
     ensures { Fits (at + 1) result × LeftTo blocks.now at node result }
 {
     let i = at as usize;
-    let places = node.places;
-    let moved = moved_where(blocks[SIDE + i] == 0, places, blocks, i);
+    let moved = moved_where(blocks[SIDE + i] == 0, node.places, blocks, i);
     Node {
         set: node.set,
-        loss: node.loss + (blocks[GAIN + i] as u64),
-        tie: node.tie + (blocks[RANK + i] as u64),
+        loss: node.loss + u64::from(blocks[GAIN + i]),
+        tie: node.tie + u64::from(blocks[RANK + i]),
         places: moved,
     }
 }
 
 // Whether the block that is named, by its number and 1, is left out; where none is, by 0, it is not.
+// A name stays a number, as the column of the search's list has it.
 pub fn is_left(name: u32, set: u32) -> bool
     requires { name ≤ most_blocks }
     ensures { result ≡ names_left name set }
@@ -61,7 +60,7 @@ pub fn is_barred(blocks: &[u32], i: usize, set: u32) -> bool
     is_left(blocks[PARENT + i], set) | is_left(blocks[AHEAD + i], set)
 }
 
-// Whether a twin that is taken after block i is taken.
+// Whether a twin that is taken after block i is taken; named as in `is_left`, by a number of the packed list.
 pub fn is_due(blocks: &[u32], i: usize, set: u32) -> bool
     requires { BlocksSized blocks.now × (i < most_blocks) }
     ensures { result ≡ is_due blocks.now i set }

@@ -17,10 +17,11 @@ use Rattle.book.specs.Refusals.{refusal, Accepted}
 use Rattle.book.proofs.Accepted.{accepted, accepted-zero, record-count}
 use Rattle.orders.specs.Bridge.{orders_of}
 use Rattle.result.specs.Result.{result_bytes}
-use Rattle.result.specs.Promise.{clear_refusal, clearing, number_of, Promise}
-use Rattle.result.specs.declared.Clearing.{Clearing}
-use Rattle.result.specs.declared.Clearing.TheVariants.{Published, Refused}
-use Rattle.result.proofs.PromiseLaws.{not-refused, refused-book}
+use Rattle.std.specs.Prelude.{Err}
+use Rattle.book.specs.Numbers.{refusal_number}
+use Rattle.book.specs.Answers.{reading}
+use Rattle.book.specs.declared.refusal.Refusal.{Refusal}
+use Rattle.book.proofs.Refused.{answer-refused}
 use Rattle.text.specs.Text.{text, decimal, field, semicolon, line_feed, HasRoom, Put}
 use Rattle.text.proofs.TextLaws.{few-digits, any-digits}
 use Rattle.sheet.specs.Sheet.{refused_line}
@@ -168,25 +169,7 @@ pub refused-has-room : (n : ℕ) (out : List ℕ) → 22564 ≤ length out → H
 unfolding HasRoom
 refused-has-room n out large = omega (arith, refused-short n)
 
--- THE CLEARING TELLS THE BOOK'S REFUSAL, where the result has the length for as many records as a book may have
-clearing-number : (b before : List ℕ) → number_of (clearing b before) ≡ clear_refusal b before
-unfolding clearing
-clearing-number b before =
-    by-eq (λ t. number_of (cond t Published (Refused (clear_refusal b before))) ≡ clear_refusal b before) (clear_refusal b before) 0 (λ e. sym e) (λ e. refl)
-
-refusal-told : (b before : List ℕ) → (Accepted b → length before ≡ 196 + 4 * record_count b) → clear_refusal b before ≡ refusal b
-refusal-told b before fits =
-    by-eq (λ t. clear_refusal b before ≡ refusal b) (refusal b) 0 (λ e. let a = accepted b e in not-refused b before a (fits a) ∙ sym e)
-    (λ e. refused-book b before (refusal b) refl e)
-
-module _ (b space : List ℕ) (count : ℕ) (few : count ≤ 2048) (counted : record_count b ≤ 2048 → count ≡ record_count b) (large : 8388 ≤ length space) where
-  pub space-fits : 196 + 4 * count ≤ length space
-  space-fits = omega arith
-
-  pub space-length : 196 + 4 * count ≡ length (take (196 + 4 * count) space)
-  space-length = sym (length-take-le (196 + 4 * count) space space-fits)
-
-  pub number-told : (after : List ℕ) (answer : Clearing) → Promise b (take (196 + 4 * count) space) after answer → number_of answer ≡ refusal b
-  number-told after answer promise =
-      ap number_of promise.answers ∙ clearing-number b (take (196 + 4 * count) space)
-      ∙ refusal-told b (take (196 + 4 * count) space) (λ a. sym space-length ∙ rw (counted (record-count b a).1))
+-- the line of the book's own refusal
+pub refusal-put : (b : List ℕ) (why : Refusal) → reading b ≡ Err why → (out r : List ℕ) (q : ℕ) → Put out 0 (refused_line (refusal_number why)) r q
+    → Put out 0 (cash_sheet_of b) r q
+refusal-put b why e out r q put = let refused = answer-refused b why e in rw (text-refused b _ refused.1 (λ z. refused.0 (refused.1 ∙ z))) at put

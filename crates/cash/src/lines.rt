@@ -39,10 +39,8 @@ fn put_portfolios(out: &mut [u8], at: usize, accounts: &[u64]) -> usize
     ensures { Put out.old at (lines_up_to accounts.now last_portfolio) out.new result }
 {
     let mut end = at;
-    let mut p: u8 = 0;
-    while p < LAST_PORTFOLIO {
-        p += 1;
-        end = put_portfolio(out, end, accounts, p);
+    for p in 0..LAST_PORTFOLIO {
+        end = put_portfolio(out, end, accounts, p + 1);
     }
     end
 }

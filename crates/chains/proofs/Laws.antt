@@ -1,8 +1,8 @@
--- The laws that the functions' proofs cite: one link more of a chain, or none, one number more of a search, one member more of a portfolio.
+-- The laws that the functions' proofs cite: one link more of a chain, or none, how long it is, one member more of a portfolio, a search along a list.
 -- Assumes nothing.
 use Prim.Native.Nat.{ℕ, zero, suc, ◌+◌, ◌-◌, ◌≤◌, ◌<◌}
 use mathlib.Core.Path.{◌≡◌, refl}
-use mathlib.Core.List.{List, [], ◌∷◌}
+use mathlib.Core.List.{List, [], ◌∷◌, map}
 use mathlib.Core.Bool.{Bool, true, false, cond, ◌||◌, ◌&&◌, true≢false, false≢true}
 use native.Mathlib.Omega.{arith}
 use native.Mathlib.Numerals.{sub-one}
@@ -10,9 +10,13 @@ use borrow.Author.Tests.{eq-eqb, ne_eqb, eqb-true, eqb-false}
 use lib.ListN.{length, get_or, set}
 use lib.Seq.{get_or-set_same, get_or-set_other}
 use lib.Dec.{eqb}
-use Rattle.fields.specs.Tests.{some_below}
-use Rattle.records.specs.Records.{next}
-use Rattle.chains.specs.Chains.{chain_from}
+use Rattle.std.proofs.Common.{Fits, w8}
+use Rattle.std.specs.List.{list_any}
+use Rattle.fields.specs.Tests.{some_in}
+use Rattle.records.specs.Bytes.{u16_at}
+use Rattle.records.specs.Layout.{count_offset}
+use Rattle.records.specs.Records.{record_count, next}
+use Rattle.chains.specs.Chains.{chain, chain_from}
 
 -- Zero ends a chain
 pub chain-end : (n : ℕ) (b : List ℕ) (i : ℕ) → i ≡ 0 → chain_from n b i ≡ []
@@ -32,17 +36,20 @@ unfolding chain_from
 chain-none zero b i h = refl
 chain-none (suc n) b i h = absurd (omega arith)
 
--- No number is left to try
-pub some-none : (n : ℕ) (test : ℕ → Bool) → n ≤ 0 → some_below n test ≡ false
-unfolding some_below
-some-none zero test h = refl
-some-none (suc n) test h = absurd (omega arith)
+-- A chain has at most as many records as are followed ..
+pub chain-short : (n : ℕ) (b : List ℕ) (i : ℕ) → length (chain_from n b i) ≤ n
+unfolding chain_from
+chain-short zero b i = omega arith
+chain-short (suc n) b i = at (eqb i 0) (chain-short n b (next b i))
+  where
+    at : (ends : Bool) → length (chain_from n b (next b i)) ≤ n → length {A = ℕ} (elim ends [ true ↦ [] | false ↦ i ∷ chain_from n b (next b i) ]) ≤ suc n
+    at true h = omega arith
+    at false h = omega arith
 
--- The greatest number is tried first
-pub some_more : (n : ℕ) (test : ℕ → Bool) → 0 < n → some_below n test ≡ (test (n - 1) || some_below (n - 1) test)
-unfolding some_below
-some_more zero test h = absurd (omega arith)
-some_more (suc n) test h = rw sub-one
+-- .. and a book of bytes counts them in two
+pub chain-fits : (b : List ℕ) (i : ℕ) → ((k : ℕ) → Fits w8 (get_or b k 0)) → length (chain b i) < 65536
+unfolding u16_at
+chain-fits b i bytes = omega (arith, chain-short (record_count b) b i, (bytes count_offset).fits, (bytes (count_offset + 1)).fits)
 
 -- One member more of portfolio q: its count grows by one, and no other
 pub count-more : (counts : List ℕ) (q p n : ℕ) → p < length counts
@@ -80,3 +87,15 @@ and_left false y e = e
 pub and_right : (x y : Bool) → (x && y) ≡ true → y ≡ true
 and_right true y e = e
 and_right false y e = absurd (false≢true e)
+
+-- Some member of a list passes a test, in the library's words
+pub some_any : {A : Type 0} (l : List A) (test : A → Bool) → list_any test l ≡ some_in l test
+unfolding some_in
+some_any [] test = refl
+some_any (x ∷ l) test = rw (some_any l test)
+
+-- .. and the members may be made one by one
+pub some-made : {A B : Type 0} (l : List A) (make : A → B) (test : B → Bool) → list_any (λ x. test (make x)) l ≡ some_in (map make l) test
+unfolding some_in
+some-made [] make test = refl
+some-made (x ∷ l) make test = rw (some-made l make test)

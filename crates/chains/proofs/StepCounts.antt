@@ -1,6 +1,6 @@
 -- The steps of a portfolio in an hour, for cause 11: what their counters say of them, and that there are none too many where there are few. Assumes nothing.
-use Prim.Native.Nat.{ℕ, zero, suc, ◌+◌, ◌-◌, ◌*◌, ◌≤◌, ◌<◌}
-use mathlib.Core.Path.{◌≡◌, refl, sym, ◌∙◌}
+use Prim.Native.Nat.{ℕ, zero, suc, ◌+◌, ◌*◌, ◌≤◌, ◌<◌}
+use mathlib.Core.Path.{◌≡◌, refl, ◌∙◌}
 use mathlib.Core.List.{List, [], ◌∷◌}
 use mathlib.Core.Bool.{Bool, true, false, cond, ◌||◌, ◌&&◌, or-true}
 use native.Mathlib.Omega.{arith}
@@ -8,13 +8,13 @@ use borrow.Author.Tests.{eq-eqb, ne_eqb, eqb-true, eqb-false, lt-ltb, le-ltb}
 use lib.Dec.{eqb, ltb}
 use lib.ListN.{length, get_or, set, replicate, length-set, length-replicate, get_or-replicate}
 use lib.Seq.{get_or-set_other}
-use Rattle.records.specs.Records.{record_count, first_step, next, hour_byte, portfolio}
+use Rattle.records.specs.Records.{hour_byte, portfolio}
 use Rattle.chains.specs.Bounds.{portfolio_numbers, hour_numbers, most_steps_in_hour}
 use Rattle.fields.specs.Tests.{some_below, count_in}
-use Rattle.chains.specs.Chains.{chain_from, chain_of, count_on}
+use Rattle.chains.specs.Chains.{chain_of, count_on, step_order}
 use Rattle.chains.specs.Causes.{owned_by, is_for, steps_for, more_steps_in, more_steps}
 use Rattle.chains.specs.declared.Chain.TheVariants as chain-of
-use Rattle.chains.proofs.Laws.{chain_more, count-more, count_most}
+use Rattle.chains.proofs.Laws.{count-more, count_most}
 
 -- How many pass a test are at most how many there are
 count-length : (l : List ℕ) (test : ℕ → Bool) → count_in l test ≤ length l
@@ -27,13 +27,13 @@ count-length (x ∷ l) test = at (test x) (count-length l test)
     at false h = omega arith
 
 -- Where each number below n fails a test none passes it ..
-all-fail : (n : ℕ) (test : ℕ → Bool) → ((j : ℕ) → j < n → test j ≡ false) → some_below n test ≡ false
+pub all-fail : (n : ℕ) (test : ℕ → Bool) → ((j : ℕ) → j < n → test j ≡ false) → some_below n test ≡ false
 unfolding some_below
 all-fail zero test h = refl
 all-fail (suc n) test h = rw (h n (omega arith)) (all-fail n test (λ j g. h j (omega arith)))
 
 -- .. and where one passes it some does
-one_passes : (n : ℕ) (test : ℕ → Bool) (j : ℕ) → j < n → test j ≡ true → some_below n test ≡ true
+pub one_passes : (n : ℕ) (test : ℕ → Bool) (j : ℕ) → j < n → test j ≡ true → some_below n test ≡ true
 unfolding some_below
 one_passes zero test j h e = absurd (omega arith)
 one_passes (suc n) test j h e = at (eqb j n) refl (λ g. one_passes n test j g e)
@@ -83,57 +83,57 @@ counted_step : (counts : List ℕ) (h p g q n : ℕ) → p < portfolio_numbers �
 counted_step counts h p g q n a c f = rw (← (own-counter h p g q a c)) (count-more counts (counter_at h p) (counter_at g q) n f)
 
 -- THE WALK
--- Before record i of the step chain, which has at most `left` records from i on: no counter is above the limit, and each portfolio has in each hour the steps
+-- Before the rest of the step chain: no counter is above the limit, and each portfolio has in each hour the steps
 -- counted and those to come
-pub record Counted (b counts : List ℕ) (left i : ℕ) : Type 0 where
+pub record Counted (b counts rest : List ℕ) : Type 0 where
   pub long : length counts ≡ hour_numbers * portfolio_numbers
   pub within : (h p : ℕ) → h < hour_numbers → p < portfolio_numbers → get_or counts (counter_at h p) 0 ≤ most_steps_in_hour
   pub steps_are : (h p : ℕ) → h < hour_numbers → p < portfolio_numbers
-      → steps_for b h p ≡ get_or counts (counter_at h p) 0 + count_in (chain_from left b i) (is_for b h p)
+      → steps_for b h p ≡ get_or counts (counter_at h p) 0 + count_in rest (is_for b h p)
 
 -- A counter stands in the table
-in_table : {b counts : List ℕ} {left i : ℕ} → Counted b counts left i → (h p : ℕ) → h < hour_numbers → p < portfolio_numbers → counter_at h p < length counts
+in_table : {b counts rest : List ℕ} → Counted b counts rest → (h p : ℕ) → h < hour_numbers → p < portfolio_numbers → counter_at h p < length counts
 in_table w h p g f = rw w.long (omega arith)
 
 -- Nothing is counted before the first record
-pub counting-starts : (b : List ℕ) (left i : ℕ) → left ≡ record_count b → i ≡ first_step b → Counted b (replicate (hour_numbers * portfolio_numbers) 0) left i
-unfolding steps_for
-counting-starts b left i d e =
+pub counting-starts : (b rest : List ℕ) → rest ≡ step_order b → Counted b (replicate (hour_numbers * portfolio_numbers) 0) rest
+unfolding steps_for step_order
+counting-starts b rest e =
     let none : (h p : ℕ) → h < hour_numbers → p < portfolio_numbers → ◌≡◌ {A = ℕ} (get_or (replicate (hour_numbers * portfolio_numbers) 0) (counter_at h p) 0) 0 =
     λ h p g f. get_or-replicate {A = ℕ} (hour_numbers * portfolio_numbers) (counter_at h p) 0 0 (omega arith)
     in
     record {
       long = length-replicate {A = ℕ} (hour_numbers * portfolio_numbers) 0;
       within = λ h p g f. omega (arith, none h p g f);
-      steps_are = λ h p g f. rw (d, e) (omega (arith, none h p g f));
+      steps_are = λ h p g f. rw e (omega (arith, none h p g f));
     }
 
 -- A step for no hour is passed over
-pub counting-passes : (b counts : List ℕ) (left i hour following : ℕ) → Counted b counts left i → 0 < left → (i ≡ 0 → ⊥)
-    → hour ≡ hour_byte b i → hour_numbers ≤ hour → following ≡ next b i → Counted b counts (left - 1) following
+pub counting-passes : (b counts rest following : List ℕ) (i hour : ℕ) → Counted b counts rest → rest ≡ i ∷ following
+    → hour ≡ hour_byte b i → hour_numbers ≤ hour → Counted b counts following
 unfolding count_in is_for
-counting-passes b counts left i hour following w p h d above f =
+counting-passes b counts rest following i hour w more d above =
     record {
       long = w.long;
       within = w.within;
       steps_are = λ g q a c.
           w.steps_are g q a c
-          ∙ rw (chain_more left b i p h, f, ne_eqb (hour_byte b i) g (λ e. omega (arith, d))) (omega arith);
+          ∙ rw (more, ne_eqb (hour_byte b i) g (λ e. omega (arith, d))) (omega arith);
     }
 
 -- Any other is counted
-pub counting_more : (b counts : List ℕ) (left i hour owner following : ℕ) → Counted b counts left i → 0 < left → (i ≡ 0 → ⊥)
+pub counting_more : (b counts rest following : List ℕ) (i hour owner : ℕ) → Counted b counts rest → rest ≡ i ∷ following
     → hour ≡ hour_byte b i → owner ≡ portfolio b i → hour < hour_numbers → owner < portfolio_numbers
-    → get_or counts (counter_at hour owner) 0 < most_steps_in_hour → following ≡ next b i
-    → Counted b (set counts (counter_at hour owner) (get_or counts (counter_at hour owner) 0 + 1)) (left - 1) following
+    → get_or counts (counter_at hour owner) 0 < most_steps_in_hour
+    → Counted b (set counts (counter_at hour owner) (get_or counts (counter_at hour owner) 0 + 1)) following
 unfolding count_in is_for owned_by
-counting_more b counts left i hour owner following w p h d e small low below f =
+counting_more b counts rest following i hour owner w more d e small low below =
     record {
       long = rw length-set w.long;
       within = λ g q a c. at g q (eqb (counter_at hour owner) (counter_at g q)) refl (w.within g q a c) (in_table w g q a c);
       steps_are = λ g q a c.
           w.steps_are g q a c
-          ∙ rw (chain_more left b i p h, f, ← d, ← e, counted_step counts hour owner g q _ low c (in_table w g q a c));
+          ∙ rw (more, ← d, ← e, counted_step counts hour owner g q _ low c (in_table w g q a c));
     }
   where
     at : (g q : ℕ) (same : Bool) → eqb (counter_at hour owner) (counter_at g q) ≡ same
@@ -148,18 +148,18 @@ counting_more b counts left i hour owner following w p h d e small low below f =
         rw (get_or-set_other counts (counter_at hour owner) (counter_at g q) (get_or counts (counter_at hour owner) 0 + 1) 0 other) k
 
 -- A counter at its limit when a step is met: one step too many
-pub counting-over : (b counts : List ℕ) (left i hour owner : ℕ) → Counted b counts left i → 0 < left → (i ≡ 0 → ⊥)
+pub counting-over : (b counts rest following : List ℕ) (i hour owner : ℕ) → Counted b counts rest → rest ≡ i ∷ following
     → hour ≡ hour_byte b i → owner ≡ portfolio b i → hour < hour_numbers → owner < portfolio_numbers
     → most_steps_in_hour ≤ get_or counts (counter_at hour owner) 0 → more_steps most_steps_in_hour b ≡ true
 unfolding count_in is_for owned_by
-counting-over b counts left i hour owner w p h d e small low full =
-    let steps : steps_for b hour owner ≡ get_or counts (counter_at hour owner) 0 + (1 + count_in (chain_from (left - 1) b (next b i)) (is_for b hour owner)) =
-    w.steps_are hour owner small low ∙ rw (chain_more left b i p h, ← d, ← e, eq-eqb hour hour refl, eq-eqb owner owner refl)
+counting-over b counts rest following i hour owner w more d e small low full =
+    let steps : steps_for b hour owner ≡ get_or counts (counter_at hour owner) 0 + (1 + count_in following (is_for b hour owner)) =
+    w.steps_are hour owner small low ∙ rw (more, ← d, ← e, eq-eqb hour hour refl, eq-eqb owner owner refl)
     in
     more-steps most_steps_in_hour b hour owner small low (omega (arith, steps, full))
 
 -- With no record left no counter is above the limit
-pub counting-ends : (b counts : List ℕ) (left i : ℕ) → Counted b counts left i → chain_from left b i ≡ [] → more_steps most_steps_in_hour b ≡ false
+pub counting-ends : (b counts rest : List ℕ) → Counted b counts rest → rest ≡ [] → more_steps most_steps_in_hour b ≡ false
 unfolding count_in
-counting-ends b counts left i w none =
+counting-ends b counts rest w none =
     no-more-steps most_steps_in_hour b (λ h p g f. let e = rw none at (w.steps_are h p g f) in omega (arith, e, w.within h p g f))

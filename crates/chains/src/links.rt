@@ -1,29 +1,19 @@
-// Cause 10 (document 02, P6): a link that names a block not in the book, or whose parent's number is not below its child's. Assumes nothing.
+// Cause 10: a link that names a block not in the book, or whose parent's number is not below its child's. Assumes nothing.
 ghost use Rattle.std.specs.Prelude.{◌≡◌};
 ghost use Rattle.chains.specs.Causes.{has_block, misnamed, wrong_link};
 
-use records::{Link, first_block, first_link, link_at, next_of, number_of, record_count};
+use crate::following::chained;
+use records::{Link, first_block, first_link, link_at, number_of};
 
 // Whether a block of the book has this number.
 fn has_block(book: &[u8], number: u16) -> bool
     ensures { result ≡ has_block book.now number }
 {
-    let mut left = record_count(book);
-    let mut i = first_block(book);
-    while 0 < left {
-        if i == 0 {
-            return false;
-        }
-        if number_of(book, i) == number {
-            return true;
-        }
-        i = next_of(book, i);
-        left -= 1;
-    }
-    false
+    chained(book, first_block(book)).any(|i| number_of(book, i) == number)
 }
 
 // Cause 10 at one link.
+#[tactic(auto, unfolding(crate::specs::Causes::misnamed))]
 fn is_misnamed(book: &[u8], link: Link) -> bool
     ensures { result ≡ misnamed book.now link }
 {
@@ -36,17 +26,5 @@ fn is_misnamed(book: &[u8], link: Link) -> bool
 pub fn has_wrong_link(book: &[u8]) -> bool
     ensures { result ≡ wrong_link book.now }
 {
-    let mut left = record_count(book);
-    let mut i = first_link(book);
-    while 0 < left {
-        if i == 0 {
-            return false;
-        }
-        if is_misnamed(book, link_at(book, i)) {
-            return true;
-        }
-        i = next_of(book, i);
-        left -= 1;
-    }
-    false
+    chained(book, first_link(book)).any(|i| is_misnamed(book, link_at(book, i)))
 }

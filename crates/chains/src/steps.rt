@@ -1,10 +1,11 @@
-// Cause 11 (document 02, P8): more than 256 steps of a portfolio in one hour. Assumes nothing.
+// Cause 11: more than 256 steps of a portfolio in one hour. Assumes nothing.
 ghost use Rattle.std.specs.Prelude.{◌≡◌};
 ghost use Rattle.chains.specs.Bounds.{most_steps_in_hour};
 ghost use Rattle.chains.specs.Causes.{more_steps};
 
 use crate::bounds::{HOUR_NUMBERS, MOST_STEPS_IN_HOUR, PORTFOLIO_NUMBERS};
-use records::{first_step, hour_byte, next_of, portfolio_of, record_count};
+use crate::following::chained;
+use records::{first_step, hour_byte, portfolio_of};
 
 // A counter for each hour and portfolio.
 const STEP_COUNTERS: usize = HOUR_NUMBERS * PORTFOLIO_NUMBERS;
@@ -14,22 +15,15 @@ pub fn has_more_steps(book: &[u8]) -> bool
     ensures { result ≡ more_steps most_steps_in_hour book.now }
 {
     let mut counts = [0; STEP_COUNTERS];
-    let mut left = record_count(book);
-    let mut i = first_step(book);
-    while 0 < left {
-        if i == 0 {
-            return false;
-        }
-        let hour = hour_byte(book, i) as usize;
+    for i in chained(book, first_step(book)) {
+        let hour = usize::from(hour_byte(book, i));
         if hour < HOUR_NUMBERS {
-            let at = hour * PORTFOLIO_NUMBERS + (portfolio_of(book, i) as usize);
+            let at = hour * PORTFOLIO_NUMBERS + usize::from(portfolio_of(book, i));
             if MOST_STEPS_IN_HOUR <= counts[at] {
                 return true;
             }
             counts[at] += 1;
         }
-        i = next_of(book, i);
-        left -= 1;
     }
     false
 }

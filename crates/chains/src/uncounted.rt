@@ -1,22 +1,23 @@
-// Cause 9 (document 02, P2): on a 23-hour day a step for hour 3, or a block with fewer than two counted hours. Assumes nothing.
+// Cause 9: on a 23-hour day a step for hour 3, or a block with fewer than two counted hours. Assumes nothing.
 ghost use Rattle.std.specs.Prelude.{◌≡◌};
 ghost use Rattle.records.specs.Records.{record_at};
 ghost use Rattle.chains.specs.Causes.{uncounted, uncounted_on, wrong_hours};
 
 use crate::Chain;
+use crate::following::chained;
 use crate::walks::first_on;
 use fields::hours::{counted_hours, is_counted};
 use fields::{FEWEST_HOURS, SPRING_HOURS};
-use records::{Record, day_hours, next_of, record_at, record_count};
+use records::{Record, day_hours, record_at};
 
 // Whether record i is a step for an hour that does not count, or a block with fewer than two counted hours.
+#[tactic(auto, unfolding(crate::specs::Causes::uncounted))]
 fn is_uncounted(book: &[u8], i: u16) -> bool
     ensures { result ≡ uncounted book.now (record_at book.now i) }
 {
     let day = day_hours(book);
-    let found = record_at(book, i);
-    match found {
-        Record::Step(step) => !is_counted(day, step.hour as u32),
+    match record_at(book, i) {
+        Record::Step(step) => !is_counted(day, u32::from(step.hour)),
         Record::Block(block) => counted_hours(day, block.hours) < FEWEST_HOURS,
         Record::Link(_) | Record::Other => false,
     }
@@ -26,19 +27,7 @@ fn is_uncounted(book: &[u8], i: u16) -> bool
 fn is_uncounted_on(book: &[u8], chain: Chain) -> bool
     ensures { result ≡ uncounted_on book.now chain }
 {
-    let mut left = record_count(book);
-    let mut i = first_on(book, chain);
-    while 0 < left {
-        if i == 0 {
-            return false;
-        }
-        if is_uncounted(book, i) {
-            return true;
-        }
-        i = next_of(book, i);
-        left -= 1;
-    }
-    false
+    chained(book, first_on(book, chain)).any(|i| is_uncounted(book, i))
 }
 
 // 9: on a 23-hour day a step for hour 3, or a block with fewer than two counted hours.

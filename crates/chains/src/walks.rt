@@ -1,4 +1,4 @@
-// The chains (document 01, "The book in bytes"): what belongs on each, and the walks along one, from its first record to the zero that ends it, for at
+// The chains: what belongs on each, and the walks along one, from its first record to the zero that ends it, for at
 // most R records: causes 3 and 4, and the records of each portfolio, for 6. Assumes nothing.
 ghost use Rattle.std.specs.Prelude.{◌≡◌, ℕ, ◌<◌, get_or};
 ghost use Rattle.fields.specs.Tests.{count_in};
@@ -8,11 +8,12 @@ ghost use Rattle.chains.specs.Causes.{misplaced, owned_by};
 ghost use Rattle.chains.specs.Passes.{surveyed};
 
 use crate::bounds::PORTFOLIO_NUMBERS;
+use crate::following::chained;
 use crate::{Chain, Surveyed};
 use fields::is_out_of_range;
 use records::{
-    BLOCK_KIND, LINK_KIND, STEP_KIND, first_block, first_link, first_step, kind_of, next_of,
-    number_of, portfolio_of, record_count,
+    BLOCK_KIND, LINK_KIND, STEP_KIND, first_block, first_link, first_step, kind_of, number_of,
+    portfolio_of, record_count,
 };
 
 // The index of a chain's first record.
@@ -37,7 +38,7 @@ fn kind_on(chain: Chain) -> u8
     }
 }
 
-// Whether the numbers along a chain must rise.
+// Whether the numbers along a chain must rise. An arm for each chain, though all say the same: each is told, and can be wrong, by itself.
 fn is_numbered(chain: Chain) -> bool
     ensures { result ≡ numbered chain }
 {
@@ -49,6 +50,7 @@ fn is_numbered(chain: Chain) -> bool
 }
 
 // Cause 3 at record i of a chain, after the number last.
+#[tactic(auto, unfolding(crate::specs::Causes::misplaced))]
 fn is_misplaced(book: &[u8], chain: Chain, last: u16, i: u16) -> bool
     ensures { result ≡ misplaced book.now chain last i }
 {
@@ -61,26 +63,15 @@ fn is_misplaced(book: &[u8], chain: Chain, last: u16, i: u16) -> bool
 pub fn survey_of(book: &[u8], chain: Chain) -> Surveyed
     ensures { result ≡ surveyed book.now chain }
 {
-    let mut left = record_count(book);
-    let mut i = first_on(book, chain);
     let mut last = 0;
     let mut broken = false;
     let mut outside = false;
     let mut length = 0;
-    while 0 < left {
-        if i == 0 {
-            return Surveyed {
-                broken,
-                outside,
-                length,
-            };
-        }
-        broken = broken | is_misplaced(book, chain, last, i);
-        outside = outside | is_out_of_range(book, i);
+    for i in chained(book, first_on(book, chain)) {
+        broken |= is_misplaced(book, chain, last, i);
+        outside |= is_out_of_range(book, i);
         length += 1;
         last = number_of(book, i);
-        i = next_of(book, i);
-        left -= 1;
     }
     Surveyed {
         broken,
@@ -94,16 +85,8 @@ pub fn counts_by_portfolio(book: &[u8], chain: Chain) -> [u16; PORTFOLIO_NUMBERS
     ensures { (p : ℕ) → p < portfolio_numbers → get_or result p 0 ≡ count_in (chain_of book.now chain) (owned_by book.now p) }
 {
     let mut counts = [0; PORTFOLIO_NUMBERS];
-    let mut left = record_count(book);
-    let mut i = first_on(book, chain);
-    while 0 < left {
-        if i == 0 {
-            return counts;
-        }
-        let p = portfolio_of(book, i) as usize;
-        counts[p] += 1;
-        i = next_of(book, i);
-        left -= 1;
+    for i in chained(book, first_on(book, chain)) {
+        counts[usize::from(portfolio_of(book, i))] += 1;
     }
     counts
 }

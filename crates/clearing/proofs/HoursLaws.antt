@@ -45,13 +45,6 @@ hour-put sides prices quantities from to sales purchases price before out v c h 
       done = rw (slice-put from to before out h k n, ← (mid-slice from to sides h), ← (mid-slice from to prices h), ← (mid-slice from to quantities h)) d;
     }
 
--- HOW OFTEN AN HOUR COUNTS, by its row
-pub change-times : (often row : ℕ) → row ≡ change_row → often ≡ times_in often (row + 1)
-change-times often row e = rw e
-
-pub other-times : (often row : ℕ) → (row ≡ change_row → ⊥) → ◌≡◌ {A = ℕ} 1 (times_in often (row + 1))
-other-times often row other = rw (ne_eqb (row + 1) change_hour (λ e. other (omega arith)))
-
 -- a column with hour 3 taken out, and one with it left
 pub change-out : (often : ℕ) (column : List ℕ) → length column ≡ last_hour → often ≡ 0 → WhereCounted often column (set column change_row 0)
 change-out often column size none =

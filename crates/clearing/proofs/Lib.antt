@@ -4,3 +4,5 @@ pub mod WorthLaws
 pub mod HoursLaws
 pub mod PublishLaws
 pub mod PublishableLaws
+pub mod FrontLaws
+pub mod StepSizes

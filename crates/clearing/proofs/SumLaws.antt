@@ -7,7 +7,7 @@ use native.Mathlib.Numerals.{add-one}
 use native.Mathlib.Nat.{le_trans}
 use lib.ListN.{length, drop, get_or}
 use lib.Seq.{drop-cons}
-use Rattle.rules.specs.Orders.{Step, Order, steps_of, executed_of}
+use Rattle.rules.specs.Orders.{Step, Order, executed_of}
 use Rattle.rules.specs.Hour.{by_side}
 use Rattle.rules.specs.Execution.{execution}
 use Rattle.rules.specs.Contender.{Each, Within}
@@ -18,21 +18,14 @@ use Rattle.rules.proofs.PricingLaws.{net}
 use Rattle.rules.proofs.ExecutionLaws.{execution-within, execution-net}
 use Rattle.orders.specs.Columns.{side_for, steps_from}
 use Rattle.pricing.specs.Curves.{hour_with, Columns}
-use Rattle.pricing.proofs.TotalsLaws.{side-sell, rest_of, rest_more, rest_end}
+use Rattle.pricing.proofs.TotalsLaws.{rest_of, rest_more, rest_end}
 use Rattle.places.specs.Hours.{Small}
 use Rattle.shares.specs.Shares.{ExecutedOf}
 use Rattle.clearing.specs.Publish.{SumsOf, HourDone}
 
--- ONE STEP, by its side
-module _ (w value-r cost-r s : ℕ) where
-  abbrev Added : ℕ → ℕ → Type 0
-  Added v c = (v ≡ value-r + by_side (side_for s) w 0) × (c ≡ cost-r + by_side (side_for s) 0 w)
-
-  pub buy-added : s ≡ 0 → Added (value-r + w) cost-r
-  buy-added e = rw e (refl, omega arith)
-
-  pub sell-added : (s ≡ 0 → ⊥) → Added value-r (cost-r + w)
-  sell-added e = rw (side-sell s e) (omega arith, refl)
+-- an hour's columns with other values in place of the quantities
+pub with-values : {sides prices quantities values : List ℕ} → Columns sides prices quantities → length sides ≡ length values → Columns sides prices values
+with-values c e = record { as_many_prices = c.as_many_prices; as_many_quantities = e; not_too_many = c.not_too_many }
 
 -- ALL STEPS: the sums so far and those of the rest are the whole
 pub record Summing (sides prices values : List ℕ) (value-r cost-r i : ℕ) : Type 0 where

@@ -8,7 +8,6 @@ use native.Mathlib.Numerals.{add-one}
 use lib.Dec.{eqb}
 use lib.ListN.{length, drop, get_or, drop_of_length-le}
 use lib.Seq.{drop-cons}
-use borrow.Author.Tests.{eq-eqb, ne_eqb}
 use Rattle.records.specs.Records.{number, portfolio}
 use Rattle.fields.specs.Hours.{counted_hours}
 use Rattle.roots.proofs.SizeLaws.{limit-fits}
@@ -32,12 +31,6 @@ module _ (d p q x : ℕ) (fd : d ≤ autumn_hours) (fp : p ≤ max_price) (fq : 
   worth-fits c e =
       let limit : p * c ≤ most_limit = rw e (limit-fits p d x fd fp) in
       (limit, product_le q (p * c) most_quantity most_limit fq limit)
-
-  pub worth-chosen : (t c : ℕ) → c ≡ counted_hours d x → t ≡ 1 → q * (p * c) ≡ when (eqb t 1) (q * (p * counted_hours d x))
-  worth-chosen t c e o = rw (eq-eqb t 1 o, e)
-
-  pub worth-not : (t : ℕ) → (t ≡ 1 → ⊥) → ◌≡◌ {A = ℕ} 0 (when (eqb t 1) (q * (p * counted_hours d x)))
-  worth-not t o = rw (ne_eqb t 1 o)
 
 -- ALL BLOCKS
 first-when : (t : Bool) (side : Side) (w : ℕ) → when t (by_side side w 0) ≡ by_side side (when t w) 0
@@ -67,17 +60,6 @@ module _ (d : ℕ) (sides hours prices quantities : List ℕ) where
         blocks_cost d (all_from b records set) ≡ cost-r + blocks_cost d (rest_from b records i rest)
     pub value_fits : value-r ≤ i * (most_quantity * most_limit)
     pub cost_fits : cost-r ≤ i * (most_quantity * most_limit)
-
-  pub worthed-none : (set : ℕ) → Worthed set 0 0 set 0
-  worthed-none set =
-      let e : length sides - 0 ≡ length sides = omega arith in
-      record {
-        inside = omega arith;
-        value_is = λ b records same. rw e (omega arith);
-        cost_is = λ b records same. rw e (omega arith);
-        value_fits = omega arith;
-        cost_fits = omega arith;
-      }
 
   module _ (sized : TradersSized sides hours quantities) (as_many : length sides ≡ length prices) where
     rest_more : (f : Block → ℕ) (b records : List ℕ) (i rest : ℕ) → length records ≡ length sides → i < length sides →

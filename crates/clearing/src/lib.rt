@@ -1,30 +1,30 @@
 // The clearing: layer 3, above pricing.
 #![tactic(auto)]
 
-ghost use Rattle.std.specs.Prelude.{◌≡◌, length};
+ghost use Rattle.std.specs.Prelude.{◌≡◌, ◌≤◌, length};
 ghost use Rattle.records.specs.Records.{record_count};
+ghost use Rattle.book.specs.Bounds.{most_records};
 ghost use Rattle.book.specs.Refusals.{Accepted};
 ghost use Rattle.rules.specs.Orders.{max_price};
 ghost use Rattle.places.specs.Hours.{Small, row_width, HasRows};
 ghost use Rattle.setup.specs.Setup.{BlocksFit};
 ghost use Rattle.clearing.specs.Clear.{small_row, large_row, Held};
+ghost use Rattle.clearing.specs.Front.{ClearedFront};
 ghost use Rattle.result.specs.Promise.{Promise};
 ghost use Rattle.result.specs.Layout.{result_size};
 ghost use Rattle.result.specs.Result.{result_bytes};
 
 use crate::publish::publish;
-use book::{Reading, read};
+use book::{MOST_RECORDS, Refusal, read, refuse};
 use orders::layout::HOURS;
 use orders::{Blocks, Steps, blocks_of, parents_of, steps_of};
 use passes::find;
+use places::tables::Tables;
 use records::{day_hours, edition_of, record_count};
-use result::{Clearing, RECORD_ROW, RECORD_ROWS};
+use result::{RECORD_ROW, RECORD_ROWS};
 use setup::{prepare, row_needed};
 
 mod publish; // the published set as the result
-
-// The refusal of a result buffer of another size.
-const WRONG_BUFFER: u8 = 7;
 
 // The rows of the two pairs of tables: the small ones have room for all that 32 blocks of 50 trade in an hour, as in edition 1, the large ones for 32 of 250.
 const SMALL_ROW: usize = 1602;
@@ -34,56 +34,36 @@ const LARGE_ROW: usize = 8002;
 // The outcome of an accepted book into a result of the right size, out of its columns, in two tables with room for what its blocks reach.
 fn clear_within(
     book: &[u8],
-    steps: Steps,
-    blocks: Blocks,
+    steps: &Steps,
+    blocks: &Blocks,
     unit_prices: &mut [u32],
     gap: &mut [u32],
     res: &mut [u8],
 )
-    requires held { Held book.now steps blocks res.old }
+    requires held { Held book.now steps.now blocks.now res.old }
     requires tables { HasRows unit_prices.old × (length gap.old ≡ length unit_prices.old) × Small max_price unit_prices.old
-        × BlocksFit (row_width unit_prices.old) blocks }
+        × BlocksFit (row_width unit_prices.old) blocks.now }
     ensures { res.new ≡ result_bytes book.now }
 {
     let edition = edition_of(book);
     let day = day_hours(book);
     let count = record_count(book) as usize;
-    let sides = steps.sides;
-    let prices = steps.prices;
-    let quantities = steps.quantities;
-    let ends = steps.ends;
     let parents = parents_of(book);
-    let prepared = prepare(
-        edition,
-        day,
-        &sides,
-        &prices,
-        &quantities,
-        ends,
-        blocks,
-        parents,
+    let prepared = prepare(edition, day, steps, blocks, parents, unit_prices, gap);
+    let tables = Tables {
         unit_prices,
         gap,
-    );
-    let hours = prepared.hours;
-    let columns = prepared.columns;
-    let best = find(
-        unit_prices,
-        gap,
-        &hours,
-        &columns,
-        &sides,
-        &prices,
-        &quantities,
-        &ends,
-        blocks.count as u32,
-    );
+        hours: &prepared.hours,
+        blocks: &prepared.columns,
+        count: blocks.count as u32,
+    };
+    let best = find(&tables, steps);
     publish(day, count, steps, blocks, best.set, best.day, res);
 }
 
 // The same in small tables, where the blocks reach no further.
-fn clear_small(book: &[u8], steps: Steps, blocks: Blocks, res: &mut [u8])
-    requires { Held book.now steps blocks res.old × BlocksFit small_row blocks }
+fn clear_small(book: &[u8], steps: &Steps, blocks: &Blocks, res: &mut [u8])
+    requires { Held book.now steps.now blocks.now res.old × BlocksFit small_row blocks.now }
     ensures { res.new ≡ result_bytes book.now }
 {
     let mut unit_prices = [0; HOURS * SMALL_ROW];
@@ -92,8 +72,8 @@ fn clear_small(book: &[u8], steps: Steps, blocks: Blocks, res: &mut [u8])
 }
 
 // The same in large tables, which have room for any blocks of a book.
-fn clear_large(book: &[u8], steps: Steps, blocks: Blocks, res: &mut [u8])
-    requires { Held book.now steps blocks res.old × BlocksFit large_row blocks }
+fn clear_large(book: &[u8], steps: &Steps, blocks: &Blocks, res: &mut [u8])
+    requires { Held book.now steps.now blocks.now res.old × BlocksFit large_row blocks.now }
     ensures { res.new ≡ result_bytes book.now }
 {
     let mut unit_prices = [0; HOURS * LARGE_ROW];
@@ -108,30 +88,31 @@ fn clear_accepted(book: &[u8], res: &mut [u8])
 {
     let steps = steps_of(book);
     let blocks = blocks_of(book);
-    if row_needed(blocks) <= SMALL_ROW {
-        clear_small(book, steps, blocks, res);
+    if row_needed(&blocks) <= SMALL_ROW {
+        clear_small(book, &steps, &blocks, res);
     } else {
-        clear_large(book, steps, blocks, res);
+        clear_large(book, &steps, &blocks, res);
     }
 }
 
 // The auction's outcome for a book, written to the result; or the first refusal whose cause holds, and the result as it was.
-pub fn clear(book: &[u8], res: &mut [u8]) -> Clearing
+pub fn clear(book: &[u8], res: &mut [u8]) -> Result<(), Refusal>
     ensures { Promise book.now res.old res.new result }
 {
-    let reading = read(book);
-    match reading {
-        Reading::Refused(number) => Clearing::Refused(number),
-        Reading::Accepted {
-            steps: _,
-            blocks: _,
-        } => {
-            if res.len() == RECORD_ROWS + RECORD_ROW * (record_count(book) as usize) {
-                clear_accepted(book, res);
-                Clearing::Published
-            } else {
-                Clearing::Refused(WRONG_BUFFER)
-            }
-        }
-    }
+    read(book)?;
+    let size = RECORD_ROWS + RECORD_ROW * (record_count(book) as usize);
+    refuse(res.len() != size, Refusal::WrongBuffer)?;
+    clear_accepted(book, res);
+    Ok(())
+}
+
+// The same into the front of `space`, which has room for the result of any book: how many bytes of it are the result.
+pub fn clear_front(book: &[u8], space: &mut [u8]) -> Result<usize, Refusal>
+    requires { result_size most_records ≤ length space.old }
+    ensures { ClearedFront book.now space.new result }
+{
+    let rows = record_count(book).min(MOST_RECORDS);
+    let size = RECORD_ROWS + RECORD_ROW * usize::from(rows);
+    clear(book, &mut space[..size])?;
+    Ok(size)
 }

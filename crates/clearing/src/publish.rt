@@ -1,6 +1,6 @@
 // The publication: what the orders of each hour get at its price, the welfare, and with them and the day the result's
 // bytes. Assumes nothing.
-ghost use Rattle.std.specs.Prelude.{◌≡◌, ◌+◌, ◌*◌, ◌^◌, ◌≤◌, length, get_or, eqb};
+ghost use Rattle.std.specs.Prelude.{◌≡◌, ◌+◌, ◌*◌, ◌^◌, ◌≤◌, ◌<◌, length, get_or};
 ghost use Rattle.fields.specs.Hours.{counted_hours};
 ghost use Rattle.records.specs.Layout.{last_hour};
 ghost use Rattle.fields.specs.Bounds.{most_step_quantity};
@@ -8,21 +8,19 @@ ghost use Rattle.rules.specs.Orders.{max_price};
 ghost use Rattle.rules.specs.Hour.{by_side, when};
 ghost use Rattle.rules.specs.Day.{autumn_hours};
 ghost use Rattle.orders.specs.Columns.{side_for};
-ghost use Rattle.pricing.specs.Curves.{Columns};
-ghost use Rattle.orders.specs.Layout.{block_places};
 ghost use Rattle.places.specs.Layout.{last_place, most_limit, most_quantity};
-ghost use Rattle.places.specs.Hours.{Small, times_in, of_hour};
-ghost use Rattle.places.specs.Steps.{PartSized, StepsSized, steps_at};
+ghost use Rattle.places.specs.Hours.{Small, of_hour};
+ghost use Rattle.places.specs.Steps.{StepsSized, steps_at};
 ghost use Rattle.clearing.specs.Publish.{HourDone, HourPut, SumsOf, WorthOf, HoursDone, TradersSized, HoursPriced};
 ghost use Rattle.clearing.specs.Publish.{sales_at, buys_at, Buffer, WhereCounted, RowsOf, PublishedFrom, PublishedIn, Publishable};
 
 use fields::hours::{change_weight, counted_hours};
 use orders::layout::{HOURS, STEP_PLACES};
-use orders::{Blocks, Steps};
+use orders::{Blocks, HourSteps, Steps};
+use places::cells::times_of;
 use places::layout::CHANGE_ROW;
 use pricing::BIAS;
-use pricing::blocks::trades_of;
-use pricing::execution::less;
+use pricing::blocks::{Trades, trades_of};
 use result::{block_values, with_rows, write_result};
 use search::Day;
 use shares::{amounts_at, share_out};
@@ -49,192 +47,166 @@ impl Sums {
     }
 }
 
-// The sums of the columns' steps with a quantity for each.
-fn sums_of(sides: &[u8], prices: &[u32], values: &[u32]) -> Sums
-    requires { Columns sides.now prices.now values.now × Small max_price prices.now × Small most_step_quantity values.now }
-    ensures { SumsOf sides.now prices.now values.now result.value result.cost }
+// The sums of an hour's steps with a quantity for each.
+fn sums_of(steps: &HourSteps, values: &[u32]) -> Sums
+    requires { (length steps.now.sides.now ≡ length values.now) × Small max_price steps.now.prices.now × Small most_step_quantity values.now }
+    ensures { SumsOf steps.now.sides.now steps.now.prices.now values.now result.value result.cost }
 {
     let mut sums = Sums { value: 0, cost: 0 };
-    let mut i: usize = 0;
-    while i < sides.len() {
-        let worth = (values[i] as u64) * (prices[i] as u64);
-        sums = sums.add(sides[i], worth);
-        i += 1;
+    for i in 0..steps.sides.len() {
+        let worth = u64::from(values[i]) * u64::from(steps.prices[i]);
+        sums = sums.add(steps.sides[i], worth);
     }
     sums
 }
 
 // What the orders of an hour get, into out, and its sums; rests is lent to work in.
 fn fill_hour(
-    sides: &[u8],
-    prices: &[u32],
-    quantities: &[u32],
-    sales: u64,
-    buys: u64,
+    steps: &HourSteps,
+    trades: Trades,
     price: u32,
     out: &mut [u32],
     rests: &mut [u32],
 ) -> Sums
-    requires { Columns sides.now prices.now quantities.now × (length sides.now ≡ length out.old) × (1 ≤ price) × (sales ≤ last_place)
-        × (buys ≤ last_place) × Small max_price prices.now × Small most_step_quantity quantities.now × (length sides.now ≡ length rests.old) }
-    ensures { HourDone sides.now prices.now quantities.now sales buys price out.new result.value
-        result.cost }
+    requires { (length steps.now.sides.now ≡ length out.old) × (1 ≤ price) × (trades.sales ≤ last_place)
+        × (trades.buys ≤ last_place) × Small max_price steps.now.prices.now × Small most_step_quantity steps.now.quantities.now
+        × (length steps.now.sides.now ≡ length rests.old) }
+    ensures { HourDone steps.now.sides.now steps.now.prices.now steps.now.quantities.now trades.sales trades.buys price
+        out.new result.value result.cost }
 {
-    let net = (BIAS + sales - buys) as u32;
-    let amounts = amounts_at(sides, prices, quantities, net, price);
-    share_out(sides, prices, quantities, price, amounts, out, rests);
-    sums_of(sides, prices, out)
+    let net = (BIAS + trades.sales - trades.buys) as u32;
+    let amounts = amounts_at(steps, net, price);
+    share_out(steps, price, amounts, out, rests);
+    sums_of(steps, out)
 }
 
-// The same for the steps of the columns from one place to another, into the same places of values.
+// The same for hour h + 1, into the places of its steps in values.
 fn put_hour(
-    sides: &[u8],
-    prices: &[u32],
-    quantities: &[u32],
-    from: usize,
-    to: usize,
-    sales: u64,
-    buys: u64,
+    steps: &Steps,
+    h: usize,
+    trades: Trades,
     price: u32,
     values: &mut [u32],
     rests: &mut [u32],
 ) -> Sums
-    requires { PartSized sides.now prices.now quantities.now from to × (to ≤ length values.old) × (1 ≤ price) × (sales ≤ last_place)
-        × (buys ≤ last_place) × (to ≤ length rests.old) }
-    ensures { HourPut sides.now prices.now quantities.now from to sales buys price values.old
-        values.new result.value result.cost }
+    requires { (h < last_hour) × StepsSized steps.now.ends steps.now.sides steps.now.prices steps.now.quantities
+        × (get_or steps.now.ends (h + 1) 0 ≤ length values.old) × (1 ≤ price) × (trades.sales ≤ last_place)
+        × (trades.buys ≤ last_place) × (get_or steps.now.ends (h + 1) 0 ≤ length rests.old) }
+    ensures { HourPut steps.now.sides steps.now.prices steps.now.quantities (get_or steps.now.ends h 0)
+        (get_or steps.now.ends (h + 1) 0) trades.sales trades.buys price values.old values.new result.value result.cost }
 {
+    let from = steps.ends[h] as usize;
+    let to = steps.ends[h + 1] as usize;
     fill_hour(
-        &sides[from..to],
-        &prices[from..to],
-        &quantities[from..to],
-        sales,
-        buys,
+        &steps.hour(h),
+        trades,
         price,
         &mut values[from..to],
         &mut rests[from..to],
     )
 }
 
-// What a block is worth on a day of so many hours: its quantity times its limit over all its hours, if it is chosen (1 for yes).
-fn block_worth(day: u8, chosen: u32, hours: u32, price: u32, quantity: u32) -> u64
+// The columns of the blocks that there are, without the room behind them.
+#[derive(Clone, Copy)]
+struct BlockFronts<'a> {
+    records: &'a [u16],
+    sides: &'a [u8],
+    hours: &'a [u32],
+    prices: &'a [u32],
+    quantities: &'a [u32],
+    ghost sized: { TradersSized sides.now hours.now quantities.now },
+    ghost as_many_records: { length sides.now ≡ length records.now },
+    ghost as_many_prices: { length sides.now ≡ length prices.now },
+    ghost prices_fit: { Small max_price prices.now },
+}
+
+// What a block is worth on a day of so many hours: its quantity times its limit over all its hours, if it is chosen.
+fn block_worth(day: u8, chosen: bool, hours: u32, price: u32, quantity: u32) -> u64
     requires { (day ≤ autumn_hours) × (price ≤ max_price) × (quantity ≤ most_quantity) }
-    ensures { (result ≡ when (eqb chosen 1) (quantity * (price * counted_hours day hours))) × (result ≤ most_quantity * most_limit) }
+    ensures { (result ≡ when chosen (quantity * (price * counted_hours day hours))) × (result ≤ most_quantity * most_limit) }
 {
-    if chosen == 1 {
+    if chosen {
         let limit = price * counted_hours(day, hours);
-        return (quantity * limit) as u64;
+        return u64::from(quantity * limit);
     }
     0
 }
 
 // The value and the cost of the blocks that the set holds, the lowest bit for the first block, on a day of so many hours.
-fn blocks_worth(
-    day: u8,
-    sides: &[u8],
-    hours: &[u32],
-    prices: &[u32],
-    quantities: &[u32],
-    set: u32,
-) -> Sums
-    requires { (day ≤ autumn_hours) × TradersSized sides.now hours.now quantities.now × (length sides.now ≡ length prices.now) × Small max_price prices.now }
-    ensures { WorthOf day sides.now hours.now prices.now quantities.now set result.value result.cost }
+fn blocks_worth(day: u8, blocks: &BlockFronts, set: u32) -> Sums
+    requires { day ≤ autumn_hours }
+    ensures { WorthOf day blocks.now.sides.now blocks.now.hours.now blocks.now.prices.now blocks.now.quantities.now set result.value result.cost }
 {
     let mut sums = Sums { value: 0, cost: 0 };
     let mut rest = set;
-    let mut i: usize = 0;
-    while i < sides.len() {
-        let worth = block_worth(day, rest % 2, hours[i], prices[i], quantities[i]);
-        sums = sums.add(sides[i], worth);
-        rest = rest / 2;
-        i += 1;
+    for i in 0..blocks.sides.len() {
+        let chosen = rest % 2 == 1;
+        let worth = block_worth(
+            day,
+            chosen,
+            blocks.hours[i],
+            blocks.prices[i],
+            blocks.quantities[i],
+        );
+        sums = sums.add(blocks.sides[i], worth);
+        rest /= 2;
     }
     sums
-}
-
-// How often the hour of a row counts.
-fn times_of(row: usize, often: u32) -> u64
-    requires { often ≤ 2 }
-    ensures { (result ≡ times_in often (row + 1)) × (result ≤ 2) }
-{
-    if row == CHANGE_ROW { often as u64 } else { 1 }
 }
 
 // What the orders of each hour get, hour after hour, into values, and the value and the cost of all of it, hour 3's so often; rests is lent to work in.
 fn fill_hours(
     often: u32,
-    steps: Steps,
-    bsides: &[u8],
-    bhours: &[u32],
-    bquantities: &[u32],
+    steps: &Steps,
+    blocks: &BlockFronts,
     set: u32,
     middles: [u32; HOURS],
     values: &mut [u32],
     rests: &mut [u32],
 ) -> Sums
-    requires { (often ≤ 2) × StepsSized steps.ends steps.sides steps.prices steps.quantities × TradersSized bsides.now bhours.now bquantities.now
-        × HoursPriced middles × (get_or steps.ends last_hour 0 ≤ length values.old) × (get_or steps.ends last_hour 0 ≤ length rests.old) }
-    ensures { HoursDone often steps.ends (steps_at steps.ends steps.sides steps.prices steps.quantities)
-        (sales_at bsides.now bhours.now bquantities.now set)
-        (buys_at bsides.now bhours.now bquantities.now set)
+    requires { (often ≤ 2) × StepsSized steps.now.ends steps.now.sides steps.now.prices steps.now.quantities
+        × HoursPriced middles × (get_or steps.now.ends last_hour 0 ≤ length values.old) × (get_or steps.now.ends last_hour 0 ≤ length rests.old) }
+    ensures { HoursDone often steps.now.ends (steps_at steps.now.ends steps.now.sides steps.now.prices steps.now.quantities)
+        (sales_at blocks.now.sides.now blocks.now.hours.now blocks.now.quantities.now set)
+        (buys_at blocks.now.sides.now blocks.now.hours.now blocks.now.quantities.now set)
         (of_hour middles) last_hour values.new result.value result.cost }
 {
-    let sides = steps.sides;
-    let prices = steps.prices;
-    let quantities = steps.quantities;
-    let ends = steps.ends;
     let mut value: u64 = 0;
     let mut cost: u64 = 0;
-    let mut h: usize = 0;
-    while h < HOURS {
-        let from = ends[h] as usize;
-        let to = ends[h + 1] as usize;
-        let trades = trades_of(bsides, bhours, bquantities, set, (h + 1) as u32);
-        let sums = put_hour(
-            &sides,
-            &prices,
-            &quantities,
-            from,
-            to,
-            trades.sales,
-            trades.buys,
-            middles[h],
-            values,
-            rests,
+    for h in 0..HOURS {
+        let trades = trades_of(
+            blocks.sides,
+            blocks.hours,
+            blocks.quantities,
+            set,
+            (h + 1) as u32,
         );
+        let sums = put_hour(steps, h, trades, middles[h], values, rests);
         let times = times_of(h, often);
         value += times * sums.value;
         cost += times * sums.cost;
-        h += 1;
     }
     Sums { value, cost }
 }
 
 // A column of the hours with 0 for hour 3 where it does not count.
-fn where_counted(column: [u32; HOURS], often: u32) -> [u32; HOURS]
+fn where_counted(mut column: [u32; HOURS], often: u32) -> [u32; HOURS]
     ensures { WhereCounted often column result }
 {
-    let mut r = column;
     if often == 0 {
-        r[CHANGE_ROW] = 0;
+        column[CHANGE_ROW] = 0;
     }
-    r
+    column
 }
 
 // The row of each record: what its order gets, a block's quantity if the set holds it, else 0.
-fn rows_of(
-    records: &[u16],
-    values: &[u32],
-    brecords: &[u16],
-    bquantities: &[u32],
-    set: u32,
-) -> [u32; STEP_PLACES]
-    requires { (length records.now ≡ length values.now) × (length brecords.now ≡ length bquantities.now) × (length brecords.now ≤ block_places) }
-    ensures { RowsOf records.now values.now brecords.now bquantities.now set result }
+fn rows_of(records: &[u16], values: &[u32], blocks: &BlockFronts, set: u32) -> [u32; STEP_PLACES]
+    requires { length records.now ≡ length values.now }
+    ensures { RowsOf records.now values.now blocks.now.records.now blocks.now.quantities.now set result }
 {
-    let m = brecords.len();
-    let bvalues = block_values(m, bquantities, set);
-    let rows = with_rows([0; STEP_PLACES], brecords, &bvalues[..m]);
+    let m = blocks.records.len();
+    let bvalues = block_values(m, blocks.quantities, set);
+    let rows = with_rows([0; STEP_PLACES], blocks.records, &bvalues[..m]);
     with_rows(rows, records, values)
 }
 
@@ -242,46 +214,35 @@ fn rows_of(
 fn publish_columns(
     day: u8,
     count: usize,
-    steps: Steps,
-    brecords: &[u16],
-    bsides: &[u8],
-    bhours: &[u32],
-    bprices: &[u32],
-    bquantities: &[u32],
+    steps: &Steps,
+    blocks: &BlockFronts,
     set: u32,
     found: Day,
     res: &mut [u8],
 )
-    requires { (day ≤ autumn_hours) × StepsSized steps.ends steps.sides steps.prices steps.quantities × (get_or steps.ends last_hour 0 ≤ length steps.records)
-        × TradersSized bsides.now bhours.now bquantities.now × (length bsides.now ≡ length brecords.now)
-        × (length bsides.now ≡ length bprices.now) × Small max_price bprices.now × HoursPriced found.prices × Buffer count res.old }
-    ensures { PublishedFrom day count steps brecords.now bsides.now bhours.now bprices.now
-        bquantities.now set found res.new }
+    requires { (day ≤ autumn_hours) × StepsSized steps.now.ends steps.now.sides steps.now.prices steps.now.quantities
+        × (get_or steps.now.ends last_hour 0 ≤ length steps.now.records) × HoursPriced found.prices × Buffer count res.old }
+    ensures { PublishedFrom day count steps.now blocks.now.records.now blocks.now.sides.now blocks.now.hours.now blocks.now.prices.now
+        blocks.now.quantities.now set found res.new }
 {
-    let records = steps.records;
-    let ends = steps.ends;
-    let n = ends[HOURS] as usize;
-    let middles = found.prices;
-    let traded = found.quantities;
+    let n = steps.ends[HOURS] as usize;
     let often = change_weight(day);
     let mut values = [0; STEP_PLACES];
     let mut rests = [0; STEP_PLACES];
     let sums = fill_hours(
         often,
         steps,
-        bsides,
-        bhours,
-        bquantities,
+        blocks,
         set,
-        middles,
+        found.prices,
         &mut values,
         &mut rests,
     );
-    let worth = blocks_worth(day, bsides, bhours, bprices, bquantities, set);
-    let welfare = less(sums.value + worth.value, sums.cost + worth.cost);
-    let rows = rows_of(&records[..n], &values[..n], brecords, bquantities, set);
-    let price_column = where_counted(middles, often);
-    let traded_column = where_counted(traded, often);
+    let worth = blocks_worth(day, blocks, set);
+    let welfare = (sums.value + worth.value).saturating_sub(sums.cost + worth.cost);
+    let rows = rows_of(&steps.records[..n], &values[..n], blocks, set);
+    let price_column = where_counted(found.prices, often);
+    let traded_column = where_counted(found.quantities, often);
     write_result(res, count, welfare, price_column, traded_column, &rows);
 }
 
@@ -289,32 +250,22 @@ fn publish_columns(
 pub fn publish(
     day: u8,
     count: usize,
-    steps: Steps,
-    blocks: Blocks,
+    steps: &Steps,
+    blocks: &Blocks,
     set: u32,
     found: Day,
     res: &mut [u8],
 )
-    requires { Publishable day count steps blocks found res.old }
-    ensures { PublishedIn day count steps blocks set found res.new }
+    requires { Publishable day count steps.now blocks.now found res.old }
+    ensures { PublishedIn day count steps.now blocks.now set found res.new }
 {
     let m = blocks.count;
-    let brecords = blocks.records;
-    let bsides = blocks.sides;
-    let bhours = blocks.hours;
-    let bprices = blocks.prices;
-    let bquantities = blocks.quantities;
-    publish_columns(
-        day,
-        count,
-        steps,
-        &brecords[..m],
-        &bsides[..m],
-        &bhours[..m],
-        &bprices[..m],
-        &bquantities[..m],
-        set,
-        found,
-        res,
-    );
+    let fronts = BlockFronts {
+        records: &blocks.records[..m],
+        sides: &blocks.sides[..m],
+        hours: &blocks.hours[..m],
+        prices: &blocks.prices[..m],
+        quantities: &blocks.quantities[..m],
+    };
+    publish_columns(day, count, steps, &fronts, set, found, res);
 }

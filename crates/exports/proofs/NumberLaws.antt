@@ -1,26 +1,29 @@
 -- A clearing's answer as a number is its refusal, and no refusal is 0. Assumes nothing.
 use Prim.Native.Nat.{ℕ}
 use native.Mathlib.Omega.{arith}
-use mathlib.Core.Path.{◌≡◌, refl, sym, ap, ◌∙◌}
+use mathlib.Core.Path.{◌≡◌, sym, ap, ◌∙◌}
 use mathlib.Core.List.{List}
-use mathlib.Core.Bool.{Bool, true, false, cond}
-use lib.Dec.{eqb}
-use borrow.Author.Tests.{eqb-true, eq-eqb}
-use Rattle.result.specs.Promise.{clearing, clear_refusal, number_of}
-use Rattle.result.specs.declared.Clearing.TheVariants.{Published, Refused}
+use Rattle.std.specs.Prelude.{Result}
+use Rattle.book.specs.Numbers.{refusal_number, number_of}
+use Rattle.book.specs.declared.refusal.Refusal.{Refusal}
+use Rattle.book.specs.declared.refusal.Refusal.TheVariants as refused-for
+use Rattle.result.specs.Promise.{clearing, clear_refusal}
+use Rattle.result.proofs.PromiseLaws.{number-clearing}
 
-pub number-clearing : (b result : List ℕ) → number_of (clearing b result) ≡ clear_refusal b result
-unfolding clearing
-number-clearing b result = at (eqb (clear_refusal b result) 0) refl
-  where
-    at : (none : Bool) → eqb (clear_refusal b result) 0 ≡ none → number_of (cond none Published (Refused (clear_refusal b result))) ≡ clear_refusal b result
-    at true e = sym (eqb-true (clear_refusal b result) 0 e)
-    at false e = refl
+pub number-not-0 : (why : Refusal) → refusal_number why ≡ 0 → ⊥
+number-not-0 refused-for.WrongSize e = omega arith
+number-not-0 refused-for.WrongHead e = omega arith
+number-not-0 refused-for.BrokenChain e = omega arith
+number-not-0 refused-for.WrongField e = omega arith
+number-not-0 refused-for.StrayRecord e = omega arith
+number-not-0 refused-for.TooManyBlocks e = omega arith
+number-not-0 refused-for.WrongBuffer e = omega arith
+number-not-0 refused-for.WrongCall e = omega arith
+number-not-0 refused-for.WrongHours e = omega arith
+number-not-0 refused-for.WrongLink e = omega arith
+number-not-0 refused-for.TooManySteps e = omega arith
+number-not-0 refused-for.WrongList e = omega arith
 
-pub refused-not-0 : (b result : List ℕ) (n : ℕ) → Refused n ≡ clearing b result → ¬ (n ≡ 0)
-unfolding clearing
-refused-not-0 b result n e none =
-    let zero-refusal : clear_refusal b result ≡ 0 = sym (number-clearing b result) ∙ sym (ap number_of e) ∙ none in
-    let published : Refused n ≡ Published = e ∙ rw (eq-eqb (clear_refusal b result) 0 zero-refusal) in
-    let clash : ◌≡◌ {A = ℕ} 0 1 = cc in
-    absurd (omega arith)
+-- the number of an answer of the clearing
+pub number-told : (b result : List ℕ) (answer : Result (Unit {0}) Refusal) → answer ≡ clearing b result → number_of answer ≡ clear_refusal b result
+number-told b result answer e = ap number_of e ∙ number-clearing b result

@@ -1,7 +1,8 @@
 // The public calls for programs in other languages: numbers and byte slices only. Assumes nothing.
 #![tactic(auto)]
 
-ghost use Rattle.std.specs.Prelude.{◌≡◌, ◌<◌, ◌^◌, length};
+ghost use Rattle.std.specs.Prelude.{◌≡◌, ◌<◌, ◌^◌, cond, eqb, length};
+ghost use Rattle.book.specs.Numbers.{refusal_number};
 ghost use Rattle.book.specs.Refusals.{refusal};
 ghost use Rattle.result.specs.Promise.{clear_refusal, result_after, Demands};
 ghost use Rattle.pricing.specs.Answers.{hour_answer};
@@ -11,13 +12,12 @@ ghost use Rattle.family_sheet.specs.FamilySheet.{family_sheet_of};
 ghost use Rattle.cash.specs.CashSheet.{cash_sheet_of};
 ghost use Rattle.exports.specs.Parts.{answer_part, range_part, buffer_after};
 
-use book::{Reading, read};
+use book::{Refusal, read};
 use cash::{MOST_CASH, cash};
 use clearing::clear;
 use family_sheet::{MOST_FAMILY_SHEET, families};
-use pricing::{HourAnswer, price};
-use range::{PriceRange, price_range};
-use result::Clearing;
+use pricing::price;
+use range::price_range;
 use sheet::{MOST_SHEET, sheet};
 use text::put_text;
 
@@ -38,18 +38,28 @@ const GREATEST: u32 = 2;
 // What the first part says of an hour that does not clear: no refusal, since those are bytes.
 const NOT_CLEARING: u32 = 256;
 
+// The papers' number of a refusal, as the calls give it.
+fn number_of(why: Refusal) -> u32
+    ensures { result ≡ refusal_number why }
+{
+    u32::from(u8::from(why))
+}
+
+// A part of an answer that has the first part alone.
+fn first_alone(part: u32, first: u32) -> u32
+    ensures { result ≡ cond (eqb part 0) first 0 }
+{
+    if part == ANSWER { first } else { 0 }
+}
+
 // The book's refusal, 0 for an accepted book.
 #[unsafe(no_mangle)]
 pub extern "C" fn auction_read(book: &[u8]) -> u32
     ensures { result ≡ refusal book.now }
 {
-    let reading = read(book);
-    match reading {
-        Reading::Refused(number) => number as u32,
-        Reading::Accepted {
-            steps: _,
-            blocks: _,
-        } => 0,
+    match read(book) {
+        Ok(_) => 0,
+        Err(why) => number_of(why),
     }
 }
 
@@ -58,21 +68,15 @@ pub extern "C" fn auction_read(book: &[u8]) -> u32
 pub extern "C" fn auction_price(book: &[u8], set: u32, hour: u32, part: u32) -> u32
     ensures { result ≡ answer_part (hour_answer book.now set hour) part }
 {
-    let answer = price(book, set, hour);
-    match answer {
-        HourAnswer::Refused(number) => { if part == ANSWER { number as u32 } else { 0 } }
-        HourAnswer::NotClearing => { if part == ANSWER { NOT_CLEARING } else { 0 } }
-        HourAnswer::Cleared { low, high, price } => {
-            if part == LOW {
-                low
-            } else {
-                if part == HIGH {
-                    high
-                } else {
-                    if part == PRICE { price } else { 0 }
-                }
-            }
-        }
+    match price(book, set, hour) {
+        Ok(Some(found)) => match part {
+            LOW => found.low,
+            HIGH => found.high,
+            PRICE => found.price,
+            _ => 0,
+        },
+        Ok(None) => first_alone(part, NOT_CLEARING),
+        Err(why) => first_alone(part, number_of(why)),
     }
 }
 
@@ -81,16 +85,13 @@ pub extern "C" fn auction_price(book: &[u8], set: u32, hour: u32, part: u32) -> 
 pub extern "C" fn auction_range(list: &[u8], part: u32) -> u32
     ensures { result ≡ range_part (range_of list.now) part }
 {
-    let found = price_range(list);
-    match found {
-        PriceRange::Refused(number) => { if part == ANSWER { number as u32 } else { 0 } }
-        PriceRange::Prices { least, greatest } => {
-            if part == LEAST {
-                least
-            } else {
-                if part == GREATEST { greatest } else { 0 }
-            }
-        }
+    match price_range(list) {
+        Ok(found) => match part {
+            LEAST => found.least,
+            GREATEST => found.greatest,
+            _ => 0,
+        },
+        Err(why) => first_alone(part, number_of(why)),
     }
 }
 
@@ -101,10 +102,9 @@ pub extern "C" fn auction_clear(book: &[u8], res: &mut [u8]) -> u32
     ensures bytes { res.new ≡ result_after book.now res.old }
     ensures demands { result ≡ 0 → Demands book.now res.new }
 {
-    let answer = clear(book, res);
-    match answer {
-        Clearing::Refused(number) => number as u32,
-        Clearing::Published => 0,
+    match clear(book, res) {
+        Ok(()) => 0,
+        Err(why) => number_of(why),
     }
 }
 

@@ -13,11 +13,11 @@ fn put_family(out: &mut [u8], at: usize, number: u16, gain: u64) -> usize
     requires { HasRoom out.old at (family_line number gain) }
     ensures { Put out.old at (family_line number gain) out.new result }
 {
-    let behind_number = put_field(out, at, number as u64, b';');
+    let behind_number = put_field(out, at, u64::from(number), b';');
     put_field(out, behind_number, gain, b'\n')
 }
 
-// The line of block i: one where it has no parent, else none.
+// The line of block i: one where it has no parent, else none. Its parent is one more than a place, 0 for none, as the column of parents promises it.
 fn put_root(
     out: &mut [u8],
     at: usize,
@@ -52,10 +52,8 @@ pub fn put_families(
     ensures { Put out.old at (all_lines book.now records.now parents.now gains.now) out.new result }
 {
     let mut end = at;
-    let mut i: usize = 0;
-    while i < gains.len() {
+    for i in 0..gains.len() {
         end = put_root(out, end, book, records, parents, gains, i);
-        i += 1;
     }
     end
 }

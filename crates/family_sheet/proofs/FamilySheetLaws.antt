@@ -11,6 +11,11 @@ use Rattle.records.specs.Bytes.{byte_at, u16_at}
 use Rattle.records.specs.Records.{number, block_at}
 use Rattle.chains.specs.Chains.{block_order}
 use Rattle.book.specs.Refusals.{refusal, Accepted}
+use Rattle.std.specs.Prelude.{Err}
+use Rattle.book.specs.Numbers.{refusal_number}
+use Rattle.book.specs.Answers.{reading}
+use Rattle.book.specs.declared.refusal.Refusal.{Refusal}
+use Rattle.book.proofs.Refused.{answer-refused}
 use Rattle.book.proofs.Accepted.{accepted, accepted-zero}
 use Rattle.rules.specs.Orders.{buy, Block}
 use Rattle.rules.specs.Outcome.{outcome}
@@ -120,6 +125,11 @@ module _ (b : List ℕ) (a : Accepted b) where
 pub text-refused : (b : List ℕ) (n : ℕ) → refusal b ≡ n → (n ≡ 0 → ⊥) → refused_line n ≡ family_sheet_of b
 unfolding family_sheet_of
 text-refused b n e f = rw (e, ne_eqb n 0 f)
+
+-- the line of the book's own refusal
+pub refusal-put : (b : List ℕ) (why : Refusal) → reading b ≡ Err why → (out r : List ℕ) (q : ℕ) → Put out 0 (refused_line (refusal_number why)) r q
+    → Put out 0 (family_sheet_of b) r q
+refusal-put b why e out r q put = let refused = answer-refused b why e in rw (text-refused b _ refused.1 (λ z. refused.0 (refused.1 ∙ z))) at put
 
 pub refused-has-room : (n : ℕ) (out : List ℕ) → length out ≡ 587 → HasRoom out 0 (refused_line n)
 unfolding HasRoom

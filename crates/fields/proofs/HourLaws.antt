@@ -32,14 +32,6 @@ pub hours-counted : (day x : ℕ)
 unfolding counted_hours
 hours-counted day x = rw (hours-summed 24 x) (change-apart day (λ h. when (holds_hour x h) 1))
 
--- Hour 3 among them, as a number
-pub change-once : (x : ℕ) → (x / change_bit % 2 ≡ when (holds_hour x change_hour) 1) × (x / change_bit % 2 ≤ 1)
-change-once x = (at (holds_hour x change_hour) refl, omega arith)
-  where
-    at : (t : Bool) → holds_hour x change_hour ≡ t → x / 4 % 2 ≡ when t 1
-    at true e = eqb-true _ _ e
-    at false e = let w : x / 4 % 2 ≡ 1 → ⊥ = eqb-false _ _ e in omega arith
-
 -- Hour 3 is one of them at most
 pub change-within : (x : ℕ) → when (holds_hour x change_hour) 1 ≤ hours_set 24 x
 unfolding sum_to

@@ -1,4 +1,4 @@
-// The hours on their day (document 02, P2): how often hour 3 counts, which hours count, and those of a block. Assumes nothing.
+// The hours on their day: how often hour 3 counts, which hours count, and those of a block. Assumes nothing.
 ghost use Rattle.std.specs.Prelude.{◌≡◌, ◌≤◌};
 ghost use Rattle.rules.specs.Hour.{when};
 ghost use Rattle.rules.specs.Day.{change_hour, weight, is_counted};
@@ -9,14 +9,11 @@ use crate::bounds::{CHANGE_BIT, CHANGE_HOUR, SPRING_HOURS};
 use records::hour_count;
 
 // How often hour 3 counts on a day of so many hours: not at all on 23, once on 24, twice on 25.
+#[tactic(auto, unfolding(rules::specs::Day::weight))]
 pub fn change_weight(day: u8) -> u32
     ensures { result ≡ weight day change_hour }
 {
-    if SPRING_HOURS <= day {
-        (day - SPRING_HOURS) as u32
-    } else {
-        0
-    }
+    u32::from(day.saturating_sub(SPRING_HOURS))
 }
 
 // Whether an hour counts at all.

@@ -1,5 +1,5 @@
-// The ranges of a record's fields (document 01, "The book in bytes"): cause 4 at one record, and the limits of an edition. Assumes nothing.
-ghost use Rattle.std.specs.Prelude.{◌≡◌};
+// The ranges of a record's fields: cause 4 at one record, and the limits of an edition. Assumes nothing.
+ghost use Rattle.std.specs.Prelude.{◌≡◌, cond, leb};
 ghost use Rattle.fields.specs.Tests.{within};
 ghost use Rattle.rules.specs.Orders.{limits};
 ghost use Rattle.fields.specs.Ranges.{step_fits, block_fits, step_in_range, block_in_range, link_in_range, out_of_range};
@@ -14,71 +14,86 @@ use records::{
 };
 
 // Whether x is from low to high.
+#[tactic(auto, unfolding(crate::specs::Tests::within))]
 pub fn is_within(low: u32, x: u32, high: u32) -> bool
     ensures { result ≡ within low x high }
 {
     (low <= x) & (x <= high)
 }
 
+// What edition 1 has, or each edition from 2 on.
+fn of_edition<T: Copy>(edition: u8, first: T, later: T) -> T
+    ensures { result ≡ cond (leb edition FIRST_EDITION) first later }
+{
+    if edition <= FIRST_EDITION {
+        first
+    } else {
+        later
+    }
+}
+
 // The largest quantity of a block.
+#[tactic(auto, unfolding(rules::specs::Orders::limits))]
 fn most_block_quantity(edition: u8) -> u32
     ensures { result ≡ (limits edition).block_quantity }
 {
-    if edition <= FIRST_EDITION {
-        FIRST_BLOCK_QUANTITY
-    } else {
-        NOTICE_BLOCK_QUANTITY
-    }
+    of_edition(edition, FIRST_BLOCK_QUANTITY, NOTICE_BLOCK_QUANTITY)
 }
 
 // The most blocks that one portfolio may have.
+#[tactic(auto, unfolding(rules::specs::Orders::limits))]
 pub fn most_blocks_of_portfolio(edition: u8) -> u16
     ensures { result ≡ (limits edition).blocks_of_portfolio }
 {
-    if edition <= FIRST_EDITION {
-        FIRST_BLOCKS_OF_PORTFOLIO
-    } else {
-        NOTICE_BLOCKS_OF_PORTFOLIO
-    }
+    of_edition(
+        edition,
+        FIRST_BLOCKS_OF_PORTFOLIO,
+        NOTICE_BLOCKS_OF_PORTFOLIO,
+    )
 }
 
 // Whether a step's fields, its side apart, are in their ranges.
+#[tactic(auto, unfolding(crate::specs::Ranges::step_fits))]
 fn step_fits(step: Step) -> bool
     ensures { result ≡ step_fits step }
 {
-    is_within(1, step.hour as u32, LAST_HOUR)
-        & is_within(1, step.portfolio as u32, LAST_PORTFOLIO)
+    is_within(1, u32::from(step.hour), LAST_HOUR)
+        & is_within(1, u32::from(step.portfolio), u32::from(LAST_PORTFOLIO))
         & is_within(1, step.price, MAX_PRICE)
         & is_within(1, step.quantity, MOST_STEP_QUANTITY)
 }
 
 // Whether a block's fields, its side and byte 6 apart, are in their ranges.
+#[tactic(auto, unfolding(crate::specs::Ranges::block_fits))]
 fn block_fits(edition: u8, block: Block) -> bool
     ensures { result ≡ block_fits (limits edition) block }
 {
-    is_within(1, block.portfolio as u32, LAST_PORTFOLIO)
+    is_within(1, u32::from(block.portfolio), u32::from(LAST_PORTFOLIO))
         & (FEWEST_HOURS <= hour_count(block.hours))
         & is_within(1, block.price, MAX_PRICE)
-        & is_within(1, block.quantity as u32, most_block_quantity(edition))
+        & is_within(1, u32::from(block.quantity), most_block_quantity(edition))
 }
 
 // Whether record i, a step, has its fields in range.
+#[tactic(auto, unfolding(crate::specs::Ranges::step_in_range))]
 fn is_step_in_range(book: &[u8], i: u16, step: Step) -> bool
     ensures { result ≡ step_in_range book.now i step }
 {
-    is_within(0, side_byte(book, i) as u32, LAST_SIDE) & step_fits(step)
+    is_within(0, u32::from(side_byte(book, i)), LAST_SIDE) & step_fits(step)
 }
 
 // Whether record i, a block, has its fields in range.
+#[tactic(auto, unfolding(crate::specs::Ranges::block_in_range))]
 fn is_block_in_range(book: &[u8], i: u16, block: Block) -> bool
     ensures { result ≡ block_in_range book.now i block }
 {
-    is_within(0, side_byte(book, i) as u32, LAST_SIDE)
+    is_within(0, u32::from(side_byte(book, i)), LAST_SIDE)
         & (hour_byte(book, i) == 0)
         & block_fits(edition_of(book), block)
 }
 
 // Whether record i, a link, has its bytes 1 and 8-15 at 0.
+#[tactic(auto, unfolding(crate::specs::Ranges::link_in_range))]
 fn is_link_in_range(book: &[u8], i: u16) -> bool
     ensures { result ≡ link_in_range book.now i }
 {
@@ -86,11 +101,11 @@ fn is_link_in_range(book: &[u8], i: u16) -> bool
 }
 
 // Whether record i has a field outside its range.
+#[tactic(auto, unfolding(crate::specs::Ranges::out_of_range, crate::specs::Ranges::record_in_range))]
 pub fn is_out_of_range(book: &[u8], i: u16) -> bool
     ensures { result ≡ out_of_range book.now i }
 {
-    let found = record_at(book, i);
-    match found {
+    match record_at(book, i) {
         Record::Step(step) => !is_step_in_range(book, i, step),
         Record::Block(block) => !is_block_in_range(book, i, block),
         Record::Link(_) => !is_link_in_range(book, i),

@@ -40,7 +40,6 @@ use Rattle.orders.proofs.BridgeLaws.{
 }
 use Rattle.orders.proofs.FrontLaws.{block-records-front}
 use Rattle.orders.proofs.RecordLaws.{block-as-read, blocks-all}
-use Rattle.places.specs.Layout.{most_limit}
 use Rattle.places.specs.Hours.{sum_of_hours, Small}
 use Rattle.places.proofs.CountedLaws.{block-sum}
 use Rattle.result.specs.Result.{price_in, row_in, result_bytes}
@@ -69,8 +68,8 @@ unfolding counted_hours hour_count
 limit-small day x price few small =
     product_le price _ max_price 25 small (count-few day few (record { number = 0; portfolio = 0; side = buy; price = 0; quantity = 0; runs = holds_hour x }))
 
-pub gain-fits : (row sum limit d : ℕ) → row < 2 ^ 32 → sum ≤ most_limit → limit ≤ 7500000 → d ≡ distance sum limit → row * d < 2 ^ 64
-gain-fits row sum limit d r s l e = omega (arith, product_le row d (2 ^ 32) most_limit (omega arith) (omega arith))
+pub gain-fits : (row d : ℕ) → row < 2 ^ 32 → d < 2 ^ 32 → row * d < 2 ^ 64
+gain-fits row d r s = omega (arith, product_le row d 4294967295 4294967295 (omega arith) (omega arith))
 
 -- A COLUMN OF THE BLOCKS: the number at place j
 pub column-at : (n : ℕ) (f : ℕ → ℕ) (l : List ℕ) (j : ℕ) → j < length l → get_or (padded n (map f l)) j 0 ≡ f (get_or l j 0)

@@ -1,6 +1,6 @@
--- WHAT KEEPS A GUESS SAFE: one of two numbers, and places that a block moves on; and the sum of a block's row. Assumes nothing.
-use Prim.Native.Nat.{ℕ, suc, ◌+◌, ◌-◌, ◌*◌, ◌≤◌, ◌<◌}
-use mathlib.Core.Bool.{Bool, true, false, cond}
+-- WHAT KEEPS A GUESS SAFE: places that a block moves on; and the sum of a block's row. Assumes nothing.
+use Prim.Native.Nat.{ℕ, suc, ◌+◌, ◌-◌, ◌*◌, ◌≤◌}
+use mathlib.Core.Bool.{Bool}
 use mathlib.Core.Path.{◌≡◌}
 use mathlib.Core.List.{List}
 use native.Mathlib.Omega.{arith}
@@ -13,11 +13,6 @@ use Rattle.places.specs.Layout.{hour_places, most_added, rows_column}
 use Rattle.places.specs.Hours.{Small}
 use Rattle.places.specs.Blocks.{row_quantity, BlocksSized}
 use Rattle.places.proofs.AddedLaws.{places-grow}
-
--- one of two numbers that are both small
-pub chosen_less : (test : Bool) (a b m r : ℕ) → r ≡ cond test a b → a < m → b < m → r < m
-chosen_less true a b m r e small _ = omega arith
-chosen_less false a b m r e _ small = omega arith
 
 -- a number of a block's row
 pub row_small : (blocks : List ℕ) → BlocksSized blocks → (i h : ℕ) → get_or blocks (rows_column + hour_places * i + h) 0 ≤ most_added

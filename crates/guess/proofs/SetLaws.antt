@@ -1,5 +1,5 @@
 -- SETS OF BLOCKS, one block further: the blocks that gain, and a set less the blocks whose parents it does not hold. Assumes nothing.
-use Prim.Native.Nat.{ℕ, ◌+◌, ◌-◌, ◌<◌}
+use Prim.Native.Nat.{ℕ, ◌+◌, ◌-◌, ◌≤◌}
 use mathlib.Core.Bool.{Bool, true, false, cond, not, ◌&&◌}
 use mathlib.Core.Path.{◌≡◌, refl}
 use mathlib.Core.List.{List}
@@ -32,11 +32,12 @@ kept-where taken i true = rw (and-true (holds_block taken i)) (set-get_or taken 
 kept-where taken i false = rw (and-false (holds_block taken i))
 
 -- a set less the blocks that lack their parents, one block further: one that has a parent
-pub with-parents-next : (blocks : List ℕ) (before : List Bool) (i : ℕ) (taken : List Bool) → taken ≡ all_with_parents blocks before i → 0 < parent_at blocks i →
-    set taken i (holds_block taken i && holds_block taken (parent_at blocks i - 1)) ≡ all_with_parents blocks before (i + 1)
+pub with-parents-next : (blocks : List ℕ) (before : List Bool) (i : ℕ) (taken : List Bool) (parent : ℕ) → taken ≡ all_with_parents blocks before i →
+    1 ≤ parent_at blocks i → parent ≡ parent_at blocks i - 1 →
+    set taken i (holds_block taken i && holds_block taken parent) ≡ all_with_parents blocks before (i + 1)
 unfolding all_with_parents
-with-parents-next blocks before i taken e some =
-    rw (add-one, ← e, lt-ltb 0 (parent_at blocks i) some) (kept-where taken i (holds_block taken (parent_at blocks i - 1)))
+with-parents-next blocks before i taken parent e some is =
+    rw (is, add-one, ← e, lt-ltb 0 (parent_at blocks i) some) (kept-where taken i (holds_block taken (parent_at blocks i - 1)))
 
 -- and one that has none
 pub with-parents-none : (blocks : List ℕ) (before : List Bool) (i : ℕ) (taken : List Bool) → taken ≡ all_with_parents blocks before i → parent_at blocks i ≡ 0 →

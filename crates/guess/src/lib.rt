@@ -3,66 +3,51 @@
 // each answers; how many branches the search drops depends on it. Assumes nothing.
 #![tactic(auto)]
 
-ghost use Rattle.std.specs.Prelude.{◌≤◌};
-ghost use Rattle.guess.specs.Guess.{TablesHeld, most_guess};
+ghost use Rattle.std.specs.Prelude.{◌≤◌, IfSome};
+ghost use Rattle.guess.specs.Guess.{Held, most_guess};
 
 use crate::sets::{closed, gaining, without};
-use crate::trial::try_set;
+use crate::trial::{Rule, Trial, try_set};
 use places::layout::MOST_BLOCKS;
-use pricing::execution::lesser;
+use places::tables::Tables;
 
 mod sets; // sets of blocks that hold every block's parent
 mod trial; // what a set loses, and which of its blocks misses its limit
 
-// What stands for no guess: more than any set loses, 32 blocks and 25 hours with less than 2 to the power of 32 each.
-pub const NO_GUESS: u64 = 57 * 4294967296;
-
-// How many rules there are.
-const RULES: u32 = 4;
+// The rules, one guess each.
+const RULES: [Rule; 4] = [Rule::ByMiss, Rule::ByGain, Rule::BySmallness, Rule::BySize];
 
 // How often a set is tried: with all its blocks, and after each that is left out.
 const ROUNDS: usize = MOST_BLOCKS + 1;
 
-// What the first lawful set loses that is found by one rule; no guess where a set on the way does not clear.
-fn guess_by(
-    rule: u32,
-    unit_prices: &[u32],
-    gap: &[u32],
-    hours: &[u32],
-    blocks: &[u32],
-    count: usize,
-) -> u64
-    requires { TablesHeld unit_prices.now gap.now hours.now blocks.now count }
-    ensures { result ≤ most_guess }
+// What the first lawful set loses that is found by one rule; none where a set on the way does not clear.
+fn guess_by(rule: Rule, tables: &Tables) -> Option<u64>
+    requires { Held tables.now }
+    ensures { IfSome result (λ loss. loss ≤ most_guess) }
 {
+    let blocks = tables.blocks;
+    let count = tables.count as usize;
     let mut set = closed(blocks, count, gaining(blocks, count));
-    let mut left = ROUNDS;
-    while 0 < left {
-        let found = try_set(rule, unit_prices, gap, hours, blocks, count, set);
-        if !found.clears {
-            return NO_GUESS;
+    for _ in 0..ROUNDS {
+        match try_set(rule, tables, set)? {
+            Trial::Keeps(loss) => return Some(loss),
+            Trial::Misses(worst) => {
+                // A variable of its own: the borrow checker covers no call whose result is laid in an array.
+                let fewer = closed(blocks, count, without(set, worst));
+                set = fewer;
+            }
         }
-        if !found.misses {
-            return found.loss;
-        }
-        let fewer = closed(blocks, count, without(set, found.worst));
-        set = fewer;
-        left -= 1;
     }
-    NO_GUESS
+    None
 }
 
-// The least that a lawful set loses of those that the rules find, or no guess.
-pub fn guess(unit_prices: &[u32], gap: &[u32], hours: &[u32], blocks: &[u32], count: usize) -> u64
-    requires { TablesHeld unit_prices.now gap.now hours.now blocks.now count }
-    ensures { result ≤ most_guess }
+// The least that a lawful set loses of those that the rules find, if they find any.
+pub fn guess(tables: &Tables) -> Option<u64>
+    requires { Held tables.now }
+    ensures { IfSome result (λ loss. loss ≤ most_guess) }
 {
-    let mut least = NO_GUESS;
-    let mut rule: u32 = 0;
-    while rule < RULES {
-        let found = guess_by(rule, unit_prices, gap, hours, blocks, count);
-        least = lesser(least, found);
-        rule += 1;
-    }
-    least
+    RULES
+        .into_iter()
+        .filter_map(|rule| guess_by(rule, tables))
+        .min()
 }

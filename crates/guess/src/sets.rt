@@ -1,4 +1,5 @@
-// Sets of blocks: which are taken, by their numbers.
+// Sets of blocks: which are taken, by their numbers. The blocks and their count are two of the fields that `Tables` lends: a struct of these two alone is no
+// plainer.
 ghost use Rattle.std.specs.Prelude.{◌≤◌, ◌<◌, ◌≡◌};
 ghost use Rattle.book.specs.Bounds.{most_blocks};
 ghost use Rattle.places.specs.Blocks.{BlocksSized};
@@ -12,10 +13,8 @@ pub fn gaining(blocks: &[u32], count: usize) -> [bool; MOST_BLOCKS]
     ensures { result ≡ gainers blocks.now count }
 {
     let mut set = [false; MOST_BLOCKS];
-    let mut i: usize = 0;
-    while i < count {
+    for i in 0..count {
         set[i] = 0 < blocks[GAIN + i];
-        i += 1;
     }
     set
 }
@@ -36,14 +35,10 @@ pub fn closed(blocks: &[u32], count: usize, set: [bool; MOST_BLOCKS]) -> [bool; 
     ensures { result ≡ all_with_parents blocks.now set count }
 {
     let mut r = set;
-    let mut i: usize = 0;
-    while i < count {
-        let parent = blocks[PARENT + i] as usize;
-        if 0 < parent {
-            let held = r[parent - 1];
-            r[i] = r[i] & held;
+    for i in 0..count {
+        if let Some(parent) = blocks[PARENT + i].checked_sub(1) {
+            r[i] = r[i] & r[parent as usize];
         }
-        i += 1;
     }
     r
 }

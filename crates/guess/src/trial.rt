@@ -1,10 +1,10 @@
 // A set tried: whether every hour clears under it, what it loses, and which of its blocks is to be left out of those that miss their limits.
-ghost use Rattle.std.specs.Prelude.{◌*◌, ◌^◌, ◌≤◌, ◌<◌, ◌≡◌};
+ghost use Rattle.std.specs.Prelude.{◌≤◌, ◌<◌, ◌≡◌, IfSome};
 ghost use Rattle.book.specs.Bounds.{most_blocks};
-ghost use Rattle.places.specs.Layout.{hour_places, most_loss, most_place, most_added};
+ghost use Rattle.places.specs.Layout.{most_loss, most_place};
 ghost use Rattle.places.specs.Hours.{Small, DayPrices};
 ghost use Rattle.places.specs.Blocks.{BlocksSized};
-ghost use Rattle.guess.specs.Guess.{TablesHeld, most_guess};
+ghost use Rattle.guess.specs.Guess.{Held, Safe};
 ghost use Rattle.guess.specs.Urgency.{missed_by, block_size, urgency_by, urgency_in};
 
 use places::added::moved_where;
@@ -13,33 +13,28 @@ use places::layout::{
     AGAINST, BLOCK_ROWS, CHANGE, FIRST, GAIN, HOURS, LAST, LIMIT, MOST_BLOCKS, RUNS, SIDE, TURN,
 };
 use places::limits::price_sum;
-use places::numbers::{choose, larger, less};
+use places::numbers::choose;
+use places::tables::Tables;
 
-// The rules by which one of the blocks that miss their limits is left out: the one that misses its limit by most, the one that gains least at the root
-// prices, the smallest, and by any other number the largest.
-const BY_MISS: u32 = 0;
-
-const BY_GAIN: u32 = 1;
-
-const BY_SMALLNESS: u32 = 2;
-
-// More than a block gains or trades.
-const MOST: u32 = 4294967295;
+// The rules: the block that misses its limit by most is left out first, the one that gains least at the root prices, the smallest, the largest.
+#[derive(Clone, Copy)]
+pub enum Rule {
+    ByMiss,
+    ByGain,
+    BySmallness,
+    BySize,
+}
 
 // How soon a block is left out by a rule.
-fn urgency(rule: u32, miss: u32, gain: u32, size: u32) -> u32
+fn urgency(rule: Rule, miss: u32, gain: u32, size: u32) -> u32
     ensures { result ≡ urgency_by rule miss gain size }
 {
-    if rule == BY_MISS {
-        return miss;
+    match rule {
+        Rule::ByMiss => miss,
+        Rule::ByGain => u32::MAX - gain,
+        Rule::BySmallness => u32::MAX - size,
+        Rule::BySize => size,
     }
-    if rule == BY_GAIN {
-        return MOST - gain;
-    }
-    if rule == BY_SMALLNESS {
-        return MOST - size;
-    }
-    size
 }
 
 // By how much a block misses its limit at prices as they count, 0 where it keeps it.
@@ -49,9 +44,9 @@ fn miss_of(side: u32, hours: u32, limit: u32, prices: &[u32]) -> u32
 {
     let sum = price_sum(prices, hours);
     if side == 0 {
-        less(sum, limit)
+        sum.saturating_sub(limit)
     } else {
-        less(limit, sum)
+        limit.saturating_sub(sum)
     }
 }
 
@@ -62,16 +57,14 @@ fn size_of(blocks: &[u32], i: usize) -> u32
 {
     let row = BLOCK_ROWS + HOURS * i;
     let mut sum: u32 = 0;
-    let mut h: usize = 0;
-    while h < HOURS {
+    for h in 0..HOURS {
         sum += blocks[row + h];
-        h += 1;
     }
     sum
 }
 
 // How soon block i is left out of a set by a rule, 0 where it is not taken or keeps its limit.
-fn urgency_of(rule: u32, blocks: &[u32], i: usize, taken: bool, prices: &[u32]) -> u32
+fn urgency_of(rule: Rule, blocks: &[u32], i: usize, taken: bool, prices: &[u32]) -> u32
     requires { BlocksSized blocks.now × (i < most_blocks) × DayPrices prices.now }
     ensures { result ≡ urgency_in rule blocks.now i taken prices.now }
 {
@@ -90,36 +83,27 @@ fn urgency_of(rule: u32, blocks: &[u32], i: usize, taken: bool, prices: &[u32]) 
     urgency(rule, miss, blocks[GAIN + i], size_of(blocks, i))
 }
 
-// Whether a block of a set misses its limit, and the one to be left out first.
-#[derive(Drop)]
-struct Missing {
-    any: bool,
-    worst: u32,
-}
-
+// The block of a set to be left out first of those that miss their limits, if any does.
 fn missing_in(
-    rule: u32,
+    rule: Rule,
     blocks: &[u32],
     count: usize,
     set: [bool; MOST_BLOCKS],
     prices: &[u32],
-) -> Missing
+) -> Option<usize>
     requires { BlocksSized blocks.now × (count ≤ most_blocks) × DayPrices prices.now }
-    ensures { result.worst < most_blocks }
+    ensures { IfSome result (λ worst. worst < most_blocks) }
 {
-    let mut worst: u32 = 0;
+    let mut worst = None;
     let mut most: u32 = 0;
-    let mut i: usize = 0;
-    while i < count {
+    for i in 0..count {
         let urgent = urgency_of(rule, blocks, i, set[i], prices);
-        worst = choose(most < urgent, i as u32, worst);
-        most = larger(most, urgent);
-        i += 1;
+        if most < urgent {
+            worst = Some(i);
+            most = urgent;
+        }
     }
-    Missing {
-        any: 0 < most,
-        worst,
-    }
+    worst
 }
 
 // What the decisions of a set lose at the root prices.
@@ -128,10 +112,8 @@ fn losses_of(blocks: &[u32], count: usize, set: [bool; MOST_BLOCKS]) -> u64
     ensures { result ≤ most_loss }
 {
     let mut sum: u64 = 0;
-    let mut i: usize = 0;
-    while i < count {
-        sum += choose(set[i], blocks[AGAINST + i], blocks[GAIN + i]) as u64;
-        i += 1;
+    for i in 0..count {
+        sum += u64::from(choose(set[i], blocks[AGAINST + i], blocks[GAIN + i]));
     }
     sum
 }
@@ -142,56 +124,42 @@ fn places_of(blocks: &[u32], count: usize, set: [bool; MOST_BLOCKS]) -> [u32; HO
     ensures { Small most_place result }
 {
     let mut places = [0; HOURS];
-    let mut i: usize = 0;
-    while i < count {
+    for i in 0..count {
         let buys = blocks[SIDE + i] == 0;
-        let moves = if set[i] { !buys } else { buys };
-        let more = moved_where(moves, places, blocks, i);
+        // A variable of its own: the borrow checker covers no call whose result is laid in an array.
+        let more = moved_where(set[i] != buys, places, blocks, i);
         places = more;
-        i += 1;
     }
     places
 }
 
-// What is found of a set.
+// What is found of a set under which every hour clears: each of its blocks keeps its limit, and it loses so much; or this one is to be left out.
 #[derive(Drop)]
-pub struct Trial {
-    pub clears: bool,
-    pub loss: u64,
-    pub misses: bool,
-    pub worst: usize,
+pub enum Trial {
+    Keeps(u64),
+    Misses(usize),
 }
 
-// A set tried by a rule.
-pub fn try_set(
-    rule: u32,
-    unit_prices: &[u32],
-    gap: &[u32],
-    hours: &[u32],
-    blocks: &[u32],
-    count: usize,
-    set: [bool; MOST_BLOCKS],
-) -> Trial
-    requires { TablesHeld unit_prices.now gap.now hours.now blocks.now count }
-    ensures { (result.loss ≤ most_guess) × (result.worst < most_blocks) }
+// A set tried by a rule; none where an hour does not clear.
+pub fn try_set(rule: Rule, tables: &Tables, set: [bool; MOST_BLOCKS]) -> Option<Trial>
+    requires { Held tables.now }
+    ensures { IfSome result Safe }
 {
+    let hours = tables.hours;
+    let blocks = tables.blocks;
+    let count = tables.count as usize;
     let often = hours[CHANGE];
     let places = places_of(blocks, count, set);
-    let gaps = counted_gaps(gap, &hours[FIRST..LAST], &hours[LAST..TURN], places, often);
-    if !gaps.clears {
-        return Trial {
-            clears: false,
-            loss: 0,
-            misses: false,
-            worst: 0,
-        };
-    }
-    let prices = counted_prices(prices_at(unit_prices, places), often);
-    let missing = missing_in(rule, blocks, count, set, &prices);
-    Trial {
-        clears: true,
-        loss: losses_of(blocks, count, set) + gaps.sum,
-        misses: missing.any,
-        worst: missing.worst as usize,
-    }
+    let gaps = counted_gaps(
+        tables.gap,
+        &hours[FIRST..LAST],
+        &hours[LAST..TURN],
+        places,
+        often,
+    )?;
+    let prices = counted_prices(prices_at(tables.unit_prices, places), often);
+    Some(match missing_in(rule, blocks, count, set, &prices) {
+        Some(worst) => Trial::Misses(worst),
+        None => Trial::Keeps(losses_of(blocks, count, set) + gaps),
+    })
 }

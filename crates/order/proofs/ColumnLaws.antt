@@ -6,15 +6,12 @@ use mathlib.Core.List.{List}
 use native.Mathlib.Omega.{arith}
 use native.Mathlib.Decide.{dec_le}
 use native.Mathlib.Nat.{lt_of_not-le}
-use native.Mathlib.Numerals.{add-one}
-use lib.ListN.{length, get_or, set, replicate, length-set}
-use lib.Seq.{get_or-set_same, get_or-set_other}
+use lib.ListN.{length, get_or, replicate}
 use Rattle.rules.proofs.Ranks.{rank_of, rank-small}
 use Rattle.book.specs.Bounds.{most_blocks}
 use Rattle.orders.proofs.ColumnLaws.{zeros}
 use Rattle.places.specs.Layout.{hour_places, most_added, parent_column, ahead_column, behind_column, rank_column, rows_column, block_list_size}
 use Rattle.places.specs.Blocks.{parent_at, ahead_at, behind_at, rank_at, row_quantity, BlocksSized}
-use Rattle.places.proofs.NumberLaws.{below_next}
 use Rattle.order.specs.Order.{Words, placed_name, IsOrderOf, Reordered}
 use Rattle.order.specs.Written.{earlier_name, column_number, ColumnsIn, LinksIn, RowsIn}
 use Rattle.order.proofs.NameLaws.{earlier-le, earlier-is}
@@ -37,41 +34,6 @@ module _ (count : ℕ) (order blocks : List ℕ) where
     none = λ i a. zeros block_list_size i;
   }
 
-  -- one of a place that is taken is copied
-  pub columns-next : (k : ℕ) (r : List ℕ) → ColumnsTo k r → k < parent_column → k % most_blocks < count →
-      ColumnsTo (k + 1) (set r k (column_number order blocks k))
-  columns-next k r c below taken = record {
-    inside = omega arith;
-    size = rw length-set c.size;
-    done = λ i a. below_next (λ i. i % most_blocks < count → get_or (set r k (column_number order blocks k)) i 0 ≡ column_number order blocks i) k i
-        (λ b t. get_or-set_other r k i (column_number order blocks k) 0 (λ e. omega arith) ∙ c.done i b t)
-        (λ t. get_or-set_same r k (column_number order blocks k) 0 (omega (arith, c.size))) (rw add-one at a);
-    empty = λ i a. below_next (λ i. count ≤ i % most_blocks → get_or (set r k (column_number order blocks k)) i 0 ≡ 0) k i
-        (λ b t. get_or-set_other r k i (column_number order blocks k) 0 (λ e. omega arith) ∙ c.empty i b t)
-        (λ t. absurd (omega arith)) (rw add-one at a);
-    none = λ i a. get_or-set_other r k i (column_number order blocks k) 0 (λ e. omega arith) ∙ c.none i (omega arith);
-  }
-
-  -- one of a place that is not stays 0
-  pub columns-skip : (k : ℕ) (r : List ℕ) → ColumnsTo k r → k < parent_column → count ≤ k % most_blocks → ColumnsTo (k + 1) r
-  columns-skip k r c below out = record {
-    inside = omega arith;
-    size = c.size;
-    done = λ i a. below_next (λ i. i % most_blocks < count → get_or r i 0 ≡ column_number order blocks i) k i
-        (λ b t. c.done i b t) (λ t. absurd (omega arith)) (rw add-one at a);
-    empty = λ i a. below_next (λ i. count ≤ i % most_blocks → get_or r i 0 ≡ 0) k i
-        (λ b t. c.empty i b t) (λ t. c.none k (omega arith)) (rw add-one at a);
-    none = λ i a. c.none i (omega arith);
-  }
-
-  pub columns-all : (k : ℕ) (r : List ℕ) → ColumnsTo k r → parent_column ≤ k → ColumnsIn count order blocks r
-  columns-all k r c all = record {
-    size = c.size;
-    columns = λ i a t. c.done i (omega arith) t;
-    empty = λ i a t. c.empty i (omega arith) t;
-    none = λ i a. c.none i (omega (arith, c.inside));
-  }
-
 -- THE PARENTS, TWINS AND RANKS, place after place
 module _ (count : ℕ) (order place blocks before : List ℕ) where
   pub record LinksTo (j : ℕ) (r : List ℕ) : Type 0 where
@@ -85,109 +47,6 @@ module _ (count : ℕ) (order place blocks before : List ℕ) where
     pub rank_is : (i : ℕ) → i < j → rank_at r i ≡ rank_of (get_or order i 0)
     pub none : (i : ℕ) → j ≤ i → i < most_blocks → (parent_at r i ≡ 0) × (ahead_at r i ≡ 0) × (behind_at r i ≡ 0) × (rank_at r i ≡ 0)
 
-  pub links-start : ColumnsIn count order blocks before → LinksTo 0 before
-  links-start c = record {
-    inside = omega arith;
-    size = c.size;
-    columns = λ k a. refl;
-    rows = λ k a. refl;
-    parent_is = λ i a. absurd (omega arith);
-    ahead_is = λ i a. absurd (omega arith);
-    behind_is = λ i a. absurd (omega arith);
-    rank_is = λ i a. absurd (omega arith);
-    none = λ i a b. (
-      c.none (parent_column + i) (omega arith),
-      c.none (ahead_column + i) (omega arith),
-      c.none (behind_column + i) (omega arith),
-      c.none (rank_column + i) (omega arith),
-    );
-  }
-
-  pub links-next : (j : ℕ) (r : List ℕ) (parent ahead behind rank : ℕ) → LinksTo j r → j < count → count ≤ most_blocks →
-      parent ≡ placed_name place (parent_at blocks (get_or order j 0)) → ahead ≡ earlier_name place count j (ahead_at blocks (get_or order j 0)) →
-      behind ≡ earlier_name place count j (behind_at blocks (get_or order j 0)) → rank ≡ rank_of (get_or order j 0) →
-      LinksTo (j + 1) (set (set (set (set r (parent_column + j) parent) (ahead_column + j) ahead) (behind_column + j) behind) (rank_column + j) rank)
-  links-next j r parent ahead behind rank l below few p a b e = record {
-    inside = omega arith;
-    size = rw length-set size₃;
-    columns = λ k c. other k (λ z. omega arith) (λ z. omega arith) (λ z. omega arith) (λ z. omega arith) ∙ l.columns k c;
-    rows = λ k c. other k (λ z. omega arith) (λ z. omega arith) (λ z. omega arith) (λ z. omega arith) ∙ l.rows k c;
-    parent_is = λ i c. below_next (λ i. parent_at r₄ i ≡ placed_name place (parent_at blocks (get_or order i 0))) j i
-        (λ d. other (parent_column + i) (λ z. omega arith) (λ z. omega arith) (λ z. omega arith) (λ z. omega arith) ∙ l.parent_is i d) (parent-here ∙ p) (rw add-one at c);
-    ahead_is = λ i c. below_next (λ i. ahead_at r₄ i ≡ earlier_name place count i (ahead_at blocks (get_or order i 0))) j i
-        (λ d. other (ahead_column + i) (λ z. omega arith) (λ z. omega arith) (λ z. omega arith) (λ z. omega arith) ∙ l.ahead_is i d) (ahead-here ∙ a) (rw add-one at c);
-    behind_is = λ i c. below_next (λ i. behind_at r₄ i ≡ earlier_name place count i (behind_at blocks (get_or order i 0))) j i
-        (λ d. other (behind_column + i) (λ z. omega arith) (λ z. omega arith) (λ z. omega arith) (λ z. omega arith) ∙ l.behind_is i d) (behind-here ∙ b) (rw add-one at c);
-    rank_is = λ i c. below_next (λ i. rank_at r₄ i ≡ rank_of (get_or order i 0)) j i
-        (λ d. other (rank_column + i) (λ z. omega arith) (λ z. omega arith) (λ z. omega arith) (λ z. omega arith) ∙ l.rank_is i d) (rank-here ∙ e) (rw add-one at c);
-    none = λ i c d.
-        let n = l.none i (omega arith) d in (
-          other (parent_column + i) (λ z. omega arith) (λ z. omega arith) (λ z. omega arith) (λ z. omega arith) ∙ n.0,
-          other (ahead_column + i) (λ z. omega arith) (λ z. omega arith) (λ z. omega arith) (λ z. omega arith) ∙ n.1,
-          other (behind_column + i) (λ z. omega arith) (λ z. omega arith) (λ z. omega arith) (λ z. omega arith) ∙ n.2,
-          other (rank_column + i) (λ z. omega arith) (λ z. omega arith) (λ z. omega arith) (λ z. omega arith) ∙ n.3,
-        );
-  }
-    where
-      r₁ : List ℕ
-      r₁ = set r (parent_column + j) parent
-
-      r₂ : List ℕ
-      r₂ = set r₁ (ahead_column + j) ahead
-
-      r₃ : List ℕ
-      r₃ = set r₂ (behind_column + j) behind
-
-      r₄ : List ℕ
-      r₄ = set r₃ (rank_column + j) rank
-
-      size₁ : length r₁ ≡ block_list_size
-      size₁ = length-set r (parent_column + j) parent ∙ l.size
-
-      size₂ : length r₂ ≡ block_list_size
-      size₂ = length-set r₁ (ahead_column + j) ahead ∙ size₁
-
-      size₃ : length r₃ ≡ block_list_size
-      size₃ = length-set r₂ (behind_column + j) behind ∙ size₂
-
-      other : (at : ℕ) → (at ≡ parent_column + j → ⊥) → (at ≡ ahead_column + j → ⊥) → (at ≡ behind_column + j → ⊥) → (at ≡ rank_column + j → ⊥) →
-          get_or r₄ at 0 ≡ get_or r at 0
-      other at e₀ e₁ e₂ e₃ =
-          get_or-set_other r₃ (rank_column + j) at rank 0 e₃ ∙ get_or-set_other r₂ (behind_column + j) at behind 0 e₂
-          ∙ get_or-set_other r₁ (ahead_column + j) at ahead 0 e₁ ∙ get_or-set_other r (parent_column + j) at parent 0 e₀
-
-      parent-here : parent_at r₄ j ≡ parent
-      parent-here =
-          get_or-set_other r₃ (rank_column + j) (parent_column + j) rank 0 (λ z. omega arith)
-          ∙ get_or-set_other r₂ (behind_column + j) (parent_column + j) behind 0 (λ z. omega arith)
-          ∙ get_or-set_other r₁ (ahead_column + j) (parent_column + j) ahead 0 (λ z. omega arith)
-          ∙ get_or-set_same r (parent_column + j) parent 0 (omega (arith, l.size))
-
-      ahead-here : ahead_at r₄ j ≡ ahead
-      ahead-here =
-          get_or-set_other r₃ (rank_column + j) (ahead_column + j) rank 0 (λ z. omega arith)
-          ∙ get_or-set_other r₂ (behind_column + j) (ahead_column + j) behind 0 (λ z. omega arith)
-          ∙ get_or-set_same r₁ (ahead_column + j) ahead 0 (omega (arith, size₁))
-
-      behind-here : behind_at r₄ j ≡ behind
-      behind-here =
-          get_or-set_other r₃ (rank_column + j) (behind_column + j) rank 0 (λ z. omega arith) ∙ get_or-set_same r₂ (behind_column + j) behind 0 (omega (arith, size₂))
-
-      rank-here : rank_at r₄ j ≡ rank
-      rank-here = get_or-set_same r₃ (rank_column + j) rank 0 (omega (arith, size₃))
-
-  pub links-all : (j : ℕ) (r : List ℕ) → LinksTo j r → count ≤ j → LinksIn count order place blocks before r
-  links-all j r l all = record {
-    size = l.size;
-    columns = l.columns;
-    rows = l.rows;
-    parent_is = λ i k. l.parent_is i (omega arith);
-    ahead_is = λ i k. l.ahead_is i (omega arith);
-    behind_is = λ i k. l.behind_is i (omega arith);
-    rank_is = λ i k. l.rank_is i (omega arith);
-    none = λ i k. l.none i (omega (arith, l.inside));
-  }
-
 -- THE ROWS, number after number
 module _ (count : ℕ) (order blocks before : List ℕ) where
   -- what stands at place k of the rows
@@ -200,20 +59,6 @@ module _ (count : ℕ) (order blocks before : List ℕ) where
     pub same : (i : ℕ) → i < rows_column → get_or r i 0 ≡ get_or before i 0
     pub done : (i : ℕ) → i < k → get_or r (rows_column + i) 0 ≡ row_number i
     pub rest : (i : ℕ) → rows_column + k ≤ i → get_or r i 0 ≡ get_or before i 0
-
-  pub rows_start : length before ≡ block_list_size → RowsTo 0 before
-  rows_start size = record { inside = omega arith; size = size; same = λ i a. refl; done = λ i a. absurd (omega arith); rest = λ i a. refl }
-
-  pub rows_next : (k : ℕ) (r : List ℕ) → RowsTo k r → count ≤ most_blocks → k < hour_places * count → RowsTo (k + 1) (set r (rows_column + k) (row_number k))
-  rows_next k r d few below = record {
-    inside = omega arith;
-    size = rw length-set d.size;
-    same = λ i a. get_or-set_other r (rows_column + k) i (row_number k) 0 (λ e. omega arith) ∙ d.same i a;
-    done = λ i a. below_next (λ i. get_or (set r (rows_column + k) (row_number k)) (rows_column + i) 0 ≡ row_number i) k i
-        (λ b. get_or-set_other r (rows_column + k) (rows_column + i) (row_number k) 0 (λ e. omega arith) ∙ d.done i b)
-        (get_or-set_same r (rows_column + k) (row_number k) 0 (omega (arith, d.size))) (rw add-one at a);
-    rest = λ i a. get_or-set_other r (rows_column + k) i (row_number k) 0 (λ e. omega arith) ∙ d.rest i (omega arith);
-  }
 
   pub rows_all : (k : ℕ) (r : List ℕ) → RowsTo k r → hour_places * count ≤ k → RowsIn count order blocks before r
   rows_all k r d all = record {

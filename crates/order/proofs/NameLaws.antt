@@ -1,10 +1,10 @@
 -- BLOCKS NAMED BY THEIR PLACES: what a name comes to, and a twin's where it stands before a place. Assumes nothing.
-use Prim.Native.Nat.{ℕ, zero, suc, ◌-◌, ◌≤◌, ◌<◌}
+use Prim.Native.Nat.{ℕ, zero, suc, ◌+◌, ◌-◌, ◌≤◌, ◌<◌}
 use mathlib.Core.Bool.{true, false, ◌&&◌}
 use mathlib.Core.Path.{◌≡◌, refl, ap}
 use mathlib.Core.List.{List}
 use native.Mathlib.Omega.{arith}
-use native.Mathlib.Numerals.{sub-one}
+use native.Mathlib.Numerals.{add-one, sub-one}
 use lib.Dec.{leb}
 use lib.ListN.{get_or}
 use borrow.Author.Tests.{leb-true, le-leb, lt-leb, eq-eqb, ne_eqb}
@@ -22,6 +22,10 @@ name-none place name e = rw (eq-eqb name 0 e)
 pub name-some : (place : List ℕ) (name : ℕ) → 0 < name → placed_name place name ≡ suc (get_or place (name - 1) 0)
 unfolding placed_name
 name-some place name some = rw (ne_eqb name 0 (λ e. omega arith))
+
+-- as the code says it: that of block i, whose number is the name less 1
+pub name-at : (place : List ℕ) (name i : ℕ) → (1 ≤ name) × (i ≡ name - 1) → get_or place i 0 + 1 ≡ placed_name place name
+name-at place name i is = rw (name-some place name (omega arith), add-one, is.1)
 
 -- so of block k its place and 1
 pub name-suc : (place : List ℕ) (k : ℕ) → placed_name place (suc k) ≡ suc (get_or place k 0)

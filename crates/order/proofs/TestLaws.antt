@@ -1,18 +1,19 @@
 -- WHETHER A LIST IS AN ORDER: the tests of all places pass exactly where it is one. Assumes nothing.
-use Prim.Native.Nat.{ℕ, zero, suc, ◌+◌, ◌-◌, ◌≤◌, ◌<◌}
+use Prim.Native.Nat.{ℕ, zero, suc, ◌-◌, ◌≤◌, ◌<◌}
 use mathlib.Core.Bool.{Bool, true, false, ◌&&◌}
-use mathlib.Core.Path.{◌≡◌, refl, sym, ap, ◌∙◌}
+use mathlib.Core.Path.{◌≡◌, sym, ◌∙◌}
 use mathlib.Core.List.{List}
 use native.Mathlib.Omega.{arith}
-use native.Mathlib.Numerals.{add-one}
+use native.Mathlib.Nat.{zero-add}
 use lib.Dec.{ltb, leb, eqb}
-use lib.ListN.{length, get_or, set}
-use lib.Seq.{get_or-set_same, get_or-set_other}
+use lib.ListN.{get_or}
 use borrow.Author.Tests.{ltb-true, lt-ltb, le-ltb, leb-true, le-leb, eqb-true, eq-eqb, ne_eqb}
+use Rattle.std.specs.List.{range_with_len}
+use Rattle.std.proofs.lemmas.List.FromFn.{length-range_with_len, get_or-range_with_len}
+use Rattle.std.proofs.lemmas.List.Sums.{AllPass-from_list_all, list_all-from_AllPass}
 use Rattle.rules.proofs.Tests.{both}
 use Rattle.book.specs.Bounds.{most_blocks}
 use Rattle.places.specs.Blocks.{parent_at, BlocksSized}
-use Rattle.places.proofs.NumberLaws.{below_next}
 use Rattle.order.specs.Order.{placed_name, IsOrderOf}
 use Rattle.order.specs.Written.{stands_at, all_stand, EachItself}
 
@@ -70,32 +71,24 @@ module _ (blocks : List ℕ) (count : ℕ) (order place : List ℕ) where
   both-in j before a b e = rw (lt-ltb (get_or order j 0) count a, lt-ltb (get_or place j 0) count b, e)
 
   -- ALL PLACES
-  all-next : (n : ℕ) → all_stand blocks count order place (suc n) ≡ (all_stand blocks count order place n && stands_at blocks count order place n)
+  each : all_stand blocks count order place count ≡ true → (j : ℕ) → j < count → Stands blocks count order place j
   unfolding all_stand
-  all-next n = refl
+  each e j k =
+      let size = length-range_with_len 0 count in
+      let here = AllPass-from_list_all (stands_at blocks count order place) (range_with_len 0 count) e j 0 (omega (arith, size)) in
+      stands-true j (rw (get_or-range_with_len 0 count j 0 k, zero-add j) at here)
 
-  pub all-one-more : (n : ℕ) (all here : Bool) → all ≡ all_stand blocks count order place n → here ≡ stands_at blocks count order place n →
-      (all && here) ≡ all_stand blocks count order place (n + 1)
-  all-one-more n all here e f = rw (add-one n, all-next n, e, f)
-
-  pub all_none : true ≡ all_stand blocks count order place 0
+  all_true : ((j : ℕ) → j < count → Stands blocks count order place j) → all_stand blocks count order place count ≡ true
   unfolding all_stand
-  all_none = refl
-
-  each : (n : ℕ) → all_stand blocks count order place n ≡ true → (j : ℕ) → j < n → Stands blocks count order place j
-  each zero e j k = absurd (omega arith)
-  each (suc n) e j k =
-      let two = both (all_stand blocks count order place n) (stands_at blocks count order place n) (sym (all-next n) ∙ e) in
-      below_next (Stands blocks count order place) n j (each n two.0 j) (stands-true n two.1) k
-
-  all_true : (n : ℕ) → ((j : ℕ) → j < n → Stands blocks count order place j) → all_stand blocks count order place n ≡ true
-  all_true zero s = sym all_none
-  all_true (suc n) s = rw (all-next n, all_true n (λ j k. s j (omega arith)), true-stands n (s n (omega arith)))
+  all_true s =
+      list_all-from_AllPass (stands_at blocks count order place) (range_with_len 0 count) (λ j d k.
+      let k : j < count = omega (arith, length-range_with_len 0 count, k) in
+      rw (get_or-range_with_len 0 count j d k, zero-add j) (true-stands j (s j k)))
 
   -- the tests pass where it is an order, and nowhere else
-  pub ordered : (n : ℕ) (all : Bool) → n ≡ count → all ≡ all_stand blocks count order place n → all ≡ true → IsOrderOf blocks count order place
-  ordered n all whole e passes =
-      let s = each count (ap (all_stand blocks count order place) (sym whole) ∙ sym e ∙ passes) in
+  pub ordered : (all : Bool) → all ≡ all_stand blocks count order place count → all ≡ true → IsOrderOf blocks count order place
+  ordered all e passes =
+      let s = each (sym e ∙ passes) in
       record {
         order_in = λ j k. (s j k).order_in;
         place_in = λ i k. (s i k).place_in;
@@ -104,9 +97,9 @@ module _ (blocks : List ℕ) (count : ℕ) (order place : List ℕ) where
         parents_before = λ j k. (s j k).parent_before;
       }
 
-  pub passes-ordered : (n : ℕ) (all : Bool) → n ≡ count → all ≡ all_stand blocks count order place n → IsOrderOf blocks count order place → all ≡ true
-  passes-ordered n all whole e o =
-      e ∙ ap (all_stand blocks count order place) whole ∙ all_true count (λ j k. record {
+  pub passes-ordered : (all : Bool) → all ≡ all_stand blocks count order place count → IsOrderOf blocks count order place → all ≡ true
+  passes-ordered all e o =
+      e ∙ all_true (λ j k. record {
         order_in = o.order_in j k;
         place_in = o.place_in j k;
         there = o.there j k;
@@ -114,25 +107,19 @@ module _ (blocks : List ℕ) (count : ℕ) (order place : List ℕ) where
         parent_before = o.parents_before j k;
       })
 
--- THE NUMBERS THEMSELVES are an order, since a parent's number is the lower one
-pub itself-order : (blocks : List ℕ) (count : ℕ) (l : List ℕ) → BlocksSized blocks → count ≤ most_blocks → EachItself l → IsOrderOf blocks count l l
+-- THE NUMBERS THEMSELVES are an order and the places in it, since a parent's number is the lower one
+pub itself-order : (blocks : List ℕ) (count : ℕ) (order place : List ℕ) → BlocksSized blocks → count ≤ most_blocks → EachItself order → EachItself place →
+    IsOrderOf blocks count order place
 unfolding placed_name
-itself-order blocks count l sized few itself = record {
-  order_in = λ i k. rw (itself i (omega arith)) k;
-  place_in = λ i k. rw (itself i (omega arith)) k;
-  there = λ j k. rw (itself j (omega arith)) (itself j (omega arith));
-  back = λ j k. rw (itself j (omega arith)) (itself j (omega arith));
-  parents_before = λ j k. rw (itself j (omega arith)) (own (parent_at blocks j) j (omega arith) (sized.parents_fit j (omega arith)));
+itself-order blocks count order place sized few of at = record {
+  order_in = λ i k. rw (of i (omega arith)) k;
+  place_in = λ i k. rw (at i (omega arith)) k;
+  there = λ j k. rw (of j (omega arith)) (at j (omega arith));
+  back = λ j k. rw (at j (omega arith)) (of j (omega arith));
+  parents_before = λ j k. rw (of j (omega arith)) (own (parent_at blocks j) j (omega arith) (sized.parents_fit j (omega arith)));
 }
   where
     -- a name by its place is the name
-    own : (name j : ℕ) → j < most_blocks → name ≤ j → placed_name l name ≤ j
+    own : (name j : ℕ) → j < most_blocks → name ≤ j → placed_name place name ≤ j
     own zero j few le = omega arith
-    own (suc k) j few le = let e : suc k - 1 ≡ k = omega arith in rw (ne_eqb (suc k) 0 (λ z. omega arith), e, itself k (omega arith)) le
-
--- place after place
-pub itself-next : (i : ℕ) (r : List ℕ) → length r ≡ most_blocks → i < most_blocks → ((k : ℕ) → k < i → get_or r k 0 ≡ k) →
-    (k : ℕ) → k < i + 1 → get_or (set r i i) k 0 ≡ k
-itself-next i r size inside done k below =
-    below_next (λ k. get_or (set r i i) k 0 ≡ k) i k (λ b. get_or-set_other r i k i 0 (λ e. omega arith) ∙ done k b)
-    (get_or-set_same r i i 0 (omega arith)) (rw add-one at below)
+    own (suc k) j few le = let e : suc k - 1 ≡ k = omega arith in rw (ne_eqb (suc k) 0 (λ z. omega arith), e, at k (omega arith)) le

@@ -1,6 +1,7 @@
 -- WHAT PRIVATE FUNCTIONS TEST AND WRITE: whether a list is an order, and the columns and rows of the blocks in an order, one after another. No reader of a
 -- result needs them. Definitions only. Assumes nothing.
-use Rattle.std.specs.Prelude.{ℕ, zero, suc, ◌+◌, ◌-◌, ◌*◌, ◌%◌, ◌≤◌, ◌<◌, Bool, true, ◌&&◌, List, ◌≡◌, ltb, leb, eqb, length, get_or}
+use Rattle.std.specs.Prelude.{ℕ, ◌+◌, ◌-◌, ◌*◌, ◌%◌, ◌≤◌, ◌<◌, Bool, ◌&&◌, List, ◌≡◌, ltb, leb, eqb, length, get_or}
+use Rattle.std.specs.List.{list_all, range_with_len}
 use Rattle.rules.specs.Hour.{when}
 use Rattle.rules.proofs.Ranks.{rank_of}
 use Rattle.book.specs.Bounds.{most_blocks}
@@ -18,8 +19,7 @@ stands_at blocks count order place j =
 
 -- The same of each of the first n.
 unfoldable pub all_stand : (blocks : List ℕ) (count : ℕ) (order place : List ℕ) (n : ℕ) → Bool
-all_stand blocks count order place zero = true
-all_stand blocks count order place (suc j) = all_stand blocks count order place j && stands_at blocks count order place j
+all_stand blocks count order place n = list_all (stands_at blocks count order place) (range_with_len 0 n)
 
 -- Each number of a list is its own place.
 abbrev pub EachItself : List ℕ → Type 0

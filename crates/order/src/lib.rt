@@ -2,6 +2,10 @@
 // is right, so of the choice only safety matters; the test and the columns are proved. Assumes nothing.
 #![tactic(auto)]
 
+ghost use Rattle.std.specs.Prelude.{◌≤◌};
+ghost use Rattle.book.specs.Bounds.{most_blocks};
+ghost use Rattle.places.specs.Blocks.{BlocksSized};
+
 pub use columns::reordered;
 pub use numbered::by_number;
 use places::layout::MOST_BLOCKS;
@@ -18,4 +22,13 @@ mod tested; // whether a list is an order
 pub struct Order {
     pub blocks: [usize; MOST_BLOCKS],
     pub places: [usize; MOST_BLOCKS],
+}
+
+// The columns and rows of the blocks, as the search reads them, and how many blocks there are.
+#[derive(Clone, Copy)]
+struct Listed<'a> {
+    blocks: &'a [u32],
+    count: usize,
+    ghost sized: { BlocksSized blocks.now },
+    ghost few: { count ≤ most_blocks },
 }

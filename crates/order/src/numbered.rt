@@ -3,18 +3,16 @@ ghost use Rattle.std.specs.Prelude.{◌≤◌};
 ghost use Rattle.book.specs.Bounds.{most_blocks};
 ghost use Rattle.order.specs.Order.{EachBelow, ByNumber};
 
-use places::layout::MOST_BLOCKS;
+use crate::Order;
 
 // The blocks at the places of a set, by their numbers: block i is in it where its place is in the set.
-pub fn by_number(set: u32, place: [usize; MOST_BLOCKS], count: usize) -> u32
-    requires { (count ≤ most_blocks) × EachBelow count count place }
-    ensures { ByNumber count place set result }
+pub fn by_number(set: u32, order: &Order, count: usize) -> u32
+    requires { (count ≤ most_blocks) × EachBelow count count order.now.places }
+    ensures { ByNumber count order.now.places set result }
 {
     let mut numbered: u32 = 0;
-    let mut i = count;
-    while 0 < i {
-        i -= 1;
-        let held = (set >> place[i]) % 2;
+    for i in (0..count).rev() {
+        let held = (set >> order.places[i]) % 2;
         numbered = numbered * 2 + held;
     }
     numbered

@@ -29,8 +29,7 @@ use Rattle.rules.proofs.LinkLaws.{place_from, number_at, parent_place}
 use Rattle.orders.specs.Layout.{block_places}
 use Rattle.orders.specs.Bridge.{block_from, block_on, link_from, orders_of, day_from}
 use Rattle.orders.specs.Columns.{block_records, padded, parent_among, place_among, parent_place_in, parent_place_at, parent_column}
-use Rattle.orders.specs.Passes.{ChainFollowed}
-use Rattle.orders.proofs.ColumnLaws.{zeros, padded-front, Filled, front-all}
+use Rattle.orders.proofs.ColumnLaws.{zeros, Filled, filled-all}
 use Rattle.orders.proofs.BridgeLaws.{day-blocks}
 use Rattle.orders.proofs.RecordLaws.{block-records-fit, blocks-all}
 
@@ -70,12 +69,12 @@ parents-none b e =
     sym (rw (size, none-linked b l e l) (zeros-join (length l) 32 (block-records-fit b)))
 
 -- The column is filled
-pub parents-filled : (b : List ℕ) (first count i : ℕ) (index parents : List ℕ) → first ≡ first_block b → i ≡ count → ChainFollowed b first 32 count index
-    → Filled 32 (parent_place_at b (take count index)) (take count index) i parents → parents ≡ parent_column b
+pub parents-filled : (b : List ℕ) (first i : ℕ) (index parents : List ℕ) → first ≡ first_block b → length index ≡ i → index ≡ take 32 (chain b first)
+    → Filled 32 (parent_place_at b index) index i parents → parents ≡ parent_column b
 unfolding parent_column block_records block_order
-parents-filled b first count i index parents f e chained filled =
-    let whole : take count index ≡ block_records b = padded-front 2048 count _ index (sym chained.counted) chained.records_are ∙ rw f in
-    rw (← whole) (front-all 32 (parent_place_at b (take count index)) count index i parents e chained.fits filled)
+parents-filled b first i index parents f e chained filled =
+    let whole : index ≡ block_records b = chained ∙ rw f in
+    rw (← whole) (filled-all 32 (parent_place_at b index) index i parents e filled)
 
 -- THE LINKS OF THE DAY
 pub day-links : (b : List ℕ) → (day_from b).links ≡ map (link_from b) (link_order b)

@@ -3,4 +3,5 @@ pub mod Layout
 pub mod Bridge
 pub mod Columns
 pub mod Passes
+pub mod HourSteps
 pub mod WorkedBooks

@@ -3,10 +3,12 @@
 use Prim.Native.Nat.{ℕ, zero, suc, ◌+◌, ◌-◌, ◌*◌, ◌/◌, ◌^◌, ◌≤◌, ◌<◌}
 use mathlib.Core.Path.{◌≡◌, refl, sym, ap, ◌∙◌}
 use mathlib.Core.List.{List, []}
-use mathlib.Core.Bool.{Bool, false, not, ◌||◌}
+use mathlib.Core.Bool.{Bool, true, false, not, ◌||◌}
 use native.Mathlib.Numerals.{add-one}
 use lib.Dec.{eqb}
 use native.Mathlib.Omega.{arith}
+use native.Mathlib.Decide.{ℕ_discrete}
+use borrow.Author.Tests.{ne_eqb}
 use native.Mathlib.Nat.{mul-le-mul_right}
 use lib.ListN.{length, drop, get_or, replicate, length-replicate}
 use lib.Pow.{shr_le, pow_pos, pow_mono}
@@ -56,10 +58,6 @@ pass-from e kept explored = (rw e at kept, rw e at explored)
 
 pub start-held : {limit fuel : ℕ} {start : Best} → start ≡ start_at limit fuel → limit ≤ 2 * last_limit → Held start
 start-held e fits = rw e record { limit_fits = fits; tie_fits = omega arith }
-
--- where no set is found, no fuel says so
-pub none_found : {r : Best} {A : Type 0} → r ≡ start_at 0 0 → 0 < r.fuel → A
-none_found e some = absurd (omega (arith, ap (λ (b : Best). b.fuel) e))
 
 -- what is below the limit in loss is so in cost
 below-limit : (limit loss tie : ℕ) → tie ≤ most_loss → loss < limit → loss * tie_room + tie < limit * tie_room + 0
@@ -174,10 +172,19 @@ pub fuel-left : {tables : Tables} {steps : ℕ → List Step} {limit fuel : ℕ}
     Passed tables steps limit fuel r → 0 < r.fuel
 fuel-left {tables} few enough pass = omega (arith, pass.0.fuel_spent, pow_mono {i = tables.count} {j = 32} few)
 
--- WHETHER BLOCKS ARE LINKED, one block after another
-pub linked-next : (blocks : List ℕ) (i : ℕ) {linked : Bool} → linked ≡ is_linked blocks i → (linked || not (eqb (parent_at blocks i) 0)) ≡ is_linked blocks (i + 1)
+-- WHETHER BLOCKS ARE LINKED: none of the first ones and one more, or one of them
+pub linked-none : (blocks : List ℕ) (i : ℕ) → is_linked blocks i ≡ false → parent_at blocks i ≡ 0 → is_linked blocks (i + 1) ≡ false
 unfolding is_linked
-linked-next blocks i e = rw (e, add-one) refl
+linked-none blocks i none z = rw (add-one, none, z) refl
 
-pub linked-all : (blocks : List ℕ) {count i : ℕ} {linked : Bool} → i ≤ count → count ≤ i → linked ≡ is_linked blocks i → linked ≡ is_linked blocks count
-linked-all blocks {count} {i} inside all e = let same : i ≡ count = omega arith in rw same at e
+pub linked-some : (blocks : List ℕ) (i n : ℕ) → i < n → (parent_at blocks i ≡ 0 → ⊥) → is_linked blocks n ≡ true
+unfolding is_linked
+linked-some blocks i zero inside named = absurd (omega arith)
+linked-some blocks i (suc n) inside named = elim (ℕ_discrete i n) [
+  | yes z ↦ rw (ne_eqb (parent_at blocks n) 0 (rw z at named)) (last (is_linked blocks n))
+  | no z ↦ rw (linked-some blocks i n (omega arith) named) refl
+]
+  where
+    last : (b : Bool) → (b || true) ≡ true
+    last true = refl
+    last false = refl

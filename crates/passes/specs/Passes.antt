@@ -1,23 +1,22 @@
 -- WHAT THE PASSES PROMISE: one pass over all blocks, the light passes, the heavy ones, and all together. Definitions only. Assumes nothing.
-use Rattle.std.specs.Prelude.{ℕ, zero, suc, ◌+◌, ◌*◌, ◌^◌, ◌≤◌, ◌<◌, Bool, true, false, not, ◌||◌, eqb, List, ◌≡◌, length, replicate}
+use Rattle.std.specs.Prelude.{ℕ, zero, suc, ◌+◌, ◌*◌, ◌^◌, ◌≤◌, ◌<◌, Bool, true, false, not, ◌||◌, eqb, List, ◌≡◌, length, replicate, Result, MatchResult}
 use Rattle.rules.specs.Orders.{Step}
 use Rattle.rules.specs.Day.{Day, decisions, lawful}
 use Rattle.rules.specs.Outcome.{outcome}
 use Rattle.rules.specs.Contender.{NumbersRise}
 use Rattle.places.specs.Layout.{hour_places, hour_list_size, last_limit}
 use Rattle.places.specs.Blocks.{parent_at}
-use Rattle.places.specs.Steps.{StepsSized}
-use Rattle.branches.specs.Tables.{Tables}
+use Rattle.places.specs.declared.tables.Tables as lent
+use Rattle.orders.specs.declared.Steps.{Steps}
+use Rattle.branches.specs.Tables.{Tables, seen}
 use Rattle.branches.specs.Meaning.{Sized, Known, Turning, cost_above}
 use Rattle.branches.specs.declared.Node.{Node}
-use Rattle.search.specs.Meaning.{Kept, Sought, DayOf, StepsAre, ExploredFrom}
+use Rattle.search.specs.Meaning.{Kept, Sought, DayOf, StepsAre, StepsFit, ExploredFrom}
 use Rattle.search.specs.declared.Best.{Best}
-use Rattle.passes.specs.declared.Reached.{Reached}
 
 -- WHAT IS GIVEN: the tables and the steps' columns, for safe arithmetic and indexing.
-abbrev pub Given : (t : Tables) (hours sides prices quantities ends : List ℕ) → Type 0
-Given t hours sides prices quantities ends =
-    Sized t × (length hours ≡ hour_list_size) × (length ends ≡ hour_places + 1) × StepsSized ends sides prices quantities
+abbrev pub Given : lent.Tables → Steps → Type 0
+Given tables steps = Sized (seen tables) × (length tables.hours.now ≡ hour_list_size) × StepsFit steps
 
 -- The limit of a pass, for safe arithmetic.
 abbrev pub LimitHeld : ℕ → Type 0
@@ -54,9 +53,9 @@ FoundThere t steps r =
     (day : _) (p rest : ℕ → ℕ) (set : List Bool) → StepsAre day steps → Known day p rest t → Turning t → Cheapest day p rest t set →
     (decisions t.count r.set ≡ set) × (r.set < 2 ^ t.count) × DayOf day set r.day
 
--- THE LIGHT PASSES: where fuel is left it is found; with the limit that was reached.
-abbrev pub FoundLight : (t : Tables) (steps : ℕ → List Step) (r : Reached) → Type 0
-FoundLight t steps r = (0 < r.best.fuel → FoundThere t steps r.best) × LimitHeld r.limit
+-- THE LIGHT PASSES: it is found, or a limit is reached.
+abbrev pub FoundLight : (t : Tables) (steps : ℕ → List Step) → Result Best ℕ → Type 0
+FoundLight t steps r = MatchResult r (FoundThere t steps) LimitHeld
 
 -- THE PUBLISHED SET, with its day.
 abbrev pub FoundIn : (t : Tables) (steps : ℕ → List Step) (r : Best) → Type 0

@@ -1,63 +1,36 @@
 // Passes with small limits and little fuel, without rivals: where ordinary days are found.
 ghost use Rattle.std.specs.Prelude.{◌≤◌};
 ghost use Rattle.places.specs.Layout.{last_limit};
-ghost use Rattle.places.specs.Steps.{steps_at};
-ghost use Rattle.branches.specs.Tables.{tables_of};
+ghost use Rattle.branches.specs.Tables.{seen};
+ghost use Rattle.search.specs.Meaning.{hour_steps};
 ghost use Rattle.passes.specs.Passes.{Given, LimitHeld, FoundLight};
 
-use crate::Reached;
 use crate::limits::LITTLE_FUEL;
-use crate::pass::{pass, start_at};
+use crate::pass::pass;
+use orders::Steps;
+use places::tables::Tables;
+use search::Best;
 
-// The published set, where a light pass with a limit from..to finds it before the fuel is spent: a pass that has spent it says nothing.
-pub fn find_light(
-    unit_prices: &[u32],
-    gap: &[u32],
-    hours: &[u32],
-    blocks: &[u32],
-    sides: &[u8],
-    prices: &[u32],
-    quantities: &[u32],
-    ends: &[u16],
-    count: u32,
-    from: u64,
-    to: u64,
-) -> Reached
-    requires { Given (tables_of unit_prices.now gap.now hours.now blocks.now count) hours.now sides.now prices.now quantities.now ends.now
-        × LimitHeld from × (to ≤ last_limit) }
-    ensures { FoundLight (tables_of unit_prices.now gap.now hours.now blocks.now count)
-        (steps_at ends.now sides.now prices.now quantities.now) result }
+// The published set, where a light pass with a limit from..to finds it before the fuel is spent, a pass that has spent it says nothing; else the limit that
+// was reached.
+pub fn find_light(tables: &Tables, steps: &Steps, from: u64, to: u64) -> Result<Best, u64>
+    requires { Given tables.now steps.now × LimitHeld from × (to ≤ last_limit) }
+    ensures { FoundLight (seen tables.now) (hour_steps steps.now) result }
 {
-    let mut no_rivals: [u32; 0] = [0; 0];
+    let mut no_rivals: [u32; 0] = [];
     let mut fuel = LITTLE_FUEL;
     let mut limit = from;
+    // The limit doubles from pass to pass, so this is no `for`.
     while limit <= to {
-        let found = pass(
-            unit_prices,
-            gap,
-            hours,
-            blocks,
-            sides,
-            prices,
-            quantities,
-            ends,
-            &mut no_rivals,
-            count,
-            limit,
-            fuel,
-        );
-        if (found.fuel == 0) | (found.limit < limit) {
-            return Reached {
-                best: found,
-                limit: limit,
-            };
+        let found = pass(tables, steps, &mut no_rivals, limit, fuel);
+        if found.fuel == 0 {
+            return Err(limit);
+        }
+        if found.limit < limit {
+            return Ok(found);
         }
         fuel = found.fuel;
-        limit = limit * 2;
+        limit *= 2;
     }
-    let none = start_at(0, 0);
-    Reached {
-        best: none,
-        limit: limit,
-    }
+    Err(limit)
 }

@@ -1,11 +1,13 @@
 // One pass over all blocks.
 ghost use Rattle.std.specs.Prelude.{◌≡◌};
-ghost use Rattle.places.specs.Steps.{steps_at};
-ghost use Rattle.branches.specs.Tables.{tables_of};
+ghost use Rattle.branches.specs.Tables.{seen};
+ghost use Rattle.search.specs.Meaning.{hour_steps};
 ghost use Rattle.passes.specs.Passes.{Given, LimitHeld, start_at, Passed};
 
 use branches::Node;
+use orders::Steps;
 use places::layout::HOURS;
+use places::tables::Tables;
 use search::explore::explore;
 use search::{Best, Day};
 
@@ -18,32 +20,18 @@ pub fn start_at(limit: u64, fuel: u64) -> Best
         quantities: [0; HOURS],
     };
     Best {
-        limit: limit,
+        limit,
         tie: 0,
-        fuel: fuel,
+        fuel,
         set: 0,
-        day: day,
+        day,
     }
 }
 
 // A pass over all blocks from a limit, with fuel; rivals are looked up in the table, where it has slots.
-pub fn pass(
-    unit_prices: &[u32],
-    gap: &[u32],
-    hours: &[u32],
-    blocks: &[u32],
-    sides: &[u8],
-    prices: &[u32],
-    quantities: &[u32],
-    ends: &[u16],
-    table: &mut [u32],
-    count: u32,
-    limit: u64,
-    fuel: u64,
-) -> Best
-    requires { Given (tables_of unit_prices.now gap.now hours.now blocks.now count) hours.now sides.now prices.now quantities.now ends.now × LimitHeld limit }
-    ensures { Passed (tables_of unit_prices.now gap.now hours.now blocks.now count)
-        (steps_at ends.now sides.now prices.now quantities.now) limit fuel result }
+pub fn pass(tables: &Tables, steps: &Steps, table: &mut [u32], limit: u64, fuel: u64) -> Best
+    requires { Given tables.now steps.now × LimitHeld limit }
+    ensures { Passed (seen tables.now) (hour_steps steps.now) limit fuel result }
 {
     let root = Node {
         set: 0,
@@ -51,21 +39,13 @@ pub fn pass(
         tie: 0,
         places: [0; HOURS],
     };
-    let start = start_at(limit, fuel);
     explore(
-        unit_prices,
-        gap,
-        hours,
-        blocks,
-        sides,
-        prices,
-        quantities,
-        ends,
+        tables,
+        steps,
         table,
-        count,
-        count,
+        tables.count,
         0,
         root,
-        start,
+        start_at(limit, fuel),
     )
 }

@@ -1,8 +1,8 @@
 -- What blocks add to the hours' places: a row, and one block more. Assumes nothing.
 use Prim.Native.Nat.{ℕ, suc, ◌+◌, ◌-◌, ◌*◌, ◌≤◌, ◌<◌}
-use mathlib.Core.Path.{◌≡◌, refl, ◌∙◌}
+use mathlib.Core.Path.{◌≡◌, ◌∙◌}
 use mathlib.Core.List.{List}
-use mathlib.Core.Bool.{Bool, cond}
+use mathlib.Core.Bool.{Bool}
 use native.Mathlib.Omega.{arith}
 use native.Mathlib.Numerals.{add-one, sub-one}
 use lib.ListN.{length, get_or, set, length-set}
@@ -11,7 +11,6 @@ use Rattle.rules.specs.Hour.{when}
 use Rattle.places.specs.Layout.{hour_places, most_added, rows_column}
 use Rattle.places.specs.Hours.{Small, of_hour}
 use Rattle.places.specs.Blocks.{row_quantity, added_in}
-use Rattle.rules.proofs.CurveLaws.{times-when}
 use Rattle.places.proofs.NumberLaws.{below_next}
 
 -- places that grow by at most a block's quantity
@@ -34,9 +33,6 @@ module _ (places blocks : List ℕ) (i times : ℕ) where
     pub done : (k : ℕ) → k < h → get_or r k 0 ≡ get_or places k 0 + times * get_or blocks (rows_column + hour_places * i + k) 0
     pub ahead : (k : ℕ) → h ≤ k → get_or r k 0 ≡ get_or places k 0
 
-  pub row-start : length places ≡ hour_places → RowTo 0 places
-  row-start e = record { inside = omega arith; size = e; done = λ k a. absurd (omega arith); ahead = λ k a. refl }
-
   pub row_next : (h : ℕ) (r : List ℕ) → RowTo h r → h < hour_places → RowTo (h + 1) (set r h (get_or r h 0 + times * get_or blocks (rows_column + hour_places * i + h) 0))
   row_next h r g k =
       let inside : h < length r = omega (arith, g.size) in
@@ -49,10 +45,6 @@ module _ (places blocks : List ℕ) (i times : ℕ) where
             (get_or-set_same r h v 0 inside ∙ rw (g.ahead h (omega arith))) (rw add-one at a);
         ahead = λ j a. get_or-set_other r h j v 0 (omega arith) ∙ g.ahead j (omega arith);
       }
-
-  pub row-all : (test : Bool) → times ≡ cond test 1 0 → (h : ℕ) (r : List ℕ) → RowTo h r → hour_places ≤ h → (k : ℕ) → 1 ≤ k → k ≤ hour_places →
-      get_or r (k - 1) 0 ≡ get_or places (k - 1) 0 + when test (row_quantity blocks i k)
-  row-all test t h r g e k a b = g.done (k - 1) (omega (arith, g.inside)) ∙ rw (t, times-when test (row_quantity blocks i k))
 
 -- one block more from the last on
 pub added_more : (blocks : List ℕ) (moves : ℕ → Bool) (h count i : ℕ) → 0 < i → i ≤ count →

@@ -1,7 +1,7 @@
 -- Numbers of the hours as they count: a sum over the day is the plain sum with hour 3's own number so often. Assumes nothing.
 use Prim.Native.Nat.{ℕ, ◌+◌, ◌-◌, ◌*◌, ◌^◌, ◌≤◌, ◌<◌}
-use mathlib.Core.Bool.{Bool, true, false, cond, not, false≢true}
-use mathlib.Core.Path.{◌≡◌, refl, sym, ◌∙◌}
+use mathlib.Core.Bool.{Bool, true, false, cond}
+use mathlib.Core.Path.{◌≡◌, refl, ◌∙◌}
 use mathlib.Core.List.{List}
 use native.Mathlib.Omega.{arith}
 use native.Mathlib.Nat.{mul-le-mul_right}
@@ -15,7 +15,7 @@ use Rattle.rules.proofs.HourSums.{sum_to-in, weight-else, times-apart}
 use Rattle.rules.proofs.Tests.{by-eq}
 use Rattle.records.specs.Records.{holds_hour}
 use Rattle.places.specs.Layout.{hour_places, change_row, most_counted, most_gaps, most_counted_gaps}
-use Rattle.places.specs.Hours.{Small, DayPrices, sum_of_hours, times_in, sum_over, counted_column, cell, of_hour, GapsOf}
+use Rattle.places.specs.Hours.{Small, DayPrices, sum_of_hours, times_in, sum_over, counted_column, cell, of_hour, SumOf}
 
 -- THE CODE'S SUM: each hour once, then hour 3 as often as it counts
 pub change-apart : (often : ℕ) (f : ℕ → ℕ) → sum_over often f + f change_hour ≡ sum_to hour_places f + often * f change_hour
@@ -74,29 +74,16 @@ block-sum hours column runs size =
     at h false = omega arith
 
 -- GAPS AS THEY COUNT
-module _ (often : ℕ) (gap first last places : List ℕ) where
-  -- where some hour does not clear nothing is said of a sum
-  pub gaps-barred : (clears : Bool) (sum : ℕ) → not clears ≡ true → GapsOf (sum_to hour_places) most_gaps gap first last places clears sum →
-      GapsOf (sum_over often) most_counted_gaps gap first last places clears sum
-  gaps-barred true sum e g = absurd (false≢true e)
-  gaps-barred false sum e g =
-      record { in_range = g.in_range; not_in_range = g.not_in_range; sum_is = λ e. absurd (false≢true e); fits = omega (arith, g.fits) }
+module _ {gap first last places : List ℕ} {sum : ℕ} (once : SumOf (sum_to hour_places) most_gaps gap first last places sum)
+    {own : ℕ} (is_own : own ≡ cell gap change_hour (of_hour places change_hour)) where
+  -- the gap of hour 3 is a part of the sum
+  pub own-part : own ≤ sum
+  own-part = rw (is_own, once.sum_is) (own-within (λ h. cell gap h (of_hour places h)))
 
-  pub gaps-clear : (clears : Bool) (sum : ℕ) → not clears ≡ false → GapsOf (sum_to hour_places) most_gaps gap first last places clears sum →
-      GapsOf (sum_to hour_places) most_gaps gap first last places true sum
-  gaps-clear true sum e g = g
-  gaps-clear false sum e g = absurd (false≢true (sym e))
-
-  pub gaps-counted : (sum own r : ℕ) → GapsOf (sum_to hour_places) most_gaps gap first last places true sum → own ≡ cell gap change_hour (of_hour places change_hour) →
-      r + own ≡ sum + often * own → r ≤ most_counted_gaps → GapsOf (sum_over often) most_counted_gaps gap first last places true r
-  gaps-counted sum own r g o e fits =
+  pub gaps-counted : (often r : ℕ) → r + own ≡ sum + often * own → r ≤ most_counted_gaps → SumOf (sum_over often) most_counted_gaps gap first last places r
+  gaps-counted often r e fits =
       record {
-        in_range = g.in_range;
-        not_in_range = g.not_in_range;
-        sum_is = λ t. counted_is often sum own r (λ h. cell gap h (of_hour places h)) (g.sum_is t) o e;
+        in_range = once.in_range;
+        sum_is = counted_is often sum own r (λ h. cell gap h (of_hour places h)) once.sum_is is_own e;
         fits = fits;
       }
-
-  -- the gap of hour 3 is a part of the sum
-  pub own-part : (sum own : ℕ) → GapsOf (sum_to hour_places) most_gaps gap first last places true sum → own ≡ cell gap change_hour (of_hour places change_hour) → own ≤ sum
-  own-part sum own g o = rw (o, g.sum_is refl) (own-within (λ h. cell gap h (of_hour places h)))

@@ -43,10 +43,6 @@ pub record MovedTo (places : List ℕ) (hours quantity h rest : ℕ) (r : List �
   pub done : (k : ℕ) → k < h → get_or r k 0 ≡ get_or places k 0 + when (holds_hour hours (suc k)) quantity
   pub ahead : (k : ℕ) → h ≤ k → get_or r k 0 ≡ get_or places k 0
 
-pub moved-start : (places : List ℕ) (hours quantity : ℕ) → length places ≡ hour_places → MovedTo places hours quantity 0 hours places
-moved-start places hours quantity e =
-    record { bits = sym (div-one hours); size = e; inside = omega arith; done = λ k a. absurd (omega arith); ahead = λ k a. refl }
-
 pub moved-next : (places : List ℕ) (hours quantity h rest : ℕ) (r : List ℕ) → MovedTo places hours quantity h rest r → h < hour_places →
     MovedTo places hours quantity (h + 1) (rest / 2) (set r h (get_or r h 0 + rest % 2 * quantity))
 moved-next places hours quantity h rest r m k =
@@ -65,13 +61,6 @@ moved-next places hours quantity h rest r m k =
     at j (inr a) i =
         let e : j ≡ h = omega arith in
         rw (e, get_or-set_same r h _ 0 i, m.ahead h (omega arith), bit-times rest quantity, m.bits, hour-bit hours h)
-
-pub moved_all : (places : List ℕ) (hours quantity h rest : ℕ) (r : List ℕ) → MovedTo places hours quantity h rest r → hour_places ≤ h →
-    (k : ℕ) → 1 ≤ k → k ≤ hour_places → get_or r (k - 1) 0 ≡ get_or places (k - 1) 0 + when (holds_hour hours k) quantity
-moved_all places hours quantity h rest r m e k a b =
-    let t = m.done (k - 1) (omega (arith, m.inside)) in
-    let one : suc (k - 1) ≡ k = omega arith in
-    rw one at t
 
 -- A SUM OVER THE HOURS of a block
 pub record SummedTo (column : List ℕ) (hours h rest sum : ℕ) : Type 0 where

@@ -14,11 +14,10 @@ use borrow.Author.Tests.{leb-true, le-leb, lt-leb}
 use Rattle.rules.specs.Hour.{when}
 use Rattle.rules.proofs.Tests.{by-test, both, clash}
 use Rattle.rules.proofs.CurveLaws.{when-le}
-use Rattle.book.specs.Bounds.{most_blocks}
 use Rattle.places.specs.Layout.{hour_places, most_added}
 use Rattle.places.specs.Hours.{Small, of_hour, larger, smaller}
 use Rattle.places.specs.Blocks.{side_at, against_at, gain_at, row_quantity, added_in}
-use Rattle.places.specs.Reach.{is_left, is_taken, must_move, may_move, must_from, may_from, AddedTo, RestOf, ReachOf}
+use Rattle.places.specs.Reach.{is_left, is_taken, must_move, may_move, must_from, may_from, AddedTo, AllBalance, Reaches}
 use Rattle.orders.proofs.ColumnLaws.{zeros}
 use Rattle.places.proofs.NumberLaws.{below_next, smaller-below}
 use Rattle.places.proofs.AddedLaws.{places-grow, added_more}
@@ -74,7 +73,7 @@ column-small m l size f i = elim (dec_le hour_places i) [
   | no k ↦ f i (lt_of_not-le k)
 ]
 
-module _ {first last least free : List ℕ} {balances : Bool} {from to : List ℕ} (reach : ReachOf first last least free balances from to)
+module _ {first last least free from to : List ℕ} (reach : Reaches first last least free from to)
     {m : ℕ} (small : Small m last) where
   pub to-fits : (h : ℕ) → h < hour_places → get_or to h 0 ≤ m
   to-fits h k =
@@ -84,10 +83,10 @@ module _ {first last least free : List ℕ} {balances : Bool} {from to : List �
   pub to-small : length to ≡ hour_places → Small m to
   to-small size = column-small m to size to-fits
 
-  pub from-small : balances ≡ true → length from ≡ hour_places → Small m from
-  from-small e size =
+  pub from-small : length from ≡ hour_places → Small m from
+  from-small size =
       column-small m from size (λ h k.
-      let le = rw sub-one at (reach.balanced e (suc h) (omega arith) (omega arith)) in
+      let le = rw sub-one at (reach.balanced (suc h) (omega arith) (omega arith)) in
       omega (arith, to-fits h k))
 
 -- THE LOOPS: the undecided blocks from the last on
@@ -149,16 +148,6 @@ module _ (blocks : List ℕ) (count at out loss limit : ℕ) (places : List ℕ)
             omega (arith, f h x y, when-le (may_from blocks at out loss limit (i - 1)) (row_quantity blocks (i - 1) h), few h)));
       }
 
-  pub rest_all : (i : ℕ) (least free : List ℕ) → RestTo i least free → i ≤ at → count ≤ most_blocks → RestOf blocks count at out loss limit places least free
-  rest_all i least free r k few =
-      let e : i ≡ at = omega (arith, r.from) in
-      record {
-        least_is = rw e at r.least_is;
-        free_is = rw e at r.free_is;
-        least_fits = λ j. omega (arith, r.least_fits j, r.from, r.to);
-        free_fits = λ j. omega (arith, r.free_fits j, r.from, r.to);
-      }
-
 module _ (first last least free : List ℕ) where
   abbrev lowest_at : ℕ → ℕ
   lowest_at k = larger (get_or least k 0) (get_or first k 0)
@@ -174,17 +163,6 @@ module _ (first last least free : List ℕ) where
     pub to_is : (k : ℕ) → k < h → get_or to k 0 ≡ highest_at k
     pub balanced : balances ≡ true → (k : ℕ) → k < h → lowest_at k ≤ highest_at k
     pub unbalanced : balances ≡ false → ((k : ℕ) → k < h → lowest_at k ≤ highest_at k) → ⊥
-
-  pub reach-start : ReachTo 0 true (replicate hour_places 0) (replicate hour_places 0)
-  reach-start = record {
-    inside = omega arith;
-    from_size = refl;
-    to_size = refl;
-    from_is = λ k a. absurd (omega arith);
-    to_is = λ k a. absurd (omega arith);
-    balanced = λ _ k a. absurd (omega arith);
-    unbalanced = λ e. clash refl e;
-  }
 
   pub reach-next : (h : ℕ) (balances : Bool) (from to : List ℕ) (lowest highest : ℕ) → ReachTo h balances from to → h < hour_places →
       lowest ≡ lowest_at h → highest ≡ highest_at h →
@@ -209,16 +187,5 @@ module _ (first last least free : List ℕ) where
             (λ b _ _. r.unbalanced b (λ j a. f j (omega arith))) e refl;
       }
 
-  pub reach-all : (h : ℕ) (balances : Bool) (from to : List ℕ) → ReachTo h balances from to → hour_places ≤ h →
-      ReachOf first last least free balances from to
-  reach-all h balances from to r k =
-      let e : h ≡ hour_places = omega (arith, r.inside) in
-      record {
-        from_is = λ j a b. r.from_is (j - 1) (omega arith);
-        to_is = λ j a b. r.to_is (j - 1) (omega arith);
-        balanced = λ t j a b.
-            omega (arith, r.balanced t (j - 1) (omega arith), r.from_is (j - 1) (omega arith), r.to_is (j - 1) (omega arith));
-        unbalanced = λ t f. r.unbalanced t (λ j a.
-            let x = rw sub-one at (f (suc j) (omega arith) (omega arith)) in
-            omega (arith, r.from_is j a, r.to_is j a));
-      }
+  pub reach_none : (h : ℕ) (from to : List ℕ) → ReachTo h false from to → AllBalance first last least free → ⊥
+  reach_none h from to r f = r.unbalanced refl (λ j a. rw sub-one at (f (suc j) (omega arith) (omega (arith, r.inside))))

@@ -1,13 +1,11 @@
 -- The steps of the hours, out of columns: a part of the columns is an hour. Assumes nothing.
 use Prim.Native.Nat.{ℕ, zero, suc, ◌+◌, ◌-◌, ◌≤◌, ◌<◌}
-use mathlib.Core.Path.{◌≡◌, refl, sym, ◌∙◌}
+use mathlib.Core.Path.{◌≡◌, refl}
 use mathlib.Core.List.{List, [], ◌∷◌}
 use native.Mathlib.Omega.{arith}
 use lib.ListN.{take, drop, get_or}
 use lib.Seq.{slice}
-use borrow.Rule.Slice.PartMut.{mid_len}
 use Rattle.orders.specs.Columns.{steps_from}
-use Rattle.pricing.specs.Curves.{Columns}
 use Rattle.places.specs.Layout.{hour_places}
 use Rattle.places.specs.Hours.{Small, FirstSmall}
 use Rattle.places.specs.Steps.{steps_at, StepsSized, PartSized}
@@ -39,16 +37,6 @@ small-drop m (suc a) (x ∷ l) f i = small-drop m a l (λ j. f (suc j)) i
 
 pub small-part : (m a e : ℕ) (l : List ℕ) → a ≤ e → FirstSmall e m l → Small m (take (e - a) (drop a l))
 small-part m a e l h f = rw (mid-slice a e l h) (small-drop m a (take e l) (small-take m e l f))
-
--- the columns of a part
-pub part-columns : (sides prices quantities : List ℕ) (from to : ℕ) → PartSized sides prices quantities from to →
-    Columns (take (to - from) (drop from sides)) (take (to - from) (drop from prices)) (take (to - from) (drop from quantities))
-part-columns sides prices quantities from to s =
-    record {
-      as_many_prices = mid_len from to sides s.in_sides ∙ sym (mid_len from to prices s.in_prices);
-      as_many_quantities = mid_len from to sides s.in_sides ∙ sym (mid_len from to quantities s.in_quantities);
-      not_too_many = omega (arith, mid_len from to sides s.in_sides, s.fit);
-    }
 
 -- THE HOURS
 pub steps_next : (ends sides prices quantities : List ℕ) (h : ℕ) →

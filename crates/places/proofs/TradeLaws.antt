@@ -6,19 +6,19 @@ use mathlib.Core.Bool.{Bool}
 use native.Mathlib.Omega.{arith}
 use native.Mathlib.Numerals.{add-one}
 use lib.ListN.{length, get_or, set, replicate, length-set}
-use lib.Seq.{slice, get_or-set_same, get_or-set_other}
+use lib.Seq.{get_or-set_same, get_or-set_other}
 use Rattle.rules.specs.Orders.{Step}
 use Rattle.rules.specs.Hour.{when, buys_from, sells_to}
 use Rattle.rules.proofs.CurveLaws.{when-le}
+use Rattle.orders.specs.HourSteps.{hour_range}
 use Rattle.pricing.specs.Curves.{TradedAt}
-use Rattle.book.specs.Bounds.{most_blocks}
 use Rattle.places.specs.Layout.{hour_places, most_added}
 use Rattle.places.specs.Hours.{Small, of_hour}
-use Rattle.places.specs.Blocks.{row_quantity, added_in, sells_in, buys_in, SetTrades}
+use Rattle.places.specs.Blocks.{row_quantity, added_in, sells_in, buys_in}
 use Rattle.places.specs.Steps.{steps_at, HoursTraded}
 use Rattle.orders.proofs.ColumnLaws.{zeros}
 use Rattle.places.proofs.NumberLaws.{below_next}
-use Rattle.places.proofs.StepLaws.{steps_next}
+use Rattle.places.proofs.StepLaws.{steps_next, mid-slice}
 use Rattle.places.proofs.AddedLaws.{places-grow, added_more}
 
 -- the hours one after the other
@@ -54,13 +54,14 @@ module _ (steps : ℕ → List Step) (sales purchases prices : List ℕ) where
       rw one at (t.done (j - 1) (omega arith))
 
 -- an hour's part of the columns is its steps
-pub hour-of-columns : (ends sides prices quantities : List ℕ) (h sales purchases price v : ℕ) →
+pub hour-of-columns : (ends sides prices quantities : List ℕ) (h sales purchases price v : ℕ) → get_or ends h 0 ≤ get_or ends (h + 1) 0 →
+    TradedAt (hour_range ends sides h) (hour_range ends prices h) (hour_range ends quantities h) sales purchases price v → 1 ≤ price →
+    v ≡ min (buys_from price (steps_at ends sides prices quantities (suc h)) + purchases) (sells_to price (steps_at ends sides prices quantities (suc h)) + sales)
+hour-of-columns ends sides prices quantities h sales purchases price v rise t pos =
     let from = get_or ends h 0 in
     let to = get_or ends (h + 1) 0 in
-    TradedAt (slice from to sides) (slice from to prices) (slice from to quantities) sales purchases price v → 1 ≤ price →
-    v ≡ min (buys_from price (steps_at ends sides prices quantities (suc h)) + purchases) (sells_to price (steps_at ends sides prices quantities (suc h)) + sales)
-hour-of-columns ends sides prices quantities h sales purchases price v t pos =
-    t (h + 1) pos ∙ rw (← (add-one h), steps_next ends sides prices quantities h)
+    t (h + 1) pos
+    ∙ rw (← (add-one h), steps_next ends sides prices quantities h, mid-slice from to sides rise, mid-slice from to prices rise, mid-slice from to quantities rise)
 
 -- WHAT THE SET'S BLOCKS SELL AND BUY, from the last block on
 module _ (blocks : List ℕ) (count chosen : ℕ) where
@@ -102,13 +103,3 @@ module _ (blocks : List ℕ) (count chosen : ℕ) where
     sales_fit = grown i (sells_in blocks chosen (i - 1)) sales sold pos t.inside few s t.sales_fit;
     purchases_fit = grown i (buys_in blocks chosen (i - 1)) purchases bought pos t.inside few b t.purchases_fit;
   }
-
-  pub trades-all : (i : ℕ) (sales purchases : List ℕ) → TradesTo i sales purchases → i ≤ 0 → count ≤ most_blocks → SetTrades blocks count chosen sales purchases
-  trades-all i sales purchases t k few =
-      let e : i ≡ 0 = omega arith in
-      let n : count - 0 ≡ count = omega arith in
-      record {
-        sales_are = rw (e, n) at t.sales_are;
-        purchases_are = rw (e, n) at t.purchases_are;
-        purchases_fit = λ j. omega (arith, t.purchases_fit j);
-      }

@@ -1,5 +1,5 @@
 -- THE HOURS: the cells of their tables, their columns, and what stands at their places. Definitions only. Assumes nothing.
-use Rattle.std.specs.Prelude.{ℕ, zero, suc, ◌+◌, ◌-◌, ◌*◌, ◌/◌, ◌≤◌, ◌<◌, Bool, true, false, cond, not, List, ◌≡◌, leb, eqb, length, take, drop, get_or, set}
+use Rattle.std.specs.Prelude.{ℕ, ◌+◌, ◌-◌, ◌*◌, ◌/◌, ◌≤◌, ◌<◌, min, max, Bool, cond, not, List, ◌≡◌, eqb, length, take, drop, get_or, set, Option, MatchOption}
 use Rattle.rules.specs.Orders.{max_price}
 use Rattle.rules.specs.Hour.{when}
 use Rattle.rules.specs.Day.{change_hour, sum_to}
@@ -75,12 +75,16 @@ gives_way_in hours = not (eqb (get_or hours shifts_place 0) 0)
 abbrev pub PlacesClear : List ℕ → List ℕ → List ℕ → Type 0
 PlacesClear first last places = (h : ℕ) → 1 ≤ h → h ≤ hour_places → (of_hour first h ≤ of_hour places h) × (of_hour places h ≤ of_hour last h)
 
--- The gaps at the places: their sum, by one way to add up or another, where every place is in range.
-pub record GapsOf (sum_of : (ℕ → ℕ) → ℕ) (most : ℕ) (gap first last places : List ℕ) (clears : Bool) (sum : ℕ) : Type 0 where
-  pub in_range : clears ≡ true → PlacesClear first last places
-  pub not_in_range : clears ≡ false → PlacesClear first last places → ⊥
-  pub sum_is : clears ≡ true → sum ≡ sum_of (λ h. cell gap h (of_hour places h))
+-- The gaps at the places, where every place is in range: their sum, by one way to add up or another.
+pub record SumOf (sum_of : (ℕ → ℕ) → ℕ) (most : ℕ) (gap first last places : List ℕ) (sum : ℕ) : Type 0 where
+  pub in_range : PlacesClear first last places
+  pub sum_is : sum ≡ sum_of (λ h. cell gap h (of_hour places h))
   pub fits : sum ≤ most
+
+-- That sum, or none where a place is not in range.
+abbrev pub GapsOf : (sum_of : (ℕ → ℕ) → ℕ) (most : ℕ) (gap first last places : List ℕ) → Option ℕ → Type 0
+GapsOf sum_of most gap first last places sum =
+    MatchOption sum (PlacesClear first last places → ⊥) (SumOf sum_of most gap first last places)
 
 -- A PRICE OF L AND H: either end; the middle and the shifted price are those of the rules.
 abbrev pub low_end : (low high : ℕ) → ℕ
@@ -89,10 +93,15 @@ low_end low high = low
 abbrev pub high_end : (low high : ℕ) → ℕ
 high_end low high = high
 
--- The end that stands in a row so many entries above a place: H at the place itself, L behind it.
-abbrev pub end_above : ℕ → (low high : ℕ) → ℕ
-end_above zero low high = high
-end_above (suc above) low high = low
+-- It holds of any two prices.
+abbrev pub OfPrices : ((low high : ℕ) → Type 0) → Type 0
+OfPrices P = (low high : ℕ) → low ≤ max_price → high ≤ max_price → P low high
+
+-- A number for each hour, one that is given for L and H at its place: a place has H, and the one above it L.
+pub record PricesBy (gives : (low high price : ℕ) → Type 0) (unit_prices places prices : List ℕ) : Type 0 where
+  pub are : (h : ℕ) → 1 ≤ h → h ≤ hour_places →
+      gives (cell unit_prices h (of_hour places h + 1)) (cell unit_prices h (of_hour places h)) (of_hour prices h)
+  pub size : length prices ≡ hour_places
 
 -- The prices at the places, each made of L and H of its hour: a place has H, and the one above it L.
 pub record PricesOf (price : (low high : ℕ) → ℕ) (unit_prices places prices : List ℕ) : Type 0 where
@@ -101,11 +110,11 @@ pub record PricesOf (price : (low high : ℕ) → ℕ) (unit_prices places price
   pub small : Small max_price prices
 
 -- The larger and the smaller of two numbers; the number from a to b that is nearest to n.
-unfoldable pub larger : ℕ → ℕ → ℕ
-larger a b = cond (leb a b) b a
+abbrev pub larger : ℕ → ℕ → ℕ
+larger a b = max a b
 
-unfoldable pub smaller : ℕ → ℕ → ℕ
-smaller a b = cond (leb a b) a b
+abbrev pub smaller : ℕ → ℕ → ℕ
+smaller a b = min a b
 
 abbrev pub nearest : ℕ → ℕ → ℕ → ℕ
 nearest n a b = smaller (larger n a) b

@@ -1,8 +1,9 @@
 -- THE REACH of a branch: the places that it can still come to, hour by hour. Definitions only. Assumes nothing.
-use Rattle.std.specs.Prelude.{ℕ, ◌+◌, ◌-◌, ◌/◌, ◌%◌, ◌^◌, ◌≤◌, Bool, true, false, not, ◌&&◌, ◌||◌, List, ◌≡◌, eqb, leb, length}
+use Rattle.std.specs.Prelude.{ℕ, ◌+◌, ◌-◌, ◌/◌, ◌%◌, ◌^◌, ◌≤◌, Bool, not, ◌&&◌, ◌||◌, List, ◌≡◌, eqb, leb, length, Option, MatchOption}
 use Rattle.rules.specs.Hour.{when}
 use Rattle.places.specs.Layout.{hour_places, most_place}
 use Rattle.places.specs.Hours.{Small, of_hour, larger, smaller}
+use Rattle.places.specs.declared.reach.Reach.{Reach}
 use Rattle.places.specs.Blocks.{side_at, against_at, gain_at, row_quantity, added_in}
 
 -- THE BLOCKS THAT ARE OUT of a branch, as bits: bit k is for the block k places after the decided ones.
@@ -47,16 +48,31 @@ pub record RestOf (blocks : List ℕ) (count j out loss limit : ℕ) (places lea
   pub least_fits : Small most_place least
   pub free_fits : Small most_place free
 
--- From its least place, with so much free to add, an hour reaches the places from..to at which it clears; it can balance where there are any.
-pub record ReachOf (first last least free : List ℕ) (balances : Bool) (from to : List ℕ) : Type 0 where
-  pub from_is : (h : ℕ) → 1 ≤ h → h ≤ hour_places → of_hour from h ≡ larger (of_hour least h) (of_hour first h)
-  pub to_is : (h : ℕ) → 1 ≤ h → h ≤ hour_places → of_hour to h ≡ smaller (of_hour least h + of_hour free h) (of_hour last h)
-  pub balanced : balances ≡ true → (h : ℕ) → 1 ≤ h → h ≤ hour_places → of_hour from h ≤ of_hour to h
-  pub unbalanced : balances ≡ false → ((h : ℕ) → 1 ≤ h → h ≤ hour_places → of_hour from h ≤ of_hour to h) → ⊥
+-- From its least place, with so much free to add, an hour reaches the places from..to at which it clears: the first and the last of them.
+abbrev pub first_reached : (first least : List ℕ) → ℕ → ℕ
+first_reached first least h = larger (of_hour least h) (of_hour first h)
+
+abbrev pub last_reached : (last least free : List ℕ) → ℕ → ℕ
+last_reached last least free h = smaller (of_hour least h + of_hour free h) (of_hour last h)
+
+-- It can balance where there are any.
+abbrev pub AllBalance : (first last least free : List ℕ) → Type 0
+AllBalance first last least free = (h : ℕ) → 1 ≤ h → h ≤ hour_places → first_reached first least h ≤ last_reached last least free h
+
+-- What the hours reach, each of them.
+pub record Reaches (first last least free from to : List ℕ) : Type 0 where
+  pub from_is : (h : ℕ) → 1 ≤ h → h ≤ hour_places → of_hour from h ≡ first_reached first least h
+  pub to_is : (h : ℕ) → 1 ≤ h → h ≤ hour_places → of_hour to h ≡ last_reached last least free h
+  pub balanced : (h : ℕ) → 1 ≤ h → h ≤ hour_places → of_hour from h ≤ of_hour to h
+
+-- That, or none where an hour can no longer balance.
+abbrev pub ReachOf : (first last least free : List ℕ) → Option Reach → Type 0
+ReachOf first last least free reach =
+    MatchOption reach (AllBalance first last least free → ⊥) (λ r. Reaches first last least free r.from r.to)
 
 -- A branch at these places reaches that with its blocks from number j on.
-pub record ReachedBy (first last blocks : List ℕ) (count j out loss limit : ℕ) (places : List ℕ) (balances : Bool) (from to : List ℕ) : Type 0 where
+pub record ReachedBy (first last blocks : List ℕ) (count j out loss limit : ℕ) (places : List ℕ) (reach : Option Reach) : Type 0 where
   pub least : List ℕ
   pub free : List ℕ
   pub rest : RestOf blocks count j out loss limit places least free
-  pub reach : ReachOf first last least free balances from to
+  pub reached : ReachOf first last least free reach

@@ -8,7 +8,6 @@ ghost use Rattle.places.specs.Hours.{Small};
 ghost use Rattle.places.specs.Blocks.{row_quantity, BlocksSized};
 
 use crate::layout::{BLOCK_ROWS, HOURS};
-use crate::numbers::number_of;
 
 // The places with a quantity more in each hour of a block.
 pub fn moved(places: [u32; HOURS], hours: u32, quantity: u32) -> [u32; HOURS]
@@ -16,29 +15,25 @@ pub fn moved(places: [u32; HOURS], hours: u32, quantity: u32) -> [u32; HOURS]
     ensures { (length result ≡ hour_places) × ((h : ℕ) → 1 ≤ h → h ≤ hour_places → get_or result (h - 1) 0 ≡ get_or places (h - 1) 0 + when (holds_hour hours h) quantity) }
 {
     let mut r = places;
-    let mut h: usize = 0;
     let mut rest = hours;
-    while h < HOURS {
+    for h in 0..HOURS {
         r[h] += (rest % 2) * quantity;
         rest = rest / 2;
-        h += 1;
     }
     r
 }
 
-// The places with what block i trades in each hour more, where the test passes.
+// The places with what block i trades in each hour more, where the test passes. Not one function with `moved`, which reads bits of hours and no row.
 pub fn moved_where(test: bool, places: [u32; HOURS], blocks: &[u32], i: usize) -> [u32; HOURS]
     requires { BlocksSized blocks.now × (i < most_blocks) × Small most_place places }
     ensures { (length result ≡ hour_places)
         × ((h : ℕ) → 1 ≤ h → h ≤ hour_places → get_or result (h - 1) 0 ≡ get_or places (h - 1) 0 + when test (row_quantity blocks.now i h)) }
 {
-    let times = number_of(test);
+    let times = u32::from(test);
     let row = BLOCK_ROWS + HOURS * i;
     let mut r = places;
-    let mut h: usize = 0;
-    while h < HOURS {
+    for h in 0..HOURS {
         r[h] += times * blocks[row + h];
-        h += 1;
     }
     r
 }

@@ -61,6 +61,9 @@ pub const GAIN: usize = AGAINST + MOST_BLOCKS;
 // The parent, without which it is not taken: its number and 1, or 0 for none.
 pub const PARENT: usize = GAIN + MOST_BLOCKS;
 
+// How much the first six columns hold, those in front of the parents'.
+pub const SIX_COLUMNS: usize = PARENT;
+
 // The twin that is taken before a block, likewise.
 pub const AHEAD: usize = PARENT + MOST_BLOCKS;
 

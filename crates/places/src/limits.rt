@@ -13,12 +13,10 @@ pub fn price_sum(prices: &[u32], hours: u32) -> u32
     ensures { (result ≡ sum_of_hours prices.now hours) × (result ≤ most_limit) }
 {
     let mut sum: u32 = 0;
-    let mut h: usize = 0;
     let mut rest = hours;
-    while h < HOURS {
+    for h in 0..HOURS {
         sum += (rest % 2) * prices[h];
         rest = rest / 2;
-        h += 1;
     }
     sum
 }
@@ -41,9 +39,7 @@ pub fn keeps_limits(blocks: &[u32], count: usize, set: u32, high: &[u32], low: &
     requires { (length blocks.now ≡ block_list_size) × (count ≤ most_blocks) × DayPrices high.now × DayPrices low.now }
     ensures { result ≡ all_keep blocks.now set high.now low.now count }
 {
-    let mut i = count;
-    while 0 < i {
-        i -= 1;
+    for i in (0..count).rev() {
         let chosen = (set >> (i as u32)) % 2;
         if chosen == 1 {
             if !keeps_limit(

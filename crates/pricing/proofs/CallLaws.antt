@@ -13,16 +13,16 @@ use borrow.Author.Tests.{eq-eqb, ne_eqb, lt-leb, not-false}
 use Rattle.fields.specs.Tests.{within}
 use Rattle.chains.specs.Chains.{block_order}
 use Rattle.book.specs.Refusals.{Accepted, refusal, first_cause, own_causes}
-use Rattle.book.proofs.Accepted.{accepted-zero}
-use Rattle.book.proofs.Refused.{bounds, refusal-then}
+use Rattle.book.proofs.Accepted.{accepted, accepted-zero, blocks-few}
+use Rattle.book.proofs.Refused.{bounds, refusal-then, answer-accepted, answer-refused, answered_some, number-of-causes, own-have, have-append}
 use Rattle.rules.specs.Orders.{Block, most_block_quantity}
 use Rattle.orders.specs.Layout.{block_places}
-use Rattle.rules.specs.Hour.{Pricing, cleared, does_not_clear, pricing}
+use Rattle.rules.specs.Hour.{pricing}
 use Rattle.records.specs.Records.{day_hours}
 use Rattle.chains.proofs.Laws.{or_left, and_left}
 use Rattle.rules.specs.Day.{is_counted, steps_in, taken, decisions, over_blocks, sells, buys}
 use Rattle.rules.specs.Contender.{PricesInRange}
-use Rattle.rules.proofs.Tests.{by_le, by-eq}
+use Rattle.rules.proofs.Tests.{by_le}
 use Rattle.rules.proofs.PricingLaws.{pricing-net}
 use Rattle.rules.proofs.ChainLaws.{prices-in}
 use Rattle.orders.specs.Bridge.{day_from}
@@ -32,9 +32,14 @@ use Rattle.orders.proofs.BridgeLaws.{prices-in-range, blocks-from-columns, block
 use Rattle.orders.proofs.PlaceLaws.{block-place}
 use Rattle.pricing.proofs.TraderLaws.{traders-same, traders-within}
 use Rattle.pricing.specs.Curves.{bias, most_traded, traders_from, TradesOf}
-use Rattle.pricing.specs.Answers.{answer_for, AnswerOf, blocks_of, NetOf, hour_answered, has_hour, wrong_call, price_causes, hour_answer, number_of}
-use Rattle.pricing.specs.declared.HourAnswer.{HourAnswer}
-use Rattle.pricing.specs.declared.HourAnswer.TheVariants.{Refused}
+use Rattle.pricing.specs.Answers.{answer_for, AnswerOf, blocks_of, NetOf, hour_answered, has_hour, wrong_call, price_causes, hour_answer}
+use Rattle.std.specs.Prelude.{Option, Ok, Err}
+use Rattle.book.specs.Numbers.{refusal_numbered, answered, number_of}
+use Rattle.book.specs.Answers.{reading}
+use Rattle.book.specs.declared.Counted.{Counted}
+use Rattle.book.specs.declared.refusal.Refusal.{Refusal}
+use Rattle.book.specs.declared.refusal.Refusal.TheVariants.{WrongCall}
+use Rattle.pricing.specs.declared.HourPrice.{HourPrice}
 
 -- TRADES
 module _ (b : List ℕ) (a : Accepted b) (count : ℕ) (records sides hours prices quantities : List ℕ)
@@ -98,7 +103,7 @@ pub part_length : (from to : ℕ) (l : List ℕ) → from ≤ to → to ≤ leng
 part_length from to l k j = length-take-le (to - from) (drop from l) (omega (arith, length-drop from l))
 
 pub answer-is : (b : List ℕ) → Accepted b → (ends records sides prices quantities : List ℕ) → StepColumns b ends records sides prices quantities →
-    (h n : ℕ) → 1 ≤ h → h ≤ 24 → (r : HourAnswer) →
+    (h n : ℕ) → 1 ≤ h → h ≤ 24 → (r : Option HourPrice) →
     AnswerOf (part (get_or ends (h - 1) 0) (get_or ends h 0) sides) (part (get_or ends (h - 1) 0) (get_or ends h 0) prices)
     (part (get_or ends (h - 1) 0) (get_or ends h 0) quantities) n r →
     r ≡ answer_for (pricing record { steps = steps_in h (day_from b).steps; block_sales = n; block_buys = bias })
@@ -128,24 +133,25 @@ pub bits-enough : (set count : ℕ) → set < 2 ^ 32 → 32 ≤ count → leb (2
 bits-enough set count room k = lt-leb (2 ^ count) set (omega (arith, pow_mono {i = 32} {j = count} k))
 
 -- THE CALL: the book's own refusals, then 8, then the answer
-pub call-refused : (b : List ℕ) (set hour n : ℕ) → refusal b ≡ n → (n ≡ 0 → ⊥) → hour_answer b set hour ≡ Refused n
+pub call-refused : (b : List ℕ) (set hour : ℕ) (why : Refusal) → reading b ≡ Err why → hour_answer b set hour ≡ Err why
 unfolding hour_answer price_causes
-call-refused b set hour n e f =
-    let first : first_cause (own_causes b ++ ((wrong_call b set hour, 8) ∷ [])) ≡ n =
-    refusal-then b ((wrong_call b set hour, 8) ∷ []) ∙ rw (e, ne_eqb n 0 f) in
-    rw (first, ne_eqb n 0 f)
+call-refused b set hour why e =
+    let r = answer-refused b why e in
+    let first : first_cause (own_causes b ++ ((wrong_call b set hour, 8) ∷ [])) ≡ refusal b =
+    refusal-then b ((wrong_call b set hour, 8) ∷ []) ∙ rw (ne_eqb (refusal b) 0 r.0) in
+    rw (first) (answered_some (refusal b) (answer_for (hour_answered b set hour)) r.0 ∙ ap Err (sym r.2))
 
 module _ (b : List ℕ) (a : Accepted b) (set hour : ℕ) where
   causes-are : first_cause (price_causes b set hour) ≡ cond (wrong_call b set hour) 8 0
   unfolding price_causes first_cause
   causes-are = refusal-then b ((wrong_call b set hour, 8) ∷ []) ∙ rw (accepted-zero b a)
 
-  pub call-wrong : wrong_call b set hour ≡ true → hour_answer b set hour ≡ Refused 8
-  unfolding hour_answer
+  pub call-wrong : wrong_call b set hour ≡ true → hour_answer b set hour ≡ Err WrongCall
+  unfolding hour_answer answered refusal_numbered
   call-wrong e = rw (causes-are, e)
 
-  pub call-answered : wrong_call b set hour ≡ false → hour_answer b set hour ≡ answer_for (hour_answered b set hour)
-  unfolding hour_answer
+  pub call-answered : wrong_call b set hour ≡ false → hour_answer b set hour ≡ Ok (answer_for (hour_answered b set hour))
+  unfolding hour_answer answered
   call-answered e = rw (causes-are, e)
 
   pub call-bounds : wrong_call b set hour ≡ false → (1 ≤ hour) × (hour ≤ 24)
@@ -159,14 +165,22 @@ module _ (b : List ℕ) (a : Accepted b) (set hour : ℕ) where
   unfolding wrong_call
   wrong-is has absent h e = rw (h, e)
 
+-- the test by what the code's calls give, where the book is read as accepted
+pub tested-is : (b : List ℕ) (set hour : ℕ) (counts : Counted) → Ok counts ≡ reading b → (day count : ℕ) (has absent : Bool) → day ≡ day_hours b
+    → has ≡ has_hour day hour → count ≡ counts.blocks → (count ≤ block_places → absent ≡ leb (2 ^ count) set)
+    → Accepted b × ((not has || absent) ≡ wrong_call b set hour)
+tested-is b set hour counts read day count has absent d h n e =
+    let k = answer-accepted b counts (sym read) in
+    let a = accepted b k.0 in
+    let m : count ≡ length (block_order b) = n ∙ ap (λ (c : Counted). c.blocks) k.1 in (
+      a,
+      wrong-is b a set hour has absent (h ∙ ap (λ (t : ℕ). has_hour t hour) d)
+          (e (omega (arith, m, blocks-few b a)) ∙ ap (λ (t : ℕ). leb (2 ^ t) set) m),
+    )
+
 -- THE NUMBER of an answer is that of the first cause that holds, 0 where the hour is answered
 pub number-answered : (b : List ℕ) (set hour : ℕ) → number_of (hour_answer b set hour) ≡ first_cause (price_causes b set hour)
-unfolding hour_answer
+unfolding hour_answer price_causes first_cause refusal_numbered
 number-answered b set hour =
-    let first = first_cause (price_causes b set hour) in
-    by-eq (λ t. number_of (cond t (answer_for (hour_answered b set hour)) (Refused first)) ≡ first) first 0
-    (λ none. answered (hour_answered b set hour) ∙ sym none) (λ _. refl)
-  where
-    answered : (p : Pricing) → number_of (answer_for p) ≡ 0
-    answered (cleared low high price) = refl
-    answered does_not_clear = refl
+    number-of-causes (own_causes b ++ ((wrong_call b set hour, 8) ∷ [])) (answer_for (hour_answered b set hour))
+    (have-append (own_causes b) ((wrong_call b set hour, 8) ∷ []) (own-have b) (refl, tt))

@@ -4,14 +4,15 @@ use mathlib.Core.Path.{◌≡◌, refl, ◌∙◌}
 use mathlib.Core.List.{List, [], ◌∷◌}
 use native.Mathlib.Omega.{arith}
 use native.Mathlib.Numerals.{add-one}
-use mathlib.Core.Bool.{false, cond, not, ◌&&◌}
+use mathlib.Core.Bool.{Bool, true, false, not, ◌&&◌}
 use lib.Dec.{eqb, ltb, leb}
+use Rattle.std.specs.Int.{from_bool}
 use lib.ListN.{length, drop, get_or, drop_of_length-le}
 use lib.Seq.{drop-cons}
 use borrow.Author.Tests.{ne_eqb}
 use Rattle.rules.specs.Orders.{Side, sell, Step}
 use Rattle.rules.specs.Hour.{by_side, when, buys_above, sells_to}
-use Rattle.rules.proofs.CurveLaws.{when-zero, when-le, by_side-le, times-when}
+use Rattle.rules.proofs.CurveLaws.{when-zero, when-le, by_side-le}
 use Rattle.orders.specs.Columns.{side_for, steps_from}
 use Rattle.pricing.specs.Curves.{Columns, QuantitiesInRange, TotalsOf}
 
@@ -21,21 +22,21 @@ side-sell zero h = absurd (h refl)
 side-sell (suc s) h = refl
 
 -- ONE ORDER: what is added to the buys over p, and to the sells up to t
--- what is added is at most the quantity
-pub added-le : (n q : ℕ) → n ≤ 1 → n * q ≤ q
-added-le zero q k = omega arith
-added-le (suc n) q k = let z : n ≡ 0 = omega arith in rw z (omega arith)
+-- the number of a test times a quantity is the quantity where the test passes, else 0
+times-test : (t : Bool) (q : ℕ) → from_bool t * q ≡ when t q
+times-test true q = omega arith
+times-test false q = omega arith
 
 module _ (p t x q a u : ℕ) where
   abbrev Added : Side → ℕ → ℕ → Type 0
   Added side a' u' = (a' ≡ a + when (ltb p x) (by_side side q 0)) × (u' ≡ u + when (leb x t) (by_side side 0 q))
 
-  pub order-added : (s n m : ℕ) → n ≡ cond (eqb s 0 && ltb p x) 1 0 → m ≡ cond (not (eqb s 0) && leb x t) 1 0 →
+  pub order-added : (s n m : ℕ) → n ≡ from_bool (eqb s 0 && ltb p x) → m ≡ from_bool (not (eqb s 0) && leb x t) →
       Added (side_for s) (a + n * q) (u + m * q)
-  order-added zero n m en em = (rw (en, times-when (ltb p x) q), rw em (omega (arith, when-zero (leb x t))))
+  order-added zero n m en em = (rw (en, times-test (ltb p x) q), rw em (omega (arith, when-zero (leb x t))))
   order-added (suc s) n m en em =
       let sells : eqb (suc s) 0 ≡ false = ne_eqb (suc s) 0 (omega arith) in
-      (rw (en, sells) (omega (arith, when-zero (ltb p x))), rw (em, sells, times-when (leb x t) q))
+      (rw (en, sells) (omega (arith, when-zero (ltb p x))), rw (em, sells, times-test (leb x t) q))
 
 -- THE REST OF THE COLUMNS
 abbrev pub rest_of : ℕ → List ℕ → List ℕ → List ℕ → ℕ → List Step

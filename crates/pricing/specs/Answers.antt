@@ -1,6 +1,6 @@
--- WHAT PRICING AN HOUR ANSWERS (document 01, "Pricing an hour gives one of three answers"), for every byte string, set and hour. Definitions only.
+-- WHAT PRICING AN HOUR ANSWERS (it clears at a price, it does not clear, or the call is refused), for every byte string, set and hour. Definitions only.
 -- Assumes nothing.
-use Rattle.std.specs.Prelude.{ℕ, ◌+◌, ◌^◌, ◌<◌, List, [], ◌∷◌, ◌++◌, Bool, cond, not, ◌&&◌, ◌||◌, ◌≡◌, eqb, leb, length}
+use Rattle.std.specs.Prelude.{ℕ, ◌+◌, ◌^◌, ◌<◌, List, [], ◌∷◌, ◌++◌, Bool, not, ◌&&◌, ◌||◌, ◌≡◌, leb, length, Option, Some, None, Result}
 use Rattle.records.specs.Layout.{last_hour}
 use Rattle.records.specs.Records.{day_hours}
 use Rattle.fields.specs.Tests.{within}
@@ -13,19 +13,14 @@ use Rattle.rules.specs.Contender.{PricesInRange}
 use Rattle.orders.specs.Bridge.{day_from}
 use Rattle.orders.specs.Columns.{steps_from}
 use Rattle.pricing.specs.Curves.{bias, hour_with}
-use Rattle.pricing.specs.declared.HourAnswer.{HourAnswer}
-use Rattle.pricing.specs.declared.HourAnswer.TheVariants.{Cleared, NotClearing, Refused}
+use Rattle.book.specs.Numbers.{answered}
+use Rattle.book.specs.declared.refusal.Refusal.{Refusal}
+use Rattle.pricing.specs.declared.HourPrice.{HourPrice}
 
--- The answer for what the rules say of an hour.
-abbrev pub answer_for : Pricing → HourAnswer
-answer_for (cleared low high price) = Cleared low high price
-answer_for does_not_clear = NotClearing
-
--- Document 01's number for an answer; 0, which is ours, where it is no refusal.
-abbrev pub number_of : HourAnswer → ℕ
-number_of (Cleared low high price) = 0
-number_of NotClearing = 0
-number_of (Refused n) = n
+-- The answer for what the rules say of an hour: none where it does not clear.
+abbrev pub answer_for : Pricing → Option HourPrice
+answer_for (cleared low high price) = Some (record { low = low; high = high; price = price })
+answer_for does_not_clear = None
 
 -- A day of so many hours has hour h: it is from 1 to 24, and counts.
 unfoldable pub has_hour : ℕ → ℕ → Bool
@@ -45,13 +40,11 @@ hour_answered b set hour =
     pricing (hour_of (day_from b) (taken (day_from b).blocks (decisions (length (day_from b).blocks) set)) hour)
 
 -- The answer of a pricing call.
-unfoldable pub hour_answer : List ℕ → ℕ → ℕ → HourAnswer
-hour_answer b set hour =
-    let number = first_cause (price_causes b set hour) in
-    cond (eqb number 0) (answer_for (hour_answered b set hour)) (Refused number)
+unfoldable pub hour_answer : List ℕ → ℕ → ℕ → Result (Option HourPrice) Refusal
+hour_answer b set hour = answered (first_cause (price_causes b set hour)) (answer_for (hour_answered b set hour))
 
 -- The answer for columns and N is the rules' answer for their hour, whichever hour it is, where its prices are in range.
-abbrev pub AnswerOf : List ℕ → List ℕ → List ℕ → ℕ → HourAnswer → Type 0
+abbrev pub AnswerOf : List ℕ → List ℕ → List ℕ → ℕ → Option HourPrice → Type 0
 AnswerOf sides prices quantities n r =
     (h : ℕ) → PricesInRange (steps_from h sides prices quantities) → r ≡ answer_for (pricing (hour_with h sides prices quantities n))
 

@@ -2,6 +2,7 @@
 use Rattle.std.specs.Prelude.{ℕ, ◌+◌, ◌*◌, ◌^◌, ◌≤◌, ◌<◌, min, List, [], ◌∷◌, ◌≡◌, length, get_or}
 use Rattle.fields.specs.Bounds.{most_step_quantity}
 use Rattle.orders.specs.Layout.{step_places, block_places}
+use Rattle.orders.specs.HourSteps as hour_steps
 use Rattle.orders.specs.Columns.{steps_from, block_of}
 use Rattle.rules.specs.Orders.{Block, max_price, most_block_quantity}
 use Rattle.rules.specs.Hour.{Hour, buys_above, buys_from, sells_to}
@@ -47,10 +48,8 @@ abbrev pub TotalsAt : List ℕ → List ℕ → List ℕ → ℕ → ℕ → ℕ
 TotalsAt sides prices quantities price above upto = TotalsOf sides prices quantities price price above upto
 
 -- Columns of one length, at most 2,048.
-pub record Columns (sides prices quantities : List ℕ) : Type 0 where
-  pub as_many_prices : length sides ≡ length prices
-  pub as_many_quantities : length sides ≡ length quantities
-  pub not_too_many : length sides ≤ step_places
+abbrev pub Columns : (sides prices quantities : List ℕ) → Type 0
+Columns = hour_steps.Columns
 
 -- Blocks out of the columns that trades go by (sides, hours, quantities); their numbers and prices play no part in an hour's totals.
 unfoldable pub traders_from : List ℕ → List ℕ → List ℕ → List Block

@@ -13,7 +13,7 @@ ghost use Rattle.pricing.specs.Answers.{answer_for, NetOf, has_hour, hour_answer
 
 use crate::blocks::trades_of;
 use crate::hour::answer_of;
-use book::{Reading, read};
+use book::{Refusal, read, refuse};
 use fields::hours::is_counted;
 use orders::layout::BLOCK_PLACES;
 use orders::{blocks_of, steps_of};
@@ -29,15 +29,12 @@ pub const BIAS: u64 = 2097152;
 // The bits of a set, one for each block that a book may have.
 const SET_BITS: u32 = BLOCK_PLACES as u32;
 
-// The refusal of a call whose hour or set is not there.
-const WRONG_CALL: u8 = 8;
-
-// What pricing an hour gives: L, H and the price; that the hour does not clear; or a refusal with its number.
-#[derive(Drop)]
-pub enum HourAnswer {
-    Cleared { low: u32, high: u32, price: u32 },
-    NotClearing,
-    Refused(u8),
+// What an hour that clears is priced at: L, H and the price.
+#[derive(Clone, Copy, Debug, PartialEq, Eq)]
+pub struct HourPrice {
+    pub low: u32,
+    pub high: u32,
+    pub price: u32,
 }
 
 // Whether a day of so many hours has the hour.
@@ -78,40 +75,22 @@ fn net_in(book: &[u8], set: u32, hour: u32) -> u32
     (BIAS + trades.sales - trades.buys) as u32
 }
 
-// The answer of an hour of an accepted book, for N.
-fn answer_in(book: &[u8], hour: u32, net: u32) -> HourAnswer
+// The answer of an hour of an accepted book, for N: none where it does not clear.
+fn answer_in(book: &[u8], hour: u32, net: u32) -> Option<HourPrice>
     requires { Accepted book.now × (1 ≤ hour) × (hour ≤ last_hour) }
     ensures { result ≡ answer_for (pricing (record { steps = steps_in hour (day_from book.now).steps; block_sales = net; block_buys = bias })) }
 {
     let steps = steps_of(book);
-    let ends = steps.ends;
-    let h = hour as usize;
-    let from = ends[h - 1] as usize;
-    let to = ends[h] as usize;
-    let sides = steps.sides;
-    let prices = steps.prices;
-    let quantities = steps.quantities;
-    answer_of(
-        &sides[from..to],
-        &prices[from..to],
-        &quantities[from..to],
-        net,
-    )
+    answer_of(&steps.hour((hour - 1) as usize), net)
 }
 
-// The price of one hour under a set of blocks, the lowest bit for the first block of the chain: the book's own refusals, then 8, then the rules' answer.
-pub fn price(book: &[u8], set: u32, hour: u32) -> HourAnswer
+// The price of one hour under a set of blocks, the lowest bit for the first block of the chain: the book's own refusals, then 8, then the rules' answer,
+// which is none where the hour does not clear.
+pub fn price(book: &[u8], set: u32, hour: u32) -> Result<Option<HourPrice>, Refusal>
     ensures { result ≡ hour_answer book.now set hour }
 {
-    let reading = read(book);
-    match reading {
-        Reading::Refused(number) => HourAnswer::Refused(number),
-        Reading::Accepted { steps: _, blocks } => {
-            if !has_hour(day_hours(book), hour) | names_absent(set, blocks as u32) {
-                HourAnswer::Refused(WRONG_CALL)
-            } else {
-                answer_in(book, hour, net_in(book, set, hour))
-            }
-        }
-    }
+    let counted = read(book)?;
+    let is_wrong = !has_hour(day_hours(book), hour) | names_absent(set, u32::from(counted.blocks));
+    refuse(is_wrong, Refusal::WrongCall)?;
+    Ok(answer_in(book, hour, net_in(book, set, hour)))
 }

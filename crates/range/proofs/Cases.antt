@@ -14,14 +14,15 @@ use Rattle.rules.proofs.CertifiedHours.{tested-is, computed}
 use Rattle.rules.proofs.UncertainCases.{either, least-of-either, greatest-of-either}
 use Rattle.range.specs.Layout.{entry_size, most_entries}
 use Rattle.range.specs.Range.{entry_at, entry_fits, below, uncertain_steps, wrong_size, out_of_range, wrong_list, range_of}
-use Rattle.range.specs.declared.PriceRange.TheVariants.{Prices, Refused}
+use Rattle.std.specs.Prelude.{Ok, Err}
+use Rattle.book.specs.declared.refusal.Refusal.TheVariants.{WrongList}
 
 -- the empty list: every price clears
 empty-price : middle_price [] [] ≡ 150000
 unfolding middle_price steps_at computed
 empty-price = ap answered_price (tested-is (hour_at [] []))
 
-pub empty-list : range_of [] ≡ Prices 150000 150000
+pub empty-list : range_of [] ≡ Ok (record { least = 150000; greatest = 150000 })
 unfolding range_of wrong_list wrong_size some_below uncertain_steps below least_price greatest_price over_quantities
 empty-list = rw empty-price
 
@@ -40,20 +41,20 @@ two-right : wrong_list (buy5000 ++ sell3000) ≡ false
 unfolding wrong_list wrong_size some_below out_of_range entry_fits entry_at u32_at within
 two-right = refl
 
-pub two-priced : range_of (buy5000 ++ sell3000) ≡ Prices 3000 5000
+pub two-priced : range_of (buy5000 ++ sell3000) ≡ Ok (record { least = 3000; greatest = 5000 })
 unfolding range_of
 two-priced = rw (two-right, two_steps, least-of-either, greatest-of-either)
 
 -- refused: a side of 256, whose last byte is 0; a low figure above the high one; a byte too many
-pub side-256 : range_of (0 ∷ 0 ∷ 1 ∷ 0 ∷ 0 ∷ 0 ∷ 19 ∷ 136 ∷ 0 ∷ 0 ∷ 0 ∷ 1 ∷ 0 ∷ 0 ∷ 0 ∷ 2 ∷ []) ≡ Refused 17
+pub side-256 : range_of (0 ∷ 0 ∷ 1 ∷ 0 ∷ 0 ∷ 0 ∷ 19 ∷ 136 ∷ 0 ∷ 0 ∷ 0 ∷ 1 ∷ 0 ∷ 0 ∷ 0 ∷ 2 ∷ []) ≡ Err WrongList
 unfolding range_of wrong_list wrong_size some_below out_of_range entry_fits entry_at u32_at within
 side-256 = refl
 
-pub low-above-high : range_of (0 ∷ 0 ∷ 0 ∷ 0 ∷ 0 ∷ 0 ∷ 19 ∷ 136 ∷ 0 ∷ 0 ∷ 0 ∷ 2 ∷ 0 ∷ 0 ∷ 0 ∷ 1 ∷ []) ≡ Refused 17
+pub low-above-high : range_of (0 ∷ 0 ∷ 0 ∷ 0 ∷ 0 ∷ 0 ∷ 19 ∷ 136 ∷ 0 ∷ 0 ∷ 0 ∷ 2 ∷ 0 ∷ 0 ∷ 0 ∷ 1 ∷ []) ≡ Err WrongList
 unfolding range_of wrong_list wrong_size some_below out_of_range entry_fits entry_at u32_at within
 low-above-high = refl
 
-pub byte-too-many : range_of (buy5000 ++ (0 ∷ [])) ≡ Refused 17
+pub byte-too-many : range_of (buy5000 ++ (0 ∷ [])) ≡ Err WrongList
 unfolding range_of wrong_list wrong_size
 byte-too-many = refl
 

@@ -22,18 +22,21 @@ use Rattle.records.specs.Layout.{last_side}
 use Rattle.fields.specs.Tests.{within, some_below}
 use Rattle.chains.proofs.Laws.{and_left, and_right, or_left, or_right}
 use Rattle.chains.proofs.Members.{Each, each_append, none_below}
+use Rattle.chains.proofs.StepCounts.{one_passes}
 use Rattle.book.proofs.Refused.{bounds}
 use Rattle.orders.specs.Columns.{side_for, steps_from}
 use Rattle.pricing.specs.Curves.{bias, hour_with, Columns}
 use Rattle.pricing.specs.Answers.{answer_for, AnswerOf}
-use Rattle.pricing.specs.declared.HourAnswer as hour
-use Rattle.pricing.specs.declared.HourAnswer.TheVariants as answer-of
+use Rattle.std.specs.Prelude.{Option, Some, None, Result, Ok, Err}
+use Rattle.book.specs.Numbers.{number_of}
+use Rattle.book.specs.declared.refusal.Refusal.{Refusal}
+use Rattle.book.specs.declared.refusal.Refusal.TheVariants.{WrongList}
+use Rattle.pricing.specs.declared.HourPrice.{HourPrice}
 use Rattle.range.specs.Layout.{entry_size, most_entries, most_figure}
-use Rattle.range.specs.Range.{entry_at, entry_fits, uncertain_of, entry_count, below, uncertain_steps, wrong_size, out_of_range, wrong_list, range_of, number_of}
+use Rattle.range.specs.Range.{entry_at, entry_fits, uncertain_of, entry_count, below, uncertain_steps, wrong_size, out_of_range, wrong_list, range_of}
 use Rattle.range.specs.Corners.{side_number, least_quantity, greatest_quantity, InFront, Decoded, PriceOf}
 use Rattle.range.specs.declared.Entry.{Entry}
 use Rattle.range.specs.declared.PriceRange.{PriceRange}
-use Rattle.range.specs.declared.PriceRange.TheVariants.{Prices, Refused}
 use Rattle.range.proofs.Cases
 
 -- ONE ENTRY MORE
@@ -54,10 +57,14 @@ filled_next f b i column v h e given = (
 )
 
 -- among those tested
-pub tested-next : (b : List ℕ) (i : ℕ) (fits wrong : Bool) → fits ≡ entry_fits (entry_at b i) → wrong ≡ some_below i (out_of_range b)
-    → (not fits || wrong) ≡ some_below (i + 1) (out_of_range b)
+pub tested-next : (b : List ℕ) (i : ℕ) (fits : Bool) → fits ≡ entry_fits (entry_at b i) → fits ≡ true → some_below i (out_of_range b) ≡ false
+    → some_below (i + 1) (out_of_range b) ≡ false
 unfolding some_below out_of_range
-tested-next b i fits wrong e w = rw (add-one, e, w)
+tested-next b i fits e t w = rw (add-one, ← e, t, w)
+
+pub tested-wrong : (b : List ℕ) (n i : ℕ) (fits : Bool) → i < n → fits ≡ entry_fits (entry_at b i) → fits ≡ false → some_below n (out_of_range b) ≡ true
+unfolding out_of_range
+tested-wrong b n i fits h e t = one_passes n (out_of_range b) i h (rw (← e, t))
 
 -- A CORNER'S COLUMNS ARE ITS STEPS
 side_same : (n : ℕ) → side_for (cond (eqb n 0) 0 1) ≡ side_for n
@@ -120,27 +127,26 @@ unfolding uncertain_steps
 figures-in-range b e = figures-each b (below (entry_count b)) (each_below _ (entry_count b) (none_below (entry_count b) (out_of_range b) e))
 
 -- THE PRICE OF COLUMNS without blocks, out of what the price finder answers for the bias
-abbrev pub price_in : hour.HourAnswer → ℕ
-price_in (answer-of.Cleared low high price) = price
-price_in answer-of.NotClearing = 0
-price_in (answer-of.Refused n) = 0
+abbrev pub price_in : Option HourPrice → ℕ
+price_in (Some found) = found.price
+price_in None = 0
 
 price-answered : (p : Pricing) → price_in (answer_for p) ≡ answered_price p
 price-answered (cleared low high price) = refl
 price-answered does_not_clear = refl
 
-pub answer-price : (sides prices quantities : List ℕ) (r s : hour.HourAnswer) → r ≡ s → AnswerOf sides prices quantities bias r
-    → PriceOf sides prices quantities (price_in s)
-answer-price sides prices quantities r s e a k =
-    ap price_in (sym e ∙ a 1 k) ∙ price-answered (pricing (hour_with 1 sides prices quantities bias))
+pub answer-price : (sides prices quantities : List ℕ) (r : Option HourPrice) → AnswerOf sides prices quantities bias r
+    → PriceOf sides prices quantities (price_in r)
+answer-price sides prices quantities r a k =
+    ap price_in (a 1 k) ∙ price-answered (pricing (hour_with 1 sides prices quantities bias))
     ∙ ap answered_price (pricing-net (steps_from 1 sides prices quantities) bias bias 0 0 (omega arith))
 
 -- THE ANSWER, one law for each way out
-pub refused-size : (b : List ℕ) → wrong_size b ≡ true → Refused 17 ≡ range_of b
+pub refused-size : (b : List ℕ) → wrong_size b ≡ true → range_of b ≡ Err WrongList
 unfolding range_of wrong_list
 refused-size b e = rw e
 
-pub refused-field : (b : List ℕ) → wrong_size b ≡ false → some_below (entry_count b) (out_of_range b) ≡ true → Refused 17 ≡ range_of b
+pub refused-field : (b : List ℕ) → wrong_size b ≡ false → some_below (entry_count b) (out_of_range b) ≡ true → range_of b ≡ Err WrongList
 unfolding range_of wrong_list
 refused-field b s e = rw (s, e)
 
@@ -159,17 +165,13 @@ columns-front n sides prices quantities few s p q =
       not_too_many = omega (arith, size sides s);
     }
 
-module _ (b sides prices low high : List ℕ) (right : wrong_size b ≡ false) (wrong : Bool) (fits : wrong ≡ false)
-    (columns : Decoded b (entry_count b) wrong sides prices low high) where
+module _ (b sides prices low high : List ℕ) (right : wrong_size b ≡ false) (columns : Decoded b (entry_count b) sides prices low high) where
   abbrev steps : List UncertainStep
   steps = steps_of b (below (entry_count b))
 
-  all_fit : some_below (entry_count b) (out_of_range b) ≡ false
-  all_fit = sym columns.wrong_is ∙ fits
-
   in-range : FiguresInRange steps
   unfolding uncertain_steps
-  in-range = figures-in-range b all_fit
+  in-range = figures-in-range b columns.in_range
 
   -- a column's price is the middle price at its quantities
   priced : (f : Entry → ℕ) (column : List ℕ) → InFront f b (entry_count b) column → (p : ℕ)
@@ -181,7 +183,7 @@ module _ (b sides prices low high : List ℕ) (right : wrong_size b ≡ false) (
       at (prices-in-range steps (map (λ i. f (entry_at b i)) (below (entry_count b))) in-range)
 
   pub range-answered : (least greatest : ℕ) → PriceOf (take (entry_count b) sides) (take (entry_count b) prices) (take (entry_count b) low) least
-      → PriceOf (take (entry_count b) sides) (take (entry_count b) prices) (take (entry_count b) high) greatest → Prices least greatest ≡ range_of b
+      → PriceOf (take (entry_count b) sides) (take (entry_count b) prices) (take (entry_count b) high) greatest → Ok (record { least = least; greatest = greatest }) ≡ range_of b
   unfolding range_of wrong_list uncertain_steps
   range-answered least greatest l g =
       let n = entry_count b in
@@ -190,29 +192,22 @@ module _ (b sides prices low high : List ℕ) (right : wrong_size b ≡ false) (
       let eg : greatest ≡ greatest_price steps =
       priced greatest_quantity high columns.greatest_are greatest g ∙ ap (middle_price steps) (greatest-corner b (below n))
       ∙ sym (greatest-price-corner steps in-range) in
-      rw (right, all_fit, ← el, ← eg)
-
-abbrev least_in : PriceRange → ℕ
-least_in (Prices least greatest) = least
-least_in (Refused n) = 0
-
-abbrev greatest_in : PriceRange → ℕ
-greatest_in (Prices least greatest) = greatest
-greatest_in (Refused n) = 0
+      rw (right, columns.in_range, ← el, ← eg)
 
 -- WHAT AN ANSWER OF TWO PRICES SAYS: no quantities between a list's figures have a middle price outside them, and both are met by some
-pub range-says : (b : List ℕ) (least greatest : ℕ) → range_of b ≡ Prices least greatest
-    → IsLeastPrice (uncertain_steps b) least × IsGreatestPrice (uncertain_steps b) greatest
+pub range-says : (b : List ℕ) (found : PriceRange) → range_of b ≡ Ok found
+    → IsLeastPrice (uncertain_steps b) found.least × IsGreatestPrice (uncertain_steps b) found.greatest
 unfolding range_of wrong_list
-range-says b least greatest e =
-    by-test (λ t. cond t (Refused 17) (Prices (least_price (uncertain_steps b)) (greatest_price (uncertain_steps b))) ≡ Prices least greatest
-    → IsLeastPrice (uncertain_steps b) least × IsGreatestPrice (uncertain_steps b) greatest)
+range-says b found e =
+    by-test (λ t. cond t (Err WrongList) (Ok (record { least = least_price (uncertain_steps b); greatest = greatest_price (uncertain_steps b) })) ≡ Ok found
+    → IsLeastPrice (uncertain_steps b) found.least × IsGreatestPrice (uncertain_steps b) found.greatest)
     (wrong_size b || some_below (entry_count b) (out_of_range b))
-    (λ w k. let clash : ◌≡◌ {A = ℕ} 17 0 = ap number_of k in absurd (omega arith))
+    (λ w k. absurd (cc))
     (λ w k.
     let r = figures-in-range b (or_right (wrong_size b) _ w) in
-    let el : least_price (uncertain_steps b) ≡ least = ap least_in k in
-    let eg : greatest_price (uncertain_steps b) ≡ greatest = ap greatest_in k in
+    let same : record { least = least_price (uncertain_steps b); greatest = greatest_price (uncertain_steps b) } ≡ found = cc in
+    let el : least_price (uncertain_steps b) ≡ found.least = ap (λ (p : PriceRange). p.least) same in
+    let eg : greatest_price (uncertain_steps b) ≡ found.greatest = ap (λ (p : PriceRange). p.greatest) same in
     (rw el at (least-price (uncertain_steps b) r), rw eg at (greatest-price (uncertain_steps b) r)))
     e
 
@@ -220,5 +215,5 @@ range-says b least greatest e =
 pub number-answered : (b : List ℕ) → number_of (range_of b) ≡ cond (wrong_list b) 17 0
 unfolding range_of
 number-answered b =
-    by-test (λ t. number_of (cond t (Refused 17) (Prices (least_price (uncertain_steps b)) (greatest_price (uncertain_steps b)))) ≡ cond t 17 0) (wrong_list b)
-    (λ _. refl) (λ _. refl)
+    by-test (λ t. number_of {A = PriceRange} (cond t (Err WrongList) (Ok (record { least = least_price (uncertain_steps b); greatest = greatest_price (uncertain_steps b) }))) ≡ cond t 17 0)
+    (wrong_list b) (λ _. refl) (λ _. refl)

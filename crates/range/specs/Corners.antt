@@ -1,5 +1,5 @@
 -- THE COLUMNS OF THE TWO CORNERS, in which the private functions of src/ promise their results. Definitions only. Assumes nothing.
-use Rattle.std.specs.Prelude.{ℕ, ◌≤◌, List, map, Bool, cond, ◌≡◌, eqb, length, take}
+use Rattle.std.specs.Prelude.{ℕ, ◌≤◌, List, map, false, cond, ◌≡◌, eqb, length, take}
 use Rattle.fields.specs.Tests.{some_below}
 use Rattle.orders.specs.Columns.{side_for, steps_from}
 use Rattle.rules.specs.Hour.{by_side, pricing, answered_price}
@@ -22,9 +22,9 @@ greatest_quantity e = by_side (side_for e.side) e.high e.low
 abbrev pub InFront : (Entry → ℕ) → List ℕ → ℕ → List ℕ → Type 0
 InFront f b n column = take n column ≡ map (λ i. f (entry_at b i)) (below n)
 
--- Whether one of the first n entries has a field out of range; their sides, prices, and quantities at the two corners.
-pub record Decoded (b : List ℕ) (n : ℕ) (wrong : Bool) (sides prices least greatest : List ℕ) : Type 0 where
-  pub wrong_is : wrong ≡ some_below n (out_of_range b)
+-- No field of the first n entries is out of range; their sides, prices, and quantities at the two corners.
+pub record Decoded (b : List ℕ) (n : ℕ) (sides prices least greatest : List ℕ) : Type 0 where
+  pub in_range : some_below n (out_of_range b) ≡ false
   pub sides_are : InFront side_number b n sides
   pub prices_are : InFront (λ e. e.price) b n prices
   pub least_are : InFront least_quantity b n least

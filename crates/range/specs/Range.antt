@@ -1,5 +1,5 @@
 -- THE PRICE RANGE OF A LIST OF UNCERTAIN STEPS (document 02, P14): what is answered for every byte string. Definitions only. Assumes nothing.
-use Rattle.std.specs.Prelude.{ℕ, zero, suc, ◌+◌, ◌*◌, ◌/◌, ◌%◌, List, [], ◌∷◌, ◌++◌, map, Bool, cond, not, ◌&&◌, ◌||◌, eqb, leb, ltb, length}
+use Rattle.std.specs.Prelude.{ℕ, zero, suc, ◌+◌, ◌*◌, ◌/◌, ◌%◌, List, [], ◌∷◌, ◌++◌, map, Bool, cond, not, ◌&&◌, ◌||◌, eqb, leb, ltb, length, Result, Ok, Err}
 use Rattle.records.specs.Bytes.{u32_at}
 use Rattle.records.specs.Layout.{last_side}
 use Rattle.fields.specs.Tests.{within, some_below}
@@ -9,7 +9,8 @@ use Rattle.rules.specs.Uncertain.{UncertainStep, least_price, greatest_price}
 use Rattle.range.specs.Layout.{entry_size, most_entries, side_offset, price_offset, low_offset, high_offset, most_figure}
 use Rattle.range.specs.declared.Entry.{Entry}
 use Rattle.range.specs.declared.PriceRange.{PriceRange}
-use Rattle.range.specs.declared.PriceRange.TheVariants.{Prices, Refused}
+use Rattle.book.specs.declared.refusal.Refusal.{Refusal}
+use Rattle.book.specs.declared.refusal.Refusal.TheVariants.{WrongList}
 
 -- Entry i of a list: side, price, low and high in 4 bytes apiece, high byte first
 unfoldable pub entry_at : List ℕ → ℕ → Entry
@@ -56,10 +57,7 @@ unfoldable pub wrong_list : List ℕ → Bool
 wrong_list b = wrong_size b || some_below (entry_count b) (out_of_range b)
 
 -- The answer: refused with 17, or the least and greatest middle price over all quantities between
-unfoldable pub range_of : List ℕ → PriceRange
-range_of b = cond (wrong_list b) (Refused 17) (Prices (least_price (uncertain_steps b)) (greatest_price (uncertain_steps b)))
-
--- Document 02's number for an answer; 0, which is ours, where it is no refusal
-abbrev pub number_of : PriceRange → ℕ
-number_of (Prices least greatest) = 0
-number_of (Refused n) = n
+unfoldable pub range_of : List ℕ → Result PriceRange Refusal
+range_of b =
+    cond (wrong_list b) (Err WrongList)
+    (Ok (record { least = least_price (uncertain_steps b); greatest = greatest_price (uncertain_steps b) }))

@@ -1,4 +1,4 @@
-// Where a list's bytes have what, and how large a list and its fields may be (document 02, P14). No code, no contract; the same numbers for the contracts
+// Where a list's bytes have what, and how large a list and its fields may be. No code, no contract; the same numbers for the contracts
 // stand in specs/Layout.antt, the largest side in records, the highest price in book.
 
 // The bytes of an entry: entry i starts at byte 16 * i.

@@ -1,31 +1,30 @@
-// Prices when wind is uncertain (document 02, P14): from a list of steps whose quantities are known from a low to a high figure to the least and greatest
+// Prices when wind is uncertain: from a list of steps whose quantities are known from a low to a high figure to the least and greatest
 // middle price of their hour, without blocks. Both are met at a corner: buys low and sells high, or buys high and sells low. Assumes nothing.
 #![tactic(auto)]
 
-ghost use Rattle.std.specs.Prelude.{◌≡◌, ◌≤◌, ◌<◌};
-ghost use Rattle.pricing.specs.Curves.{Columns};
+ghost use Rattle.std.specs.Prelude.{◌≡◌, ◌≤◌, ◌<◌, true, MatchOption};
+ghost use Rattle.fields.specs.Tests.{some_below};
 ghost use Rattle.range.specs.Layout.{most_entries};
-ghost use Rattle.range.specs.Range.{entry_at, entry_fits, wrong_size, range_of};
+ghost use Rattle.range.specs.Range.{entry_at, entry_fits, wrong_size, out_of_range, range_of};
 ghost use Rattle.range.specs.Corners.{side_number, least_quantity, greatest_quantity, Decoded, PriceOf};
 
 use crate::layout::{
     ENTRY_SIZE, HIGH_OFFSET, LOW_OFFSET, MOST_ENTRIES, MOST_FIGURE, PRICE_OFFSET, SIDE_OFFSET,
 };
+use book::{Refusal, refuse};
 use fields::MAX_PRICE;
+use orders::HourSteps;
+use pricing::BIAS;
 use pricing::hour::answer_of;
-use pricing::{BIAS, HourAnswer};
 use records::{LAST_SIDE, u32_at};
 
 mod layout; // where a list's bytes have what
 
-// The refusal of a list.
-const WRONG_LIST: u8 = 17;
-
-// The answer: the least and greatest middle price over all quantities between, or a refusal with its number.
-#[derive(Drop)]
-pub enum PriceRange {
-    Prices { least: u32, greatest: u32 },
-    Refused(u8),
+// The least and greatest middle price over all quantities between.
+#[derive(Clone, Copy, Debug, PartialEq, Eq)]
+pub struct PriceRange {
+    pub least: u32,
+    pub greatest: u32,
 }
 
 // An entry of a list. Price in cents per MWh, figures in tenths of a MW.
@@ -37,11 +36,9 @@ struct Entry {
     high: u32,
 }
 
-// A list's entries as columns: sides (0 buy, 1 sell), prices, and the quantities at the corner of the least and of the greatest price; and whether a
-// field is out of range.
+// A list's entries as columns: sides (0 buy, 1 sell), prices, and the quantities at the corner of the least and of the greatest price.
 #[derive(Drop)]
 struct Entries {
-    wrong: bool,
     sides: [u8; MOST_ENTRIES],
     prices: [u32; MOST_ENTRIES],
     least: [u32; MOST_ENTRIES],
@@ -87,7 +84,7 @@ impl Entry {
     fn side_number(self) -> u8
         ensures { result ≡ side_number self }
     {
-        if self.side == 0 { 0 } else { 1 }
+        u8::from(self.side != 0)
     }
 
     // Its quantity where the price is least: a buy's low, a sell's high.
@@ -105,69 +102,64 @@ impl Entry {
     }
 }
 
-// The first entries of a list, count of them, as columns.
-fn entries_of(list: &[u8], count: usize) -> Entries
+// The first entries of a list, count of them, as columns; none where a field is out of range.
+fn entries_of(list: &[u8], count: usize) -> Option<Entries>
     requires { count ≤ most_entries }
-    ensures { Decoded list.now count result.wrong result.sides result.prices result.least result.greatest }
+    ensures { MatchOption result (some_below count (out_of_range list.now) ≡ true)
+        (λ found. Decoded list.now count found.sides found.prices found.least found.greatest) }
 {
-    let mut wrong = false;
-    let mut sides = [0u8; MOST_ENTRIES];
-    let mut prices = [0u32; MOST_ENTRIES];
-    let mut least = [0u32; MOST_ENTRIES];
-    let mut greatest = [0u32; MOST_ENTRIES];
-    let mut i: usize = 0;
-    while i < count {
+    let mut sides = [0; MOST_ENTRIES];
+    let mut prices = [0; MOST_ENTRIES];
+    let mut least = [0; MOST_ENTRIES];
+    let mut greatest = [0; MOST_ENTRIES];
+    for i in 0..count {
         let entry = entry_at(list, i);
-        wrong = !entry.fits() | wrong;
+        if !entry.fits() {
+            return None;
+        }
         sides[i] = entry.side_number();
         prices[i] = entry.price;
         least[i] = entry.least_quantity();
         greatest[i] = entry.greatest_quantity();
-        i += 1;
     }
-    Entries {
-        wrong,
+    Some(Entries {
         sides,
         prices,
         least,
         greatest,
-    }
+    })
 }
 
-// The middle price of the hour of three columns, without blocks; it always clears.
-fn price_of(sides: &[u8], prices: &[u32], quantities: &[u32]) -> u32
-    requires { Columns sides.now prices.now quantities.now }
-    ensures { PriceOf sides.now prices.now quantities.now result }
+// The middle price of an hour's steps, without blocks; it always clears.
+fn price_of(steps: &HourSteps) -> u32
+    ensures { PriceOf steps.now.sides.now steps.now.prices.now steps.now.quantities.now result }
 {
-    let answer = answer_of(sides, prices, quantities, BIAS as u32);
-    match answer {
-        HourAnswer::Cleared {
-            low: _,
-            high: _,
-            price,
-        } => price,
-        HourAnswer::NotClearing => 0,
-        HourAnswer::Refused(_) => 0,
+    match answer_of(steps, BIAS as u32) {
+        Some(found) => found.price,
+        None => 0,
     }
 }
 
 // The least and greatest middle price over all quantities between a list's low and high figures, or 17.
-pub fn price_range(list: &[u8]) -> PriceRange
+pub fn price_range(list: &[u8]) -> Result<PriceRange, Refusal>
     ensures { result ≡ range_of list.now }
 {
-    if has_wrong_size(list) {
-        return PriceRange::Refused(WRONG_LIST);
-    }
+    refuse(has_wrong_size(list), Refusal::WrongList)?;
     let count = list.len() / ENTRY_SIZE;
-    let entries = entries_of(list, count);
-    if entries.wrong {
-        return PriceRange::Refused(WRONG_LIST);
-    }
-    let sides = entries.sides;
-    let prices = entries.prices;
-    let low = entries.least;
-    let high = entries.greatest;
-    let least = price_of(&sides[..count], &prices[..count], &low[..count]);
-    let greatest = price_of(&sides[..count], &prices[..count], &high[..count]);
-    PriceRange::Prices { least, greatest }
+    let Some(entries) = entries_of(list, count) else {
+        return Err(Refusal::WrongList);
+    };
+    let sides = &entries.sides[..count];
+    let prices = &entries.prices[..count];
+    let least = price_of(&HourSteps {
+        sides,
+        prices,
+        quantities: &entries.least[..count],
+    });
+    let greatest = price_of(&HourSteps {
+        sides,
+        prices,
+        quantities: &entries.greatest[..count],
+    });
+    Ok(PriceRange { least, greatest })
 }

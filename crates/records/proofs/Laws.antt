@@ -1,25 +1,20 @@
 -- The laws that the functions' proofs cite: one byte more of a run, or none, and the hours of a block, counted. Assumes nothing.
-use Prim.Native.Nat.{ℕ, zero, suc, ◌+◌, ◌-◌, ◌/◌, ◌%◌, ◌^◌, ◌≤◌, ◌<◌}
+use Prim.Native.Nat.{ℕ, zero, suc, ◌+◌, ◌/◌, ◌%◌, ◌^◌, ◌≤◌}
 use mathlib.Core.Path.{◌≡◌, refl}
 use mathlib.Core.List.{List}
-use mathlib.Core.Bool.{Bool, true, false, cond, not, ◌||◌}
+use mathlib.Core.Bool.{Bool, true, false, cond, not}
 use native.Mathlib.Omega.{arith}
 use native.Mathlib.Numerals.{sub-one, add-one}
 use lib.Dec.{eqb}
+use Rattle.std.specs.List.{list_any, range_with_len}
 use Rattle.records.specs.Bytes.{byte_at, nonzero}
 use Rattle.records.specs.Records.{holds_hour, hours_set}
 
--- No byte is left to look at
-pub nonzero-none : (b : List ℕ) (i n : ℕ) → n ≤ 0 → nonzero b i n ≡ false
+-- The bytes of a run are looked at one by one
+pub nonzero-any : (b : List ℕ) (i n : ℕ) → list_any (λ k. not (eqb (byte_at b k) 0)) (range_with_len i n) ≡ nonzero b i n
 unfolding nonzero
-nonzero-none b i zero h = refl
-nonzero-none b i (suc n) h = absurd (omega arith)
-
--- The first byte, then those after it
-pub nonzero-more : (b : List ℕ) (i n : ℕ) → 0 < n → nonzero b i n ≡ (not (eqb (byte_at b i) 0) || nonzero b (i + 1) (n - 1))
-unfolding nonzero
-nonzero-more b i zero h = absurd (omega arith)
-nonzero-more b i (suc n) h = rw sub-one
+nonzero-any b i zero = refl
+nonzero-any b i (suc n) = rw (nonzero-any b (i + 1) n)
 
 -- One hour more
 pub hour-more : (n x : ℕ) → hours_set (n + 1) x ≡ hours_set n x + cond (eqb (x / 2 ^ n % 2) 1) 1 0

@@ -1,4 +1,4 @@
-// Where a book's bytes have what (document 01, "The book in bytes"). No code, no contract; the same numbers for the contracts stand in
+// Where a book's bytes have what. No code, no contract; the same numbers for the contracts stand in
 // specs/Layout.antt.
 
 // The bytes of a record: record k starts at byte 16 * k.
@@ -29,7 +29,7 @@ pub const HEAD_REST_OFFSET: u32 = 10;
 pub const HEAD_REST_SIZE: u16 = 6;
 
 // A RECORD, counted from the byte where it starts, its kind.
-// The kind of a step.
+// The kind of a step. The kinds are bytes of a book, compared with what a chain asks for; read records are the enum Record.
 pub const STEP_KIND: u8 = 1;
 
 // The kind of a block.

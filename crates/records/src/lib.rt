@@ -1,7 +1,10 @@
-// The records of a book, layer 1 of document 01: the head's fields and those of record k at their bytes, and a record as a step, a block or a link.
+// The records of a book: the head's fields and those of record k at their bytes, and a record as a step, a block or a link.
 // Nothing is judged here: every call takes any bytes, ends, and has no `requires`. A missing byte reads as 0, and a
 // record that the book ends within is none of the three. Assumes nothing.
 #![tactic(auto)]
+
+ghost use Rattle.std.specs.Prelude.{◌≡◌};
+ghost use Rattle.records.specs.Records.{side_of};
 
 mod bytes; // numbers in the bytes
 mod layout; // where a book's bytes have what
@@ -18,14 +21,23 @@ pub use records::{
     record_count, side_byte, step_at,
 };
 
-#[derive(Drop)]
+#[derive(Clone, Copy)]
 pub enum Side {
     Buy,
     Sell,
 }
 
+// The side that a byte names: 0 buy, 1 sell; another byte is refused before it is asked.
+impl From<u8> for Side {
+    ghost from_gives = { λ byte side. side ≡ side_of byte };
+
+    fn from(byte: u8) -> Side {
+        if byte == 0 { Side::Buy } else { Side::Sell }
+    }
+}
+
 // An hourly step. Price in cents per MWh, quantity in tenths of a MW.
-#[derive(Drop)]
+#[derive(Clone, Copy)]
 pub struct Step {
     pub side: Side,
     pub number: u16,
@@ -36,7 +48,7 @@ pub struct Step {
 }
 
 // A block. Hour h has the weight 2 to the power h - 1 in `hours`; the quantity is that of each of them.
-#[derive(Drop)]
+#[derive(Clone, Copy)]
 pub struct Block {
     pub side: Side,
     pub number: u16,
@@ -47,14 +59,14 @@ pub struct Block {
 }
 
 // A link: the block numbered child may be taken only with the block numbered parent.
-#[derive(Drop)]
+#[derive(Clone, Copy)]
 pub struct Link {
     pub child: u16,
     pub parent: u16,
 }
 
-// A record as its kind says.
-#[derive(Drop)]
+// A record as its kind says. `Other` stays a case of it, no Option around it: the causes of a refusal in specs/ are told by these four cases.
+#[derive(Clone, Copy)]
 pub enum Record {
     Step(Step),
     Block(Block),

@@ -1,10 +1,10 @@
-// The fields of the head and of record k, and a record as a step, a block or a link (document 01, "The book in bytes").
+// The fields of the head and of record k, and a record as a step, a block or a link.
 // Record k starts at byte 16 * k. Assumes nothing.
 ghost use Rattle.std.specs.Prelude.{◌≡◌, ◌+◌, ◌*◌};
 ghost use Rattle.records.specs.Layout.{last_hour};
 ghost use Rattle.records.specs.Records.{record_count, first_step, first_block, first_link, day_hours, edition};
 ghost use Rattle.records.specs.Records.{kind, side_byte, next, number, hour_byte, portfolio};
-ghost use Rattle.records.specs.Records.{side_of, step_at, block_at, link_at, link_rest, record_at, hours_set};
+ghost use Rattle.records.specs.Records.{step_at, block_at, link_at, link_rest, record_at, hours_set};
 
 use crate::bytes::{byte_at, is_nonzero, u16_at, u24_at, u32_at};
 use crate::layout::{
@@ -57,53 +57,48 @@ pub fn edition_of(book: &[u8]) -> u8
 pub fn kind_of(book: &[u8], k: u16) -> u8
     ensures { result ≡ kind book.now k }
 {
-    byte_at(book, RECORD_SIZE * (k as u32))
+    byte_at(book, RECORD_SIZE * u32::from(k))
 }
 
 pub fn side_byte(book: &[u8], k: u16) -> u8
     ensures { result ≡ side_byte book.now k }
 {
-    byte_at(book, RECORD_SIZE * (k as u32) + SIDE_OFFSET)
+    byte_at(book, RECORD_SIZE * u32::from(k) + SIDE_OFFSET)
 }
 
 pub fn next_of(book: &[u8], k: u16) -> u16
     ensures { result ≡ next book.now k }
 {
-    u16_at(book, RECORD_SIZE * (k as u32) + NEXT_OFFSET)
+    u16_at(book, RECORD_SIZE * u32::from(k) + NEXT_OFFSET)
 }
 
 pub fn number_of(book: &[u8], k: u16) -> u16
     ensures { result ≡ number book.now k }
 {
-    u16_at(book, RECORD_SIZE * (k as u32) + NUMBER_OFFSET)
+    u16_at(book, RECORD_SIZE * u32::from(k) + NUMBER_OFFSET)
 }
 
 // A step's hour; 0 in a block.
 pub fn hour_byte(book: &[u8], k: u16) -> u8
     ensures { result ≡ hour_byte book.now k }
 {
-    byte_at(book, RECORD_SIZE * (k as u32) + HOUR_OFFSET)
+    byte_at(book, RECORD_SIZE * u32::from(k) + HOUR_OFFSET)
 }
 
 pub fn portfolio_of(book: &[u8], k: u16) -> u8
     ensures { result ≡ portfolio book.now k }
 {
-    byte_at(book, RECORD_SIZE * (k as u32) + PORTFOLIO_OFFSET)
-}
-
-fn side_of(byte: u8) -> Side
-    ensures { result ≡ side_of byte }
-{
-    if byte == 0 { Side::Buy } else { Side::Sell }
+    byte_at(book, RECORD_SIZE * u32::from(k) + PORTFOLIO_OFFSET)
 }
 
 // Record k read as a step, whatever its kind.
+#[tactic(auto, unfolding(crate::specs::Records::step_at))]
 pub fn step_at(book: &[u8], k: u16) -> Step
     ensures { result ≡ step_at book.now k }
 {
-    let at = RECORD_SIZE * (k as u32);
+    let at = RECORD_SIZE * u32::from(k);
     Step {
-        side: side_of(side_byte(book, k)),
+        side: Side::from(side_byte(book, k)),
         number: number_of(book, k),
         hour: hour_byte(book, k),
         portfolio: portfolio_of(book, k),
@@ -113,19 +108,21 @@ pub fn step_at(book: &[u8], k: u16) -> Step
 }
 
 // The quantity of record k read as a block, whatever its kind.
+#[tactic(auto, unfolding(crate::specs::Records::block_at))]
 pub fn block_quantity(book: &[u8], k: u16) -> u16
     ensures { result ≡ (block_at book.now k).quantity }
 {
-    u16_at(book, RECORD_SIZE * (k as u32) + BLOCK_QUANTITY_OFFSET)
+    u16_at(book, RECORD_SIZE * u32::from(k) + BLOCK_QUANTITY_OFFSET)
 }
 
 // Record k read as a block, whatever its kind. `record_at` is its only caller: with a second one it stays a call, and each reading of a record is slower.
+#[tactic(auto, unfolding(crate::specs::Records::block_at))]
 fn block_at(book: &[u8], k: u16) -> Block
     ensures { result ≡ block_at book.now k }
 {
-    let at = RECORD_SIZE * (k as u32);
+    let at = RECORD_SIZE * u32::from(k);
     Block {
-        side: side_of(side_byte(book, k)),
+        side: Side::from(side_byte(book, k)),
         number: number_of(book, k),
         portfolio: portfolio_of(book, k),
         hours: u24_at(book, at + BLOCK_HOURS_OFFSET),
@@ -135,45 +132,43 @@ fn block_at(book: &[u8], k: u16) -> Block
 }
 
 // Record k read as a link, whatever its kind.
+#[tactic(auto, unfolding(crate::specs::Records::link_at))]
 pub fn link_at(book: &[u8], k: u16) -> Link
     ensures { result ≡ link_at book.now k }
 {
     Link {
         child: number_of(book, k),
-        parent: u16_at(book, RECORD_SIZE * (k as u32) + PARENT_OFFSET),
+        parent: u16_at(book, RECORD_SIZE * u32::from(k) + PARENT_OFFSET),
     }
 }
 
 // Whether the bytes of a link behind its parent's number are not all 0.
+#[tactic(auto, unfolding(crate::specs::Records::link_rest))]
 pub fn has_link_rest(book: &[u8], k: u16) -> bool
     ensures { result ≡ link_rest book.now k }
 {
     is_nonzero(
         book,
-        RECORD_SIZE * (k as u32) + LINK_REST_OFFSET,
+        RECORD_SIZE * u32::from(k) + LINK_REST_OFFSET,
         LINK_REST_SIZE,
     )
 }
 
 // Record k as its kind says, where it is whole.
+#[tactic(auto, unfolding(crate::specs::Records::record_at))]
 pub fn record_at(book: &[u8], k: u16) -> Record
     ensures { result ≡ record_at book.now k }
 {
-    let behind = RECORD_SIZE * (k as u32) + RECORD_SIZE;
+    let behind = RECORD_SIZE * u32::from(k) + RECORD_SIZE;
     if book.len() < behind as usize {
         return Record::Other;
     }
-    let kind = kind_of(book, k);
-    if kind == STEP_KIND {
-        return Record::Step(step_at(book, k));
+    match kind_of(book, k) {
+        STEP_KIND => Record::Step(step_at(book, k)),
+        BLOCK_KIND => Record::Block(block_at(book, k)),
+        LINK_KIND => Record::Link(link_at(book, k)),
+        _ => Record::Other,
     }
-    if kind == BLOCK_KIND {
-        return Record::Block(block_at(book, k));
-    }
-    if kind == LINK_KIND {
-        return Record::Link(link_at(book, k));
-    }
-    Record::Other
 }
 
 // How many of the 24 hours are set.
@@ -182,13 +177,11 @@ pub fn hour_count(hours: u32) -> u32
 {
     let mut count = 0;
     let mut rest = hours;
-    let mut h: u32 = 0;
-    while h < LAST_HOUR {
+    for _ in 0..LAST_HOUR {
         if rest % 2 == 1 {
             count += 1;
         }
-        rest = rest / 2;
-        h += 1;
+        rest /= 2;
     }
     count
 }

@@ -7,8 +7,10 @@ use native.Mathlib.Nat.{zero-add, suc-add, add_comm, div-one, div-div-eq-div-mul
 use lib.Pow.{pow-add}
 use lib.ListN.{length, take, drop, set}
 use lib.Seq.{sets-eq}
+use borrow.Rule.Slice.PartMut.{put_mid}
+use lib.Seq.{drop-drop}
 use Rattle.text.specs.Buffer.{splice}
-use Rattle.text.proofs.BufferLaws.{then}
+use Rattle.std.specs.Int.{w32, w64, byte_at, bytes_high_first, to_be_bytes}
 use Rattle.result.specs.Result.{bytes_of}
 
 -- NUMBERS AS BYTES
@@ -37,24 +39,23 @@ four-cut x =
     let d : x % 4294967296 % 256 ≡ x % 256 = omega arith in
     four_are (x % 4294967296) ∙ rw (a, b, c, d) (sym (four_are x))
 
--- four stores in a row
-pub splice-four : (l : List ℕ) (at x : ℕ) → at + 4 ≤ length l →
-    set (set (set (set l at (x / 16777216 % 256)) (at + 1) (x / 65536 % 256)) (at + 2) (x / 256 % 256)) (at + 3) (x % 256)
-    ≡ splice l at (bytes_of 4 x)
-unfolding splice
-splice-four l at x h =
-    let one : at + 1 ≡ suc at = omega arith in
-    let two : at + 2 ≡ suc (suc at) = omega arith in
-    let three : at + 3 ≡ suc (suc (suc at)) = omega arith in
-    let bytes = (x / 16777216 % 256) ∷ (x / 65536 % 256) ∷ (x / 256 % 256) ∷ (x % 256) ∷ [] in
-    rw (four_are x, one, two, three) (sets-eq bytes l at h ∙ append_assoc (take at l) bytes (drop (at + 4) l))
+-- as the library writes them
+be_byte : (n x : ℕ) → byte_at n x ≡ x / 256 ^ n % 256
+be_byte zero x = rw (div-one x)
+be_byte (suc n) x = refl
 
--- a number of eight bytes as two of four
-pub splice-eight : (l m r : List ℕ) (at x : ℕ) → at + 8 ≤ length l →
-    m ≡ splice l at (bytes_of 4 (x / 4294967296)) → r ≡ splice m (at + 4) (bytes_of 4 (x % 4294967296)) → r ≡ splice l at (bytes_of 8 x)
-splice-eight l m r at x h e f =
-    let high = bytes_of 4 (x / 4294967296) in
-    let n = length-bytes 4 (x / 4294967296) in
-    let k = length-bytes 4 x in
-    then l m r at (at + 4) high (bytes_of 4 x) (omega arith) e (omega arith) (f ∙ ap (splice m (at + 4)) (four-cut x))
-    ∙ ap (splice l at) (sym (bytes-append 4 4 x))
+pub be-bytes : (n x : ℕ) → bytes_high_first n x ≡ bytes_of n x
+unfolding bytes_of
+be-bytes zero x = refl
+be-bytes (suc n) x = rw (be_byte n x, be-bytes n x)
+
+pub be-four : (x : ℕ) → to_be_bytes w32 x ≡ bytes_of 4 x
+be-four x = be-bytes 4 x
+
+pub be-eight : (x : ℕ) → to_be_bytes w64 x ≡ bytes_of 8 x
+be-eight x = be-bytes 8 x
+
+-- a part of a buffer that was written whole
+pub part-splice : (l bytes new : List ℕ) (at k : ℕ) → k ≡ length bytes → new ≡ bytes → put_mid at k l new ≡ splice l at bytes
+unfolding splice
+part-splice l bytes new at k n same = rw (n, same, drop-drop (length bytes) at l)

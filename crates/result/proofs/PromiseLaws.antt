@@ -2,7 +2,7 @@
 -- whole promise for a published and for a refused clearing. Assumes nothing.
 use Prim.Native.Nat.{ℕ, zero, suc, ◌+◌, ◌-◌, ◌*◌, ◌≤◌, ◌<◌}
 use mathlib.Core.Bool.{Bool, true, false, cond, ◌||◌}
-use mathlib.Core.Path.{◌≡◌, refl, ap₂, ◌∙◌}
+use mathlib.Core.Path.{◌≡◌, refl, sym, ap₂, ◌∙◌}
 use mathlib.Core.List.{List, [], ◌∷◌, ◌++◌, map}
 use native.Mathlib.Omega.{arith}
 use lib.Dec.{eqb}
@@ -13,9 +13,9 @@ use Rattle.records.specs.Bytes.{u32_at}
 use Rattle.fields.specs.Tests.{some_in, member}
 use Rattle.records.specs.Records.{record_count, day_hours, block_at}
 use Rattle.chains.specs.Chains.{step_order, block_order, link_order}
-use Rattle.book.specs.Refusals.{first_cause, refusal, Accepted}
+use Rattle.book.specs.Refusals.{own_causes, first_cause, refusal, Accepted}
 use Rattle.chains.proofs.Members.{Each, each_member, Distinct}
-use Rattle.book.proofs.Refused.{refusal-then}
+use Rattle.book.proofs.Refused.{refusal-then, answer-refused, answered_some, number-of-causes, own-have, have-append}
 use Rattle.book.proofs.Accepted.{accepted-zero, StepRecord, BlockRecord, LinkRecord, step-records, block-records, link-records}
 use Rattle.book.proofs.Accepted.{steps-distinct, blocks-distinct, one-chain, link-only, record-count}
 use Rattle.rules.specs.Hour.{when}
@@ -33,7 +33,11 @@ use Rattle.orders.proofs.BridgeLaws.{day-blocks, day-quiet, day-hours-read, pric
 use Rattle.result.specs.Result.{bytes_of, hour_rows, beside, block_rows, row_of, record_rows, result_bytes}
 use Rattle.result.specs.Result.{welfare_in, price_in, traded_in, row_in, step_rows_in, taken_in}
 use Rattle.result.specs.Promise.{wrong_buffer, clear_refusal, clearing, result_after, RowsInFull, Demands, Promise}
-use Rattle.result.specs.declared.Clearing.TheVariants.{Published, Refused}
+use Rattle.std.specs.Prelude.{Ok, Err}
+use Rattle.book.specs.Numbers.{refusal_numbered, answered, number_of}
+use Rattle.book.specs.Answers.{reading}
+use Rattle.book.specs.declared.refusal.Refusal.{Refusal}
+use Rattle.book.specs.declared.refusal.Refusal.TheVariants.{WrongBuffer}
 use Rattle.result.proofs.ReadLaws.{welfare-read, price-read, traded-read, row_read_lem, length-result}
 use Rattle.result.proofs.SizeLaws.{small-day}
 use Rattle.result.proofs.RowsLaws.{published_blocks, chosen_is, executed-is, executed-count, beside-absent, block_rows-length, row_room}
@@ -174,18 +178,32 @@ pub not-refused : (b before : List ℕ) → Accepted b → length before ≡ 196
 unfolding clear_refusal wrong_buffer first_cause
 not-refused b before a e = refusal-then b _ ∙ rw (accepted-zero b a, eq-eqb (length before) (196 + 4 * record_count b) e)
 
+-- the answer's number is it
+pub number-clearing : (b before : List ℕ) → number_of (clearing b before) ≡ clear_refusal b before
+unfolding clearing clear_refusal first_cause refusal_numbered
+number-clearing b before = number-of-causes (own_causes b ++ ((wrong_buffer b before, 7) ∷ [])) tt (have-append (own_causes b) _ (own-have b) (refl, tt))
+
 -- THE PROMISE of a refused clearing
-pub promise-refused : (b before after : List ℕ) (n : ℕ) → clear_refusal b before ≡ n → (n ≡ 0 → ⊥) → after ≡ before → Promise b before after (Refused n)
+promise-refused : (b before after : List ℕ) (n : ℕ) → clear_refusal b before ≡ n → (n ≡ 0 → ⊥) → after ≡ before → Promise b before after (Err (refusal_numbered n))
 unfolding clearing result_after
 promise-refused b before after n e f same =
     record {
-      answers = rw (e, ne_eqb n 0 f);
+      answers = rw e (sym (answered_some n tt f));
       bytes = same ∙ rw (e, ne_eqb n 0 f);
-      demands = λ q. absurd (never q);
+      demands = λ q. absurd (cc);
     }
-  where
-    never : Refused n ≡ Published → ⊥
-    never q = let z : ◌≡◌ {A = ℕ} 0 1 = cc in omega arith
+
+-- for the book's own refusal
+pub promise-refused-book : (b before after : List ℕ) (why : Refusal) → reading b ≡ Err why → after ≡ before → Promise b before after (Err why)
+promise-refused-book b before after why e same =
+    let r = answer-refused b why e in
+    rw r.2 (promise-refused b before after (refusal b) (refused-book b before (refusal b) refl r.0) r.0 same)
+
+-- for a buffer of another size
+pub promise-refused-buffer : (b before after : List ℕ) → Accepted b → (length before ≡ 196 + 4 * record_count b → ⊥) → after ≡ before
+    → Promise b before after (Err WrongBuffer)
+unfolding refusal_numbered
+promise-refused-buffer b before after a f same = promise-refused b before after 7 (refused-buffer b before a f) (λ e. omega arith) same
 
 -- THE HOURS IN ORDER
 pub hours-length : (n : ℕ) (f : ℕ → ℕ) → length (for_hours n f) ≡ n
@@ -276,8 +294,8 @@ pub promise-kept : (b : List ℕ) → Accepted b → Demands b (result_bytes b)
 promise-kept b a = demands-met b (result_bytes b) a (result_says b a)
 
 pub promise-published : (b before after : List ℕ) → Accepted b → length before ≡ 196 + 4 * record_count b → after ≡ result_bytes b →
-    Promise b before after Published
-unfolding clearing result_after
+    Promise b before after (Ok tt)
+unfolding clearing result_after answered
 promise-published b before after a size same =
     record {
       answers = rw (not-refused b before a size);

@@ -1,15 +1,15 @@
 -- WHAT A CLEARING PROMISES, for every byte string and every result buffer. Definitions only. Assumes nothing.
-use Rattle.std.specs.Prelude.{ℕ, ◌+◌, ◌*◌, Bool, cond, not, List, [], ◌∷◌, ◌++◌, ◌≡◌, eqb, length}
+use Rattle.std.specs.Prelude.{ℕ, ◌+◌, ◌*◌, Bool, cond, not, List, [], ◌∷◌, ◌++◌, ◌≡◌, eqb, length, Result, Ok}
 use Rattle.records.specs.Records.{record_count, block_at}
 use Rattle.chains.specs.Chains.{block_order}
 use Rattle.book.specs.Refusals.{own_causes, first_cause}
+use Rattle.book.specs.Numbers.{answered}
+use Rattle.book.specs.declared.refusal.Refusal.{Refusal}
 use Rattle.rules.specs.Contender.{BeatsAll}
 use Rattle.rules.specs.OutcomeRules.{OutcomeRules}
 use Rattle.orders.specs.Bridge.{day_from}
 use Rattle.result.specs.Layout.{result_size}
 use Rattle.result.specs.Result.{result_bytes, welfare_in, price_in, traded_in, row_in, step_rows_in, taken_in}
-use Rattle.result.specs.declared.Clearing.{Clearing}
-use Rattle.result.specs.declared.Clearing.TheVariants.{Published, Refused}
 
 -- 7: a result buffer not of 196 + 4 × R bytes.
 unfoldable pub wrong_buffer : List ℕ → List ℕ → Bool
@@ -19,14 +19,9 @@ wrong_buffer b result = not (eqb (length result) (result_size (record_count b)))
 unfoldable pub clear_refusal : List ℕ → List ℕ → ℕ
 clear_refusal b result = first_cause (own_causes b ++ ((wrong_buffer b result, 7) ∷ []))
 
--- The answer.
-unfoldable pub clearing : List ℕ → List ℕ → Clearing
-clearing b result = cond (eqb (clear_refusal b result) 0) Published (Refused (clear_refusal b result))
-
--- Document 01's number for an answer; 0 for a published one is ours.
-abbrev pub number_of : Clearing → ℕ
-number_of Published = 0
-number_of (Refused n) = n
+-- The answer: published, or refused for the first of these causes.
+unfoldable pub clearing : List ℕ → List ℕ → Result (Unit {0}) Refusal
+clearing b result = answered (clear_refusal b result) tt
 
 -- What the result buffer holds afterwards: the result, or, where the clearing is refused, what it held before.
 unfoldable pub result_after : List ℕ → List ℕ → List ℕ
@@ -48,9 +43,9 @@ pub record Demands (b result : List ℕ) : Type 0 where
   pub best : BeatsAll (day_from b) (taken_in b result) (step_rows_in b result) (welfare_in result)
 
 -- The promise of `clear`, of the book b, the result buffer before and after, and the answer.
-pub record Promise (b before after : List ℕ) (answer : Clearing) : Type 0 where
+pub record Promise (b before after : List ℕ) (answer : Result (Unit {0}) Refusal) : Type 0 where
   -- the answer and every byte, for accepted and refused input alike
   pub answers : answer ≡ clearing b before
   pub bytes : after ≡ result_after b before
   -- a published result meets the demands
-  pub demands : answer ≡ Published → Demands b after
+  pub demands : answer ≡ Ok tt → Demands b after

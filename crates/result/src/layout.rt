@@ -1,6 +1,5 @@
-// Where a result's bytes have what (document 01, "Result: 8 bytes welfare; .."). No code, no contract; the same numbers for the contracts stand in
-// specs/Layout.antt.
-use orders::layout::HOURS;
+// Where a result's bytes have what. No code, no contract; the same numbers for the contracts stand in specs/Layout.antt.
+use orders::layout::{HOURS, STEP_PLACES};
 
 // Bytes 0-7: the welfare, its higher half first.
 pub const WELFARE_SIZE: usize = 8;
@@ -17,3 +16,6 @@ pub const RECORD_ROW: usize = 4;
 
 // Record k stands at this byte and 4 * k: the head, record 0, has no row.
 pub const RECORD_ROWS: usize = WELFARE_SIZE + HOURS * HOUR_ROW - RECORD_ROW;
+
+// The most bytes of a result: that of as many records as a book may have.
+pub const MOST_RESULT: usize = RECORD_ROWS + RECORD_ROW * STEP_PLACES;

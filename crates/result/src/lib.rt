@@ -1,4 +1,4 @@
-// The result of a clearing: the answer, and the result's bytes: 8 bytes welfare, the price and the traded quantity of each hour, the row of each record.
+// The result of a clearing: the result's bytes: 8 bytes welfare, the price and the traded quantity of each hour, the row of each record.
 // Numbers stand high byte first. What a clearing promises of them is in specs/Promise. Assumes nothing.
 #![tactic(auto)]
 
@@ -12,36 +12,17 @@ ghost use Rattle.text.specs.Buffer.{splice};
 mod layout; // where a result's bytes have what
 mod numbers; // the numbers of a result read again
 
-use crate::layout::{HALF, HOUR_ROW, TRADED, WELFARE_SIZE};
-pub use layout::{RECORD_ROW, RECORD_ROWS};
+use crate::layout::{HOUR_ROW, TRADED, WELFARE_SIZE};
+pub use layout::{MOST_RESULT, RECORD_ROW, RECORD_ROWS};
 pub use numbers::{price_in, row_in, traded_in, welfare_in};
 use orders::layout::{BLOCK_PLACES, HOURS, STEP_PLACES};
 
-// What a clearing answers: the outcome is published, or refused with its number.
-#[derive(Drop)]
-pub enum Clearing {
-    Published,
-    Refused(u8),
-}
-
-// Four bytes from `at` on.
-fn put32(res: &mut [u8], at: usize, value: u32)
-    requires { at + 4 ≤ length res.old }
-    ensures { res.new ≡ splice res.old at (bytes_of 4 value) }
+// `bytes` from `at` on.
+fn put(res: &mut [u8], at: usize, bytes: &[u8])
+    requires { at + length bytes.now ≤ length res.old }
+    ensures { res.new ≡ splice res.old at bytes.now }
 {
-    res[at] = (value / 16777216 % 256) as u8;
-    res[at + 1] = (value / 65536 % 256) as u8;
-    res[at + 2] = (value / 256 % 256) as u8;
-    res[at + 3] = (value % 256) as u8;
-}
-
-// Eight bytes from `at` on.
-fn put64(res: &mut [u8], at: usize, value: u64)
-    requires { at + welfare_size ≤ length res.old }
-    ensures { res.new ≡ splice res.old at (bytes_of welfare_size value) }
-{
-    put32(res, at, (value / 4294967296) as u32);
-    put32(res, at + HALF, (value % 4294967296) as u32);
+    res[at..at + bytes.len()].copy_from_slice(bytes);
 }
 
 // The rows of the hours: hour h + 1 from byte 8 + 8 * h on.
@@ -49,11 +30,10 @@ fn put_hours(res: &mut [u8], prices: [u32; HOURS], quantities: [u32; HOURS])
     requires { result_size 1 ≤ length res.old }
     ensures { res.new ≡ splice res.old welfare_size (hour_rows prices quantities) }
 {
-    let mut h: usize = 0;
-    while h < HOURS {
-        put32(res, WELFARE_SIZE + HOUR_ROW * h, prices[h]);
-        put32(res, WELFARE_SIZE + HOUR_ROW * h + TRADED, quantities[h]);
-        h += 1;
+    for h in 0..HOURS {
+        let row = WELFARE_SIZE + HOUR_ROW * h;
+        put(res, row, &prices[h].to_be_bytes());
+        put(res, row + TRADED, &quantities[h].to_be_bytes());
     }
 }
 
@@ -62,10 +42,8 @@ fn put_records(res: &mut [u8], count: usize, rows: &[u32; STEP_PLACES])
     requires { (1 ≤ count) × (count ≤ step_places) × (length res.old ≡ result_size count) }
     ensures { res.new ≡ splice res.old (result_size 1) (record_rows (row_at rows.now) (count - 1) 1) }
 {
-    let mut k: usize = 1;
-    while k < count {
-        put32(res, RECORD_ROWS + RECORD_ROW * k, rows[k]);
-        k += 1;
+    for k in 1..count {
+        put(res, RECORD_ROWS + RECORD_ROW * k, &rows[k].to_be_bytes());
     }
 }
 
@@ -81,7 +59,7 @@ pub fn write_result(
     requires { (1 ≤ count) × (count ≤ step_places) × (length res.old ≡ result_size count) }
     ensures { res.new ≡ bytes_of welfare_size welfare ++ (hour_rows prices quantities ++ record_rows (row_at rows.now) (count - 1) 1) }
 {
-    put64(res, 0, welfare);
+    put(res, 0, &welfare.to_be_bytes());
     put_hours(res, prices, quantities);
     put_records(res, count, rows);
 }
@@ -92,10 +70,8 @@ pub fn with_rows(rows: [u32; STEP_PLACES], records: &[u16], values: &[u32]) -> [
     ensures { (k : ℕ) → k < step_places → get_or result k 0 ≡ beside k records.now values.now (get_or rows k 0) }
 {
     let mut filled = rows;
-    let mut i = records.len();
-    while 0 < i {
-        i -= 1;
-        let k = records[i] as usize;
+    for i in (0..records.len()).rev() {
+        let k = usize::from(records[i]);
         if k < STEP_PLACES {
             filled[k] = values[i];
         }
@@ -108,13 +84,11 @@ pub fn block_values(count: usize, quantities: &[u32], set: u32) -> [u32; BLOCK_P
     requires { (count ≤ length quantities.now) × (count ≤ block_places) }
     ensures { (i : ℕ) → i < count → get_or result i 0 ≡ cond (eqb (set / 2 ^ i % 2) 1) (get_or quantities.now i 0) 0 }
 {
-    let mut values = [0u32; BLOCK_PLACES];
-    let mut i: usize = 0;
-    while i < count {
+    let mut values = [0; BLOCK_PLACES];
+    for i in 0..count {
         if (set >> i) % 2 == 1 {
             values[i] = quantities[i];
         }
-        i += 1;
     }
     values
 }

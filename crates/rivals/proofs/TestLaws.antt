@@ -1,19 +1,20 @@
 -- THE TESTS OF A RIVAL, as the code goes through the blocks and the hours. Assumes nothing.
 use Prim.Native.Nat.{ℕ, ◌+◌, ◌*◌, ◌≤◌, ◌<◌}
-use mathlib.Core.Bool.{Bool, true, false, not, ◌&&◌, ◌||◌}
+use mathlib.Core.Bool.{Bool, true, false, not, ◌&&◌}
 use mathlib.Core.List.{List}
-use mathlib.Core.Path.{◌≡◌, refl, sym, ◌∙◌}
+use mathlib.Core.Path.{◌≡◌, refl, sym, ap, ◌∙◌}
+use Rattle.std.proofs.Common.{get_or, nat_eq}
+use Rattle.std.specs.Cmp.Lexicographic.{pointwise, same_text}
 use native.Mathlib.Omega.{arith}
 use native.Mathlib.Decide.{ℕ_discrete}
 use lib.Dec.{eqb, ltb}
-use borrow.Author.Tests.{eqb-true, eqb-false, ltb-true}
+use borrow.Author.Tests.{eqb-true, ltb-true}
 use Rattle.rules.proofs.Tests.{both, clash}
 use Rattle.rules.proofs.CostLaws.{tie_room}
 use Rattle.pricing.proofs.TotalsLaws.{side-sell}
 use Rattle.places.specs.Blocks.{side_at, hours_at, limit_at, parent_at}
 use Rattle.branches.specs.Decisions.{names_left}
-use Rattle.branches.proofs.DecisionLaws.{neither}
-use Rattle.rivals.specs.Tests.{holds, OutdoneAt, Below, OutdoneFor, ParentFor, ChildFor}
+use Rattle.rivals.specs.Tests.{holds, OutdoneAt, Below, ParentFor, ChildFor, SamePlaces}
 
 -- NUMBERS BELOW: none, and one more
 pub below_none : (P : ℕ → Type 0) → Below P 0
@@ -31,6 +32,14 @@ passes-not true true e f = refl
 passes-not true false e f = clash refl e
 passes-not false b e f = clash f refl
 
+-- THE SAME PLACES in every hour, by a test that finds no two lists that differ
+pub same-places : (others places : List ℕ) → false ≡ not (pointwise nat_eq others places) → SamePlaces places others
+same-places others places e j k = ap (λ u. get_or u j 0) (sym (same_text others places (unturned _ e)))
+  where
+    unturned : (b : Bool) → false ≡ not b → true ≡ b
+    unturned true f = refl
+    unturned false f = clash refl (sym f)
+
 -- A BLOCK THAT IS OUTDONE, for a buy and for a sell
 module _ (blocks : List ℕ) (j i : ℕ) (side : side_at blocks j ≡ side_at blocks i) (hours : hours_at blocks j ≡ hours_at blocks i) where
   pub outdone-buy : side_at blocks j ≡ 0 → limit_at blocks i ≤ limit_at blocks j → OutdoneAt blocks j i
@@ -38,11 +47,6 @@ module _ (blocks : List ℕ) (j i : ℕ) (side : side_at blocks j ≡ side_at bl
 
   pub outdone-sell : (side_at blocks j ≡ 0 → ⊥) → limit_at blocks j ≤ limit_at blocks i → OutdoneAt blocks j i
   outdone-sell e le = record { same_side = side; same_hours = hours; looser = rw (side-sell (side_at blocks j) e) le }
-
--- a block that the rival does not hold, or the set does
-pub outdone-not : (blocks : List ℕ) (n set rival j : ℕ) (a b : Bool) → a ≡ holds rival j → b ≡ holds set j → (a && not b) ≡ false →
-    OutdoneFor blocks n set rival j
-outdone-not blocks n set rival j a b ea eb e is out = clash (sym eb ∙ passes-not a b e (ea ∙ is)) out
 
 -- A BLOCK WITH ITS PARENT
 pub parent-held : (blocks : List ℕ) (rival j : ℕ) (a left : Bool) → a ≡ holds rival j → left ≡ names_left (parent_at blocks j) rival → (a && left) ≡ false →
@@ -66,9 +70,3 @@ pub less-by-tie : (loss tie loss' tie' : ℕ) → (eqb loss loss' && ltb tie tie
 less-by-tie loss tie loss' tie' e =
     let t = both (eqb loss loss') (ltb tie tie') e in
     omega (arith, eqb-true loss loss' t.0, ltb-true tie tie' t.1)
-
--- A TABLE THAT IS NOT EMPTY
-pub has-slots : (size : ℕ) (few : Bool) → (eqb size 0 || few) ≡ false → 0 < size
-has-slots size few e =
-    let some = eqb-false size 0 (neither (eqb size 0) few e).0 in
-    omega arith

@@ -4,12 +4,12 @@ ghost use Rattle.book.specs.Bounds.{most_blocks};
 ghost use Rattle.rules.proofs.CostLaws.{tie_room};
 ghost use Rattle.places.specs.Layout.{block_list_size};
 ghost use Rattle.places.specs.Blocks.{BlocksSized};
-ghost use Rattle.rivals.specs.Tests.{OutdoneAt, OutdoneIn, OutdoneFor, HoldsOutdone, HoldsParents, LeavesNoChild, SamePlaces, CostsLess};
+ghost use Rattle.rivals.specs.Tests.{OutdoneAt, OutdoneIn, OutdoneFor, HoldsOutdone, HoldsParents, LeavesNoChild, CostsLess};
 
 use crate::replay::takes;
 use branches::Node;
 use branches::next::is_left;
-use places::layout::{HOURS, LIMIT, PARENT, RUNS, SIDE};
+use places::layout::{LIMIT, PARENT, RUNS, SIDE};
 
 // Whether block j keeps its limit wherever block i does: it has the same side and hours, and its limit is no tighter.
 fn is_outdone_by(blocks: &[u32], j: usize, i: usize) -> bool
@@ -33,14 +33,10 @@ fn is_outdone(blocks: &[u32], at: u32, set: u32, j: usize) -> bool
     requires { (length blocks.now ≡ block_list_size) × (at ≤ most_blocks) × (j < most_blocks) }
     ensures { result ≡ true → OutdoneIn blocks.now at set j }
 {
-    let mut i: u32 = 0;
-    while i < at {
-        if takes(set, i) {
-            if is_outdone_by(blocks, j, i as usize) {
-                return true;
-            }
+    for i in 0..at {
+        if takes(set, i) && is_outdone_by(blocks, j, i as usize) {
+            return true;
         }
-        i += 1;
     }
     false
 }
@@ -61,12 +57,10 @@ pub fn holds_outdone(blocks: &[u32], at: u32, set: u32, rival: u32) -> bool
     requires { (length blocks.now ≡ block_list_size) × (at ≤ most_blocks) }
     ensures { result ≡ true → HoldsOutdone blocks.now at set rival }
 {
-    let mut j: u32 = 0;
-    while j < at {
+    for j in 0..at {
         if !is_matched(blocks, at, set, rival, j) {
             return false;
         }
-        j += 1;
     }
     true
 }
@@ -76,12 +70,10 @@ pub fn holds_parents(blocks: &[u32], at: u32, rival: u32) -> bool
     requires { BlocksSized blocks.now × (at ≤ most_blocks) }
     ensures { result ≡ true → HoldsParents blocks.now at rival }
 {
-    let mut j: u32 = 0;
-    while j < at {
+    for j in 0..at {
         if takes(rival, j) & is_left(blocks[PARENT + (j as usize)], rival) {
             return false;
         }
-        j += 1;
     }
     true
 }
@@ -91,27 +83,11 @@ pub fn leaves_no_child(blocks: &[u32], count: u32, at: u32, set: u32, rival: u32
     requires { BlocksSized blocks.now × (count ≤ most_blocks) × (at ≤ count) }
     ensures { result ≡ true → LeavesNoChild blocks.now count at set rival }
 {
-    let mut j = at;
-    while j < count {
+    for j in at..count {
         let parent = blocks[PARENT + (j as usize)];
         if is_left(parent, rival) & !is_left(parent, set) {
             return false;
         }
-        j += 1;
-    }
-    true
-}
-
-// Whether the places are the same in every hour.
-pub fn are_same(places: [u32; HOURS], others: [u32; HOURS]) -> bool
-    ensures { result ≡ true → SamePlaces places others }
-{
-    let mut h: usize = 0;
-    while h < HOURS {
-        if places[h] != others[h] {
-            return false;
-        }
-        h += 1;
     }
     true
 }

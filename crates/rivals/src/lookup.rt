@@ -5,7 +5,7 @@ ghost use Rattle.places.specs.Blocks.{BlocksSized};
 ghost use Rattle.branches.specs.Meaning.{Fits};
 ghost use Rattle.rivals.specs.Rivals.{RivalledIn};
 
-use crate::compare::{are_same, costs_less, holds_outdone, holds_parents, leaves_no_child};
+use crate::compare::{costs_less, holds_outdone, holds_parents, leaves_no_child};
 use crate::replay::replayed;
 use crate::slots::slot_of;
 use branches::Node;
@@ -29,16 +29,14 @@ fn is_rival(blocks: &[u32], count: u32, left: u32, node: Node, rival: u32) -> bo
         return false;
     }
     let other = replayed(blocks, at, rival);
-    let places = node.places;
-    let others = other.places;
-    if !are_same(places, others) {
+    if other.places != node.places {
         return false;
     }
     costs_less(other, node)
 }
 
 // Whether the branch has a rival in the table; where it has none, it takes the place of what was looked up. A table without slots is for a search without
-// rivals. A hint of no blocks is a slot that is empty, one of the branch's own the branch itself, met again.
+// rivals. A hint of no blocks is a slot that is empty, one of the branch's own the branch itself, met again. An Option in each slot would double the table.
 pub fn is_rivalled(blocks: &[u32], table: &mut [u32], count: u32, left: u32, node: Node) -> bool
     requires { BlocksSized blocks.now × (count ≤ most_blocks) × (left ≤ count) × Fits (count - left) node }
     ensures { result ≡ true → RivalledIn blocks.now count left node }
@@ -47,8 +45,7 @@ pub fn is_rivalled(blocks: &[u32], table: &mut [u32], count: u32, left: u32, nod
     if (size == 0) | (left < LEAST_LEFT) {
         return false;
     }
-    let places = node.places;
-    let slot = slot_of(places, count - left, size);
+    let slot = slot_of(node.places, count - left, size);
     let hint = table[slot];
     if (hint != 0) & (hint != node.set) {
         if is_rival(blocks, count, left, node, hint) {

@@ -16,7 +16,7 @@ use Rattle.rules.specs.Day.{autumn_hours, hour_count}
 use Rattle.rules.proofs.BoundsLaws.{weight-small, hour_count-small}
 use Rattle.rules.proofs.CurveLaws.{when-le}
 use Rattle.places.specs.Layout.{most_quantity, most_limit, hour_places}
-use Rattle.places.specs.Hours.{Small, row_width, HasRows}
+use Rattle.places.specs.Hours.{Small, HasRows, row_width}
 use Rattle.places.proofs.CellLaws.{row_fits}
 use Rattle.roots.specs.Roots.{RowHeld}
 
@@ -45,13 +45,6 @@ counted-few day x few =
 
 pub limit-fits : (price day x : ℕ) → day ≤ autumn_hours → price ≤ max_price → price * counted_hours day x ≤ most_limit
 limit-fits price day x few a = omega (arith, mul-le-mul a (counted-few day x few))
-
--- what an hour loses up and down, as it counts
-pub lost-fits : (t : Bool) (often times up down m : ℕ) → times ≡ cond t often 1 → often ≤ 2 → up ≤ m → down ≤ m → times * (up + down) ≤ 4 * m
-lost-fits t often times up down m e few a b =
-    let twice : times ≤ 2 = either-le t times often 1 2 e few (omega arith) in
-    let both : up + down ≤ 2 * m = omega arith in
-    omega (arith, mul-le-mul twice both)
 
 -- places moved on by a quantity in some hours
 pub moved-most : (x q : ℕ) (places more : List ℕ) → length more ≡ hour_places →

@@ -2,17 +2,17 @@
 // Hour 3 counts `often` times.
 ghost use Rattle.std.specs.Prelude.{ℕ, ◌+◌, ◌*◌, ◌≤◌, ◌<◌, get_or};
 ghost use Rattle.rules.specs.Orders.{max_price};
-ghost use Rattle.book.specs.Bounds.{most_blocks};
-ghost use Rattle.places.specs.Layout.{most_quantity, last_place};
-ghost use Rattle.places.specs.Hours.{Small, FirstSmall, HasRows};
+ghost use Rattle.places.specs.Layout.{last_place};
+ghost use Rattle.places.specs.Hours.{Small, HasRows};
 ghost use Rattle.roots.specs.Roots.{all_moves, round_moves};
 
 use crate::held::{Bounds, held};
+use crate::losses::Asked;
 use places::added::moved;
 use places::cells::{counted_prices, prices_at};
-use places::layout::{HOURS, LAST_AND_ABOVE, MOST_BLOCKS};
+use places::layout::{HOURS, LAST_AND_ABOVE};
 use places::limits::price_sum;
-use places::numbers::{choose, smaller};
+use places::numbers::choose;
 
 // The moves of a round, after which the prices are tried.
 pub const ROUND: u32 = 7;
@@ -22,27 +22,18 @@ pub const MOVES: u32 = 56;
 
 // A list of places with those added at which each block that gains at the prices, as they count, is taken, and no other: a sell that gains moves its hours
 // on, a buy that does not.
-pub fn added_places(
-    sum: [u32; HOURS],
-    count: usize,
-    hours: [u32; MOST_BLOCKS],
-    limits: [u32; MOST_BLOCKS],
-    quantities: [u32; MOST_BLOCKS],
-    root: [u32; HOURS],
-    often: u32,
-) -> [u32; HOURS]
-    requires blocks { (count ≤ most_blocks) × FirstSmall count most_quantity quantities }
-    requires prices { Small ((all_moves + round_moves) * last_place) sum × Small max_price root × (often ≤ 2) }
+pub fn added_places(sum: [u32; HOURS], asked: &Asked, root: [u32; HOURS]) -> [u32; HOURS]
+    requires { Small ((all_moves + round_moves) * last_place) sum × Small max_price root }
     ensures { (i : ℕ) → get_or result i 0 ≤ get_or sum i 0 + last_place }
 {
-    let counted = counted_prices(root, often);
+    let blocks = asked.blocks;
+    let counted = counted_prices(root, asked.often);
     let mut places = sum;
-    let mut i: usize = 0;
-    while i < count {
-        let moves = limits[i] <= price_sum(&counted, hours[i]);
-        let more = moved(places, hours[i], choose(moves, quantities[i], 0));
+    for i in 0..blocks.count {
+        let hours = blocks.hours[i];
+        let moves = asked.limits[i] <= price_sum(&counted, hours);
+        let more = moved(places, hours, choose(moves, blocks.quantities[i], 0));
         places = more;
-        i += 1;
     }
     places
 }
@@ -53,10 +44,8 @@ fn averaged(sum: [u32; HOURS], n: u32, last: u32) -> [u32; HOURS]
     ensures { Small last result }
 {
     let mut r = [0; HOURS];
-    let mut h: usize = 0;
-    while h < HOURS {
-        r[h] = smaller(sum[h] / n, last);
-        h += 1;
+    for h in 0..HOURS {
+        r[h] = (sum[h] / n).min(last);
     }
     r
 }
@@ -79,10 +68,8 @@ fn closer(a: [u32; HOURS], b: [u32; HOURS]) -> [u32; HOURS]
     ensures { Small max_price result }
 {
     let mut r = [0; HOURS];
-    let mut h: usize = 0;
-    while h < HOURS {
+    for h in 0..HOURS {
         r[h] = nearer(a[h], b[h]);
-        h += 1;
     }
     r
 }
@@ -95,39 +82,20 @@ pub struct Trail {
 }
 
 // A round more, where n places are added up: each move goes towards the prices at the average of the places so far at which the blocks that gain are taken.
-pub fn moved_on(
-    unit_prices: &[u32],
-    count: usize,
-    hours: [u32; MOST_BLOCKS],
-    limits: [u32; MOST_BLOCKS],
-    quantities: [u32; MOST_BLOCKS],
-    trail: Trail,
-    n: u32,
-    often: u32,
-    bounds: Bounds,
-) -> Trail
+pub fn moved_on(unit_prices: &[u32], asked: &Asked, trail: Trail, n: u32, bounds: &Bounds) -> Trail
     requires tables { HasRows unit_prices.now × Small max_price unit_prices.now }
-    requires blocks { (count ≤ most_blocks) × FirstSmall count most_quantity quantities }
     requires trail { (1 ≤ n) × (n < all_moves) × Small max_price trail.prices × Small (n * last_place) trail.sum }
-    requires often { often ≤ 2 }
-    requires bounds { Small max_price bounds.least × Small max_price bounds.most }
     ensures { Small max_price result.prices × Small ((n + round_moves) * last_place) result.sum }
 {
     let last = (unit_prices.len() / HOURS - LAST_AND_ABOVE) as u32;
     let mut root = trail.prices;
     let mut sum = trail.sum;
-    let mut k = n;
-    while k < n + ROUND {
-        let more = added_places(sum, count, hours, limits, quantities, root, often);
+    for k in n..n + ROUND {
+        let more = added_places(sum, asked, root);
         let mean = averaged(more, k + 1, last);
-        let there = prices_at(unit_prices, mean);
-        let next = closer(root, held(there, bounds));
+        let next = closer(root, held(prices_at(unit_prices, mean), bounds));
         sum = more;
         root = next;
-        k += 1;
     }
-    Trail {
-        prices: root,
-        sum: sum,
-    }
+    Trail { prices: root, sum }
 }

@@ -26,7 +26,7 @@ use Rattle.rules.proofs.PlaceLaws.{place, hour_at, prices_at, gaps_at, gaps-by-p
 use Rattle.rules.proofs.QuietHours.{each-in-place}
 use Rattle.rules.proofs.LawCutLaws.{taken-passes}
 use Rattle.places.specs.Layout.{hour_places, most_counted_gaps, most_loss}
-use Rattle.places.specs.Hours.{sum_of_hours, sum_over, counted_column, cell, of_hour, PlacesClear, GapsOf, PricesOf}
+use Rattle.places.specs.Hours.{sum_of_hours, sum_over, counted_column, cell, of_hour, PlacesClear, SumOf, PricesOf}
 use Rattle.places.specs.Blocks.{hours_at, rank_at, keeps_at, all_keep}
 use Rattle.branches.specs.Tables.{Tables}
 use Rattle.branches.specs.Meaning.{AnHour, Shown, Known, Branch, loss_above, cost_above, last_reached}
@@ -219,18 +219,17 @@ becomes-best {tables} {node} {limit = limit} {prices = prices} {best} {r} found 
     }
 
 -- A DECIDED SET, one law for each way out
-module _ {tables : Tables} {node : Node} {clears : Bool} {sum : ℕ}
-    (gapped : GapsOf (sum_over tables.change) most_counted_gaps tables.gaps tables.first tables.last node.places clears sum) where
+module _ {tables : Tables} {node : Node} where
   -- some hour does not clear
-  pub decided-unclear : {steps : ℕ → List Step} {best : Best} → clears ≡ false → Decided tables steps node best best
-  decided-unclear e day p rest d same known branch tied closed whole room =
-      leaf-as-it-was (λ law. absurd (gapped.not_in_range e (lawful-in-range known branch whole law)))
+  pub decided-unclear : {steps : ℕ → List Step} {best : Best} → (PlacesClear tables.first tables.last node.places → ⊥) → Decided tables steps node best best
+  decided-unclear unclear day p rest d same known branch tied closed whole room =
+      leaf-as-it-was (λ law. absurd (unclear (lawful-in-range known branch whole law)))
 
-  module _ (e : clears ≡ true) where
+  module _ {sum : ℕ} (gapped : SumOf (sum_over tables.change) most_counted_gaps tables.gaps tables.first tables.last node.places sum) where
     loss-here : {day : Day} {p rest : ℕ → ℕ} {d : List Bool} → Known day p rest tables → Branch day p d node → length d ≡ tables.count →
         loss_above day p rest d ≡ node.loss + sum
     unfolding loss_above
-    loss-here known branch whole = omega (arith, loss-is known branch whole (gapped.in_range e) sum (gapped.sum_is e))
+    loss-here known branch whole = omega (arith, loss-is known branch whole gapped.in_range sum gapped.sum_is)
 
     -- it loses as much as the best or more
     pub decided-worse : {steps : ℕ → List Step} {best : Best} → best.tie ≤ most_loss → limit_at best.limit best.tie node.tie ≤ node.loss + sum →
@@ -244,21 +243,21 @@ module _ {tables : Tables} {node : Node} {clears : Bool} {sum : ℕ}
         keeps_all day (taken day.blocks d) middle_shift
         ≡ all_keep tables.blocks node.set (counted_column tables.change prices) (counted_column tables.change prices) tables.count
     keeps-middle {prices} priced known branch whole =
-        keeps-by-columns known branch whole (gapped.in_range e) middle_shift prices priced.size
+        keeps-by-columns known branch whole gapped.in_range middle_shift prices priced.size
         (priced-at known branch whole middle middle_shift shifted-is-middle prices priced.are)
 
     module _ {steps : ℕ → List Step} {best : Best} where
       -- another shift is looked for
       pub decided-at-shift : {r : Best} → tables.shifts ≡ true → ShiftDecided tables steps node (node.loss + sum) best r → Decided tables steps node best r
       decided-at-shift way f day p rest d same known branch tied closed whole room =
-          f day p rest d same known branch tied closed whole room (sym (loss-here known branch whole)) (gapped.in_range e) way
+          f day p rest d same known branch tied closed whole room (sym (loss-here known branch whole)) gapped.in_range way
 
       module _ {prices : List ℕ} (priced : PricesOf middle tables.unit_prices node.places prices) where
         -- a block misses its limit there, and prices cannot give way
         pub decided-broken : all_keep tables.blocks node.set (counted_column tables.change prices) (counted_column tables.change prices) tables.count ≡ false →
             tables.shifts ≡ false → Decided tables steps node best best
         decided-broken k way day p rest d same known branch tied closed whole room =
-            leaf-as-it-was (λ law. absurd (limits-broken known branch whole (gapped.in_range e)
+            leaf-as-it-was (λ law. absurd (limits-broken known branch whole gapped.in_range
             (rw (no_shift day (taken day.blocks d) (known.shifts_is ∙ way)) (keeps-middle priced known branch whole ∙ k)) law))
 
         -- it is lawful and loses less
@@ -268,7 +267,7 @@ module _ {tables : Tables} {node : Node} {clears : Bool} {sum : ℕ}
         decided-better k small less found day p rest d same known branch tied closed whole room =
             let kept = keeps-middle priced known branch whole ∙ k in
             becomes-best found small less (sym (loss-here known branch whole)) tied same known branch whole room
-            (limits-kept known branch whole (gapped.in_range e) closed (middle-is day.edition) kept)
-            (prices-are known branch whole (gapped.in_range e) middle_shift prices priced.size
+            (limits-kept known branch whole gapped.in_range closed (middle-is day.edition) kept)
+            (prices-are known branch whole gapped.in_range middle_shift prices priced.size
             (priced-at known branch whole middle middle_shift shifted-is-middle prices priced.are)
             (middle-shift day (taken day.blocks d) kept))

@@ -6,6 +6,7 @@ use mathlib.Core.Bool.{Bool, true, false, not, ◌||◌}
 use native.Mathlib.Omega.{arith}
 use mathlib.Core.Logic.{◌⊎◌, inl, inr}
 use native.Mathlib.Nat.{eq-or-lt_of_le}
+use Rattle.std.specs.Prelude.{Some}
 use lib.Dec.{eqb}
 use lib.ListN.{length, length-append}
 use lib.Pow.{pow-add, pow_mono}
@@ -65,10 +66,10 @@ module _ {tables : Tables} where
       as_it_was (λ t l law _. loses-costs day p rest tables.blocks d node best at.tie_is small t ((rw is at dropped) day p rest d t at l law))
 
   -- it is judged: what is out of it then
-  pub explored-judged : {steps : ℕ → List Step} {left out limit r-out : ℕ} {node : Node} {best r : Best} {isDropped : Bool} →
-      limit ≡ limit_at best.limit best.tie node.tie → isDropped ≡ false → JudgedFrom tables left out node limit isDropped r-out →
-      ExploredFrom tables steps left r-out node best r → ExploredFrom tables steps left out node best r
-  explored-judged is e judged f day p rest d same at =
+  pub explored-judged : {steps : ℕ → List Step} {left out limit outs : ℕ} {node : Node} {best r : Best} →
+      limit ≡ limit_at best.limit best.tie node.tie → JudgedFrom tables left out node limit (Some outs) →
+      ExploredFrom tables steps left outs node best r → ExploredFrom tables steps left out node best r
+  explored-judged is judged f day p rest d same at =
       f day p rest d same record {
         known = at.known;
         turning = at.turning;
@@ -76,7 +77,7 @@ module _ {tables : Tables} where
         tie_is = at.tie_is;
         closed = at.closed;
         size = at.size;
-        out_of = (rw is at judged).out_of e day p rest d at;
+        out_of = (rw is at judged) day p rest d at;
       }
 
   -- no block is left

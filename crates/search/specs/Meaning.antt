@@ -12,12 +12,20 @@ use Rattle.rules.proofs.TwinLaws.{InTurn}
 use Rattle.places.specs.Layout.{hour_places, last_limit, most_loss}
 use Rattle.places.specs.Hours.{of_hour, PlacesClear}
 use Rattle.places.specs.Blocks.{rank_at, SetTrades}
-use Rattle.places.specs.Steps.{HoursTraded}
+use Rattle.places.specs.Steps.{steps_at, StepsSized, HoursTraded}
 use Rattle.branches.specs.Tables.{Tables, tables_of}
 use Rattle.branches.specs.Meaning.{AnHour, Known, Branch, loss_above, cost_above, At}
 use Rattle.branches.specs.declared.Node.{Node}
+use Rattle.orders.specs.declared.Steps as code-steps
 use Rattle.search.specs.declared.Day as code-day
 use Rattle.search.specs.declared.Best.{Best}
+
+-- THE STEPS as the code lends them: those of each hour, and what is asked of their columns for safe arithmetic.
+abbrev pub hour_steps : code-steps.Steps → ℕ → List Step
+hour_steps s = steps_at s.ends s.sides s.prices s.quantities
+
+abbrev pub StepsFit : code-steps.Steps → Type 0
+StepsFit s = StepsSized s.ends s.sides s.prices s.quantities
 
 -- THE BEST SO FAR
 -- What a set must cost less than, to become the best.

@@ -15,7 +15,7 @@ pub struct Day {
 }
 
 // The best so far: what it loses, what its left-out blocks come to, the set and its day; at first a loss alone, which must be less. With the fuel that is left:
-// a search that has spent it says nothing.
+// a search that has spent it says nothing. Set and day stay beside the loss, with no Option about them: their promise holds only where the cost has fallen.
 #[derive(Drop)]
 pub struct Best {
     pub limit: u64,

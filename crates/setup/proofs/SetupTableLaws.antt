@@ -1,6 +1,6 @@
 -- The tables of the search, filled row after row: the price tables, the ranges and the gap tables of the hours. Assumes nothing.
 use Prim.Native.Nat.{ℕ, zero, suc, ◌+◌, ◌-◌, ◌*◌, ◌≤◌, ◌<◌}
-use mathlib.Core.Path.{◌≡◌, refl, sym, ap, ◌∙◌}
+use mathlib.Core.Path.{◌≡◌, sym, ap, ◌∙◌}
 use mathlib.Core.List.{List, [], ◌∷◌, ◌++◌}
 use native.Mathlib.Omega.{arith}
 use native.Mathlib.Numerals.{add-one}
@@ -15,8 +15,7 @@ use Rattle.orders.specs.Columns.{steps_from}
 use Rattle.tables.specs.Tables.{PriceTable, AllOf, ClearRange, NotRising, GapsFor, GapTable}
 use Rattle.tables.proofs.LevelLaws.{table-not-rising, table-in-range}
 use Rattle.places.specs.Hours.{Small, row_width, last_in}
-use Rattle.setup.specs.Setup.{StepsHeld, PartHeld, hour_part, row_places, table_row, RowsFit, RowIs, RowsAre, Ranged, RangedAt, RangesAre}
-use Rattle.orders.proofs.ColumnLaws.{zeros}
+use Rattle.setup.specs.Setup.{hour_part, row_places, table_row, RowsFit, RowIs, Ranged, RangedAt}
 use Rattle.places.proofs.NumberLaws.{below_next}
 use Rattle.places.proofs.StepLaws.{small-take, small-drop}
 use Rattle.places.proofs.CellLaws.{rows_apart, row_fits}
@@ -32,16 +31,6 @@ take-drop (suc m) k (x ∷ l) = let e : suc m + k ≡ suc (m + k) = omega arith 
 part-front : (m k n : ℕ) (l r : List ℕ) → m + k ≤ n → take n l ≡ take n r → take k (drop m l) ≡ take k (drop m r)
 part-front m k n l r a e =
     take-drop m k l ∙ ap (drop m) (sym (take-take (m + k) n l a) ∙ ap (take (m + k)) e ∙ take-take (m + k) n r a) ∙ sym (take-drop m k r)
-
-pub part_held : (sides prices quantities ends : List ℕ) → StepsHeld sides prices quantities ends → (h : ℕ) → h < hour_places →
-    PartHeld sides prices quantities (get_or ends h 0) (get_or ends (h + 1) 0)
-part_held sides prices quantities ends s h k = record {
-  as_many_prices = s.as_many_prices;
-  as_many_quantities = s.as_many_quantities;
-  not_too_many = s.not_too_many;
-  ordered = s.rising h k;
-  inside = s.inside (h + 1) (omega arith);
-}
 
 -- SMALL NUMBERS in lists put together
 small-append : (m : ℕ) (a b : List ℕ) → Small m a → Small m b → Small m (a ++ b)
@@ -97,9 +86,6 @@ module _ (before sides prices quantities ends off most : List ℕ) where
     pub small : Small max_price unit_prices
     pub done : (j : ℕ) → j < h → RowIs (row_width before) sides prices quantities ends off most unit_prices j
 
-  pub rows_start : Small max_price before → RowsTo before 0
-  rows_start s = record { inside = omega arith; size = refl; small = s; done = λ j a. absurd (omega arith) }
-
   -- a row of unit prices is small
   row_small : (h : ℕ) (row : List ℕ) → PriceTable (hour_part ends h sides) (hour_part ends h prices) (hour_part ends h quantities) (get_or off h 0) row → Small max_price row
   row_small h row t i = elim (dec_le (length row) i) [
@@ -122,10 +108,6 @@ module _ (before sides prices quantities ends off most : List ℕ) where
             (rows_apart w j h (row_places (get_or most j 0)) c (few j (omega arith)))) (r.done j c))
             (rw (row_put w unit_prices row h k (get_or most h 0) room full wide) t) (rw add-one at b);
       }
-
-  pub rows_all : (unit_prices : List ℕ) (h : ℕ) → RowsTo unit_prices h → hour_places ≤ h →
-      RowsAre (row_width before) sides prices quantities ends off most unit_prices × Small max_price unit_prices
-  rows_all unit_prices h r k = (λ j a. r.done j (omega arith), r.small)
 
 -- ONE HOUR'S RANGE: it has the place off
 pub range-holds : (buys sells off most first last : ℕ) → ClearRange buys sells off most first last → off ≤ most → (first ≤ off) × (off ≤ last)
@@ -169,17 +151,6 @@ module _ (before sides prices quantities ends off most root unit_prices : List �
     pub small : Small (last_in before) last
     pub done : (j : ℕ) → j < h → RangedAt (row_width before) sides prices quantities ends off most root unit_prices gap first last turn j
 
-  pub ranges-start : RangesTo before (replicate hour_places 0) (replicate hour_places 0) (replicate hour_places 0) 0
-  ranges-start = record {
-    inside = omega arith;
-    size = refl;
-    first_size = refl;
-    last_size = refl;
-    turn_size = refl;
-    small = λ j. omega (arith, zeros hour_places j);
-    done = λ j a. absurd (omega arith);
-  }
-
   pub ranges-next : RowsFit (row_width before) most → (gap first last turn row : List ℕ) (h k f l m : ℕ) → RangesTo gap first last turn h → h < hour_places → length row ≡ row_places (get_or most h 0) → k ≡ row_places (get_or most h 0) → l ≤ get_or most h 0 →
       Ranged (hour_part ends h sides) (hour_part ends h prices) (hour_part ends h quantities) (get_or off h 0) (get_or most h 0) (get_or root h 0) f l m (table_row (row_width before) unit_prices h (get_or most h 0)) row →
       RangesTo (put_mid (h * row_width before) k gap row) (set first h f) (set last h l) (set turn h m) (h + 1)
@@ -212,8 +183,3 @@ module _ (before sides prices quantities ends off most root unit_prices : List �
               get_or-set_same turn h m 0 in_t,
             ) t) (rw add-one at b);
       }
-
-  pub ranges-all : (gap first last turn : List ℕ) (h : ℕ) → RangesTo gap first last turn h → hour_places ≤ h →
-      ((length first ≡ hour_places) × (length last ≡ hour_places) × (length turn ≡ hour_places) × Small (last_in before) last)
-      × RangesAre (row_width before) sides prices quantities ends off most root unit_prices gap first last turn
-  ranges-all gap first last turn h r k = ((r.first_size, r.last_size, r.turn_size, r.small), λ j a. r.done j (omega arith))

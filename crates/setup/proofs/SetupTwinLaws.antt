@@ -1,15 +1,15 @@
 -- The rest of the search's columns: the hours' three columns in one list, the blocks' parents, their rows, and their twins. Assumes nothing.
 use Prim.Native.Nat.{ℕ, zero, suc, ◌+◌, ◌-◌, ◌*◌, ◌/◌, ◌%◌, ◌^◌, ◌≤◌, ◌<◌}
 use mathlib.Core.Path.{◌≡◌, refl, sym, ap, ◌∙◌}
-use mathlib.Core.List.{List}
+use mathlib.Core.List.{List, ◌++◌}
 use mathlib.Core.Bool.{Bool, true, false, cond, not, ◌&&◌, ◌||◌, beq}
 use native.Mathlib.Omega.{arith}
 use native.Mathlib.Decide.{dec_le, ℕ_discrete}
 use native.Mathlib.Nat.{lt_of_not-le}
 use native.Mathlib.Numerals.{add-one}
 use lib.Dec.{leb, ltb, eqb}
-use lib.ListN.{length, take, drop, get_or, set, replicate, length-set, length-take, length-drop}
-use lib.Seq.{get_or-set_same, get_or-set_other, get_or-take, get_or-drop, ext_get_or}
+use lib.ListN.{length, take, drop, get_or, set, replicate, length-set, length-take, length-drop, length-append, get_or-append}
+use lib.Seq.{get_or-set_same, get_or-set_other, get_or-take, get_or-drop, get_or-append_right, ext_get_or}
 use borrow.Author.Tests.{leb-true, leb-false, ltb-true, eqb-true}
 use Rattle.book.specs.Bounds.{most_blocks}
 use Rattle.places.specs.Layout.{against_column, ahead_column, behind_column, block_list_size, rows_column, hour_places, gain_column, hour_list_size, hours_column, side_column, last_column, limit_column, most_quantity, parent_column, quantity_column, turn_column, change_place, shifts_place}
@@ -34,6 +34,7 @@ use Rattle.setup.specs.Setup.{
   TwinsAt,
   StandsIn,
   no_worse,
+  TwinAt,
   TwinOf,
   TwinsEmpty,
   TwinsWritten,
@@ -135,28 +136,21 @@ module _ (first last turn : List ℕ) (often way : ℕ) where
     rw (j.shifts, e) (marked b),
   )
 
--- THE SIX COLUMNS COPIED into the whole list
-pub record WidenedTo (columns : List ℕ) (k : ℕ) (r : List ℕ) : Type 0 where
-  pub inside : k ≤ parent_column
-  pub size : length r ≡ block_list_size
-  pub same : (i : ℕ) → i < k → get_or r i 0 ≡ get_or columns i 0
-  pub none : (i : ℕ) → k ≤ i → get_or r i 0 ≡ 0
+-- THE SIX COLUMNS in front of the whole list
+none-behind : (columns : List ℕ) (n m k : ℕ) → length columns ≡ n → n ≤ k → get_or (columns ++ drop n (replicate m 0)) k 0 ≡ 0
+none-behind columns n m k size a =
+    let inside : length columns ≤ k = omega arith in
+    get_or-append_right columns (drop n (replicate m 0)) k 0 inside ∙ get_or-drop n (replicate m 0) (k - length columns) 0 ∙ zeros m (n + (k - length columns))
 
-pub widened-start : (columns : List ℕ) → WidenedTo columns 0 (replicate block_list_size 0)
-widened-start columns = record { inside = omega arith; size = refl; same = λ i a. absurd (omega arith); none = λ i a. zeros block_list_size i }
-
-pub widened-next : (columns : List ℕ) (k : ℕ) (r : List ℕ) → WidenedTo columns k r → k < parent_column → WidenedTo columns (k + 1) (set r k (get_or columns k 0))
-widened-next columns k r w below = record {
-  inside = omega arith;
-  size = rw length-set w.size;
-  same = λ i a. below_next (λ i. get_or (set r k (get_or columns k 0)) i 0 ≡ get_or columns i 0) k i
-      (λ b. get_or-set_other r k i (get_or columns k 0) 0 (λ e. omega arith) ∙ w.same i b)
-      (get_or-set_same r k (get_or columns k 0) 0 (omega (arith, w.size))) (rw add-one at a);
-  none = λ i a. get_or-set_other r k i (get_or columns k 0) 0 (λ e. omega arith) ∙ w.none i (omega arith);
-}
-
-pub widened-all : (columns : List ℕ) (k : ℕ) (r : List ℕ) → WidenedTo columns k r → parent_column ≤ k → Widened columns r
-widened-all columns k r w all = record { size = w.size; same = λ i a. w.same i (omega arith); none = λ i a. w.none i (omega (arith, w.inside)) }
+pub widened-front : (columns front : List ℕ) → length columns ≡ parent_column → front ≡ columns →
+    Widened columns (front ++ drop parent_column (replicate block_list_size 0))
+widened-front columns front size e =
+    rw e
+    record {
+      size = simp (length-append, length-drop) (omega (arith, size));
+      same = λ k a. get_or-append columns _ 0 k (omega (arith, size));
+      none = λ k a. none-behind columns parent_column block_list_size k size a;
+    }
 
 -- THE PARENTS, block by block
 module _ (parents blocks : List ℕ) where
@@ -324,29 +318,20 @@ agree false true e = e
 agree false false e = refl
 
 -- the twin found so far
-pub twin-none : (blocks : List ℕ) (i : ℕ) (ahead : Bool) → TwinOf blocks i ahead 0
-twin-none blocks i ahead a e = absurd (omega arith)
-
-pub twin-next : (blocks : List ℕ) (i j found next : ℕ) (ahead twins better nearer : Bool) → TwinOf blocks i ahead found → j < i →
+pub twin-here : (blocks : List ℕ) (i j : ℕ) (ahead twins better nearer : Bool) → j < i →
     (twins ≡ true → TwinsAt blocks j i × StandsIn blocks (cond ahead j i) (cond ahead i j)) → better ≡ no_worse (side_at blocks i) (limit_at blocks j) (limit_at blocks i) →
-    next ≡ cond (((twins && ltb 0 (quantity_at blocks i)) && beq better ahead) && nearer) (j + 1) found → TwinOf blocks i ahead next
-twin-next blocks i j found next ahead twins better nearer so k are is e =
-    rw e
-    (by-test (λ t. TwinOf blocks i ahead (cond t (j + 1) found)) (((twins && ltb 0 (quantity_at blocks i)) && beq better ahead) && nearer)
-    (λ p a z.
-    let same : a ≡ j = omega arith in
+    ((twins && ltb 0 (quantity_at blocks i)) && beq better ahead) && nearer ≡ true → TwinAt blocks i ahead j
+twin-here blocks i j ahead twins better nearer k are is p =
     let three = both (twins && ltb 0 (quantity_at blocks i)) (beq better ahead)
     (both ((twins && ltb 0 (quantity_at blocks i)) && beq better ahead) nearer p).0 in
     let two = both twins (ltb 0 (quantity_at blocks i)) three.0 in
-    rw same
     record {
       earlier = k;
       twins = (are two.0).0;
       better = sym is ∙ agree better ahead three.1;
       trades = ltb-true 0 (quantity_at blocks i) two.1;
       stands_in = (are two.0).1;
-    })
-    (λ p. so))
+    }
 
 -- the twins of the blocks, block by block
 module _ (blocks : List ℕ) where

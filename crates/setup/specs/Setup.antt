@@ -1,5 +1,5 @@
 -- THE SETUP OF THE SEARCH: what its tables and columns hold, said of a book's decoded columns. Definitions only. Assumes nothing.
-use Rattle.std.specs.Prelude.{ℕ, zero, suc, ◌+◌, ◌-◌, ◌*◌, ◌≤◌, ◌<◌, List, ◌≡◌, Bool, true, false, cond, leb, length, take, drop, get_or, set}
+use Rattle.std.specs.Prelude.{ℕ, zero, suc, ◌+◌, ◌-◌, ◌*◌, ◌≤◌, ◌<◌, List, ◌≡◌, Bool, true, false, cond, leb, length, take, drop, get_or, set, Option, Some}
 use Rattle.records.specs.Records.{edition, day_hours, holds_hour}
 use Rattle.fields.specs.Hours.{counted_hours}
 use Rattle.book.specs.Refusals.{Accepted}
@@ -27,14 +27,6 @@ pub record StepsHeld (sides prices quantities ends : List ℕ) : Type 0 where
   pub not_too_many : length sides ≤ step_places
   pub rising : (h : ℕ) → h < hour_places → get_or ends h 0 ≤ get_or ends (h + 1) 0
   pub inside : (h : ℕ) → h ≤ hour_places → get_or ends h 0 ≤ length sides
-
--- The same of the part from a to e, that of an hour.
-pub record PartHeld (sides prices quantities : List ℕ) (a e : ℕ) : Type 0 where
-  pub as_many_prices : length sides ≡ length prices
-  pub as_many_quantities : length sides ≡ length quantities
-  pub not_too_many : length sides ≤ step_places
-  pub ordered : a ≤ e
-  pub inside : e ≤ length sides
 
 -- There are not too many blocks, and their prices and quantities are in their ranges.
 pub record BlocksHeld (count : ℕ) (prices quantities : List ℕ) : Type 0 where
@@ -65,10 +57,6 @@ abbrev pub RowsFit : ℕ → List ℕ → Type 0
 RowsFit width most = (h : ℕ) → h < hour_places → row_places (get_or most h 0) ≤ width
 
 -- THE TABLES
--- A row is the price table of the steps from a up to e.
-abbrev pub TableOf : (sides prices quantities : List ℕ) (a e off : ℕ) (row : List ℕ) → Type 0
-TableOf sides prices quantities a e off row = PriceTable (from_to a e sides) (from_to a e prices) (from_to a e quantities) off row
-
 -- The row of hour h + 1 is its price table.
 abbrev pub RowIs : (width : ℕ) (sides prices quantities ends off most unit_prices : List ℕ) → ℕ → Type 0
 RowIs width sides prices quantities ends off most unit_prices h =
@@ -84,10 +72,6 @@ pub record Ranged (sides prices quantities : List ℕ) (off most price first las
   pub all : AllOf sides prices quantities bought sold
   pub range : ClearRange bought sold off most first last
   pub gaps : GapTable unit_prices price first last turn gap
-
-abbrev pub RangedOf : (sides prices quantities : List ℕ) (a e off most price first last turn : ℕ) (unit_prices gap : List ℕ) → Type 0
-RangedOf sides prices quantities a e off most price first last turn unit_prices gap =
-    Ranged (from_to a e sides) (from_to a e prices) (from_to a e quantities) off most price first last turn unit_prices gap
 
 abbrev pub RangedAt : (width : ℕ) (sides prices quantities ends off most root unit_prices gap first last turn : List ℕ) → ℕ → Type 0
 RangedAt width sides prices quantities ends off most root unit_prices gap first last turn h =
@@ -199,6 +183,10 @@ pub record TwinAt (blocks : List ℕ) (i : ℕ) (ahead : Bool) (a : ℕ) : Type 
   pub better : no_worse (side_at blocks i) (limit_at blocks a) (limit_at blocks i) ≡ ahead
   pub trades : 1 ≤ quantity_at blocks i
   pub stands_in : StandsIn blocks (cond ahead a i) (cond ahead i a)
+
+-- Such a twin, if one is found.
+abbrev pub TwinFound : (blocks : List ℕ) (i : ℕ) (ahead : Bool) (found : Option ℕ) → Type 0
+TwinFound blocks i ahead found = (a : ℕ) → found ≡ Some a → TwinAt blocks i ahead a
 
 -- A number that is 0, or 1 and the number of such a twin.
 abbrev pub TwinOf : (blocks : List ℕ) (i : ℕ) (ahead : Bool) (found : ℕ) → Type 0

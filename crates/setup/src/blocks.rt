@@ -8,48 +8,37 @@ ghost use Rattle.places.specs.Blocks.{quantity_at};
 ghost use Rattle.setup.specs.Setup.{BlocksHeld, TradedBy, written, Written, Widened, ParentsWritten, RowsEmpty, RowsWritten};
 
 use fields::hours::counted_hours;
+use orders::Blocks;
 use places::added::moved;
 use places::layout::{
     AGAINST, BLOCK_LIST, BLOCK_ROWS, GAIN, HOURS, LIMIT, MOST_BLOCKS, PARENT, QUANTITY, RUNS, SIDE,
+    SIX_COLUMNS,
 };
 use places::limits::price_sum;
-use places::numbers::{by_side, choose, larger, less};
-
-// How much the first six columns hold, those in front of the parents'.
-const SIX_COLUMNS: usize = PARENT;
+use places::numbers::{by_side, choose};
 
 // The largest number of a column of hours.
 pub fn largest(column: [u32; HOURS]) -> u32
     ensures { Small result column × ((m : ℕ) → Small m column → result ≤ m) }
 {
     let mut most: u32 = 0;
-    let mut h: usize = 0;
-    while h < HOURS {
-        most = larger(most, column[h]);
-        h += 1;
+    for number in column {
+        most = most.max(number);
     }
     most
 }
 
 // What the buy blocks buy in each hour; where `all` is true, with what the sell blocks sell.
-pub fn traded_by_hour(
-    count: usize,
-    sides: [u8; MOST_BLOCKS],
-    hours: [u32; MOST_BLOCKS],
-    quantities: [u32; MOST_BLOCKS],
-    all: bool,
-) -> [u32; HOURS]
-    requires { (count ≤ most_blocks) × FirstSmall count most_quantity quantities }
-    ensures { TradedBy count sides hours quantities all result }
+pub fn traded_by_hour(blocks: &Blocks, all: bool) -> [u32; HOURS]
+    requires { (blocks.now.count ≤ most_blocks) × FirstSmall blocks.now.count most_quantity blocks.now.quantities }
+    ensures { TradedBy blocks.now.count blocks.now.sides blocks.now.hours blocks.now.quantities all result }
 {
     let mut sum = [0; HOURS];
-    let mut i: usize = 0;
-    while i < count {
-        let quantity = quantities[i];
-        let traded = by_side(sides[i], quantity, choose(all, quantity, 0));
-        let more = moved(sum, hours[i], traded);
+    for i in 0..blocks.count {
+        let quantity = blocks.quantities[i];
+        let traded = by_side(blocks.sides[i], quantity, choose(all, quantity, 0));
+        let more = moved(sum, blocks.hours[i], traded);
         sum = more;
-        i += 1;
     }
     sum
 }
@@ -68,9 +57,9 @@ fn with_block(
     ensures { result ≡ written columns i side hours quantity limit sum }
 {
     let mut r = columns;
-    let over = less(sum, limit);
-    let under = less(limit, sum);
-    r[SIDE + i] = side as u32;
+    let over = sum.saturating_sub(limit);
+    let under = limit.saturating_sub(sum);
+    r[SIDE + i] = u32::from(side);
     r[RUNS + i] = hours;
     r[QUANTITY + i] = quantity;
     r[LIMIT + i] = limit;
@@ -80,34 +69,25 @@ fn with_block(
 }
 
 // The blocks' six columns on a day of so many hours, at the prices root as they count.
-pub fn block_columns(
-    day: u8,
-    count: usize,
-    sides: [u8; MOST_BLOCKS],
-    hours: [u32; MOST_BLOCKS],
-    prices: [u32; MOST_BLOCKS],
-    quantities: [u32; MOST_BLOCKS],
-    root: [u32; HOURS],
-) -> [u32; SIX_COLUMNS]
-    requires { BlocksHeld count prices quantities × DayPrices root × (day ≤ autumn_hours) }
+pub fn block_columns(day: u8, blocks: &Blocks, root: [u32; HOURS]) -> [u32; SIX_COLUMNS]
+    requires { BlocksHeld blocks.now.count blocks.now.prices blocks.now.quantities × DayPrices root × (day ≤ autumn_hours) }
     ensures small { (i : ℕ) → i < most_blocks → quantity_at result i ≤ most_quantity }
-    ensures blocks { (i : ℕ) → i < count → Written day sides hours prices quantities root result i }
+    ensures blocks { (i : ℕ) → i < blocks.now.count → Written day blocks.now.sides blocks.now.hours blocks.now.prices blocks.now.quantities root result i }
 {
     let mut columns = [0; SIX_COLUMNS];
-    let mut i: usize = 0;
-    while i < count {
-        let limit = prices[i] * counted_hours(day, hours[i]);
+    for i in 0..blocks.count {
+        let hours = blocks.hours[i];
+        let limit = blocks.prices[i] * counted_hours(day, hours);
         let more = with_block(
             columns,
             i,
-            sides[i],
-            hours[i],
-            quantities[i],
+            blocks.sides[i],
+            hours,
+            blocks.quantities[i],
             limit,
-            price_sum(&root, hours[i]),
+            price_sum(&root, hours),
         );
         columns = more;
-        i += 1;
     }
     columns
 }
@@ -117,11 +97,7 @@ pub fn widened(columns: [u32; SIX_COLUMNS]) -> [u32; BLOCK_LIST]
     ensures { Widened columns result }
 {
     let mut r = [0; BLOCK_LIST];
-    let mut k: usize = 0;
-    while k < SIX_COLUMNS {
-        r[k] = columns[k];
-        k += 1;
-    }
+    r[..SIX_COLUMNS].copy_from_slice(&columns);
     r
 }
 
@@ -130,10 +106,8 @@ pub fn with_parents(parents: [u32; MOST_BLOCKS], blocks: [u32; BLOCK_LIST]) -> [
     ensures { ParentsWritten parents blocks result }
 {
     let mut r = blocks;
-    let mut i: usize = 0;
-    while i < MOST_BLOCKS {
+    for i in 0..MOST_BLOCKS {
         r[PARENT + i] = parents[i];
-        i += 1;
     }
     r
 }
@@ -144,11 +118,9 @@ pub fn with_rows(count: usize, blocks: [u32; BLOCK_LIST]) -> [u32; BLOCK_LIST]
     ensures { RowsWritten count blocks result }
 {
     let mut r = blocks;
-    let mut k: usize = 0;
-    while k < HOURS * count {
+    for k in 0..HOURS * count {
         let runs = (blocks[RUNS + k / HOURS] >> (k % HOURS)) % 2;
         r[BLOCK_ROWS + k] = runs * blocks[QUANTITY + k / HOURS];
-        k += 1;
     }
     r
 }

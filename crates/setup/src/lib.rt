@@ -14,7 +14,7 @@ use crate::blocks::{block_columns, largest, traded_by_hour, widened, with_parent
 use crate::rows::{fill_ranges, fill_tables, joined};
 use crate::twins::with_twins;
 use fields::hours::change_weight;
-use orders::Blocks;
+use orders::{Blocks, Steps};
 use places::cells::counted_prices;
 use places::layout::{BLOCK_LIST, HOUR_LIST, HOURS, LAST_AND_ABOVE, MOST_BLOCKS};
 use roots::root_prices;
@@ -31,15 +31,12 @@ pub struct Prepared {
 }
 
 // The places that a row needs: up to the last that the blocks reach in any hour, and the one above it.
-pub fn row_needed(blocks: Blocks) -> usize
-    requires { BlocksHeld blocks.count blocks.prices blocks.quantities }
-    ensures fits { BlocksFit result blocks }
+pub fn row_needed(blocks: &Blocks) -> usize
+    requires { BlocksHeld blocks.now.count blocks.now.prices blocks.now.quantities }
+    ensures fits { BlocksFit result blocks.now }
     ensures narrow { result ≤ last_place + last_and_above }
 {
-    let sides = blocks.sides;
-    let hours = blocks.hours;
-    let quantities = blocks.quantities;
-    let most = traded_by_hour(blocks.count, sides, hours, quantities, true);
+    let most = traded_by_hour(blocks, true);
     (largest(most) as usize) + LAST_AND_ABOVE
 }
 
@@ -48,67 +45,39 @@ pub fn row_needed(blocks: Blocks) -> usize
 pub fn prepare(
     edition: u8,
     day: u8,
-    sides: &[u8],
-    prices: &[u32],
-    quantities: &[u32],
-    ends: [u16; HOURS + 1],
-    blocks: Blocks,
+    steps: &Steps,
+    blocks: &Blocks,
     parents: [u32; MOST_BLOCKS],
     unit_prices: &mut [u32],
     gap: &mut [u32],
 ) -> Prepared
     requires day { day ≤ autumn_hours }
-    requires steps { StepsHeld sides.now prices.now quantities.now ends }
-    requires blocks { BlocksHeld blocks.count blocks.prices blocks.quantities }
+    requires steps { StepsHeld steps.now.sides steps.now.prices steps.now.quantities steps.now.ends }
+    requires blocks { BlocksHeld blocks.now.count blocks.now.prices blocks.now.quantities }
     requires parents { ParentsHeld parents }
     requires tables { HasRows unit_prices.old × (length gap.old ≡ length unit_prices.old) × Small max_price unit_prices.old }
-    requires room { BlocksFit (row_width unit_prices.old) blocks }
-    ensures sized { Sized (tables_of unit_prices.new gap.new result.hours result.columns blocks.count) }
-    ensures ready { ReadyFor edition day sides.now prices.now quantities.now ends
-        blocks.records blocks.sides blocks.hours blocks.prices blocks.quantities parents
-        (tables_of unit_prices.new gap.new result.hours result.columns blocks.count) }
+    requires room { BlocksFit (row_width unit_prices.old) blocks.now }
+    ensures sized { Sized (tables_of unit_prices.new gap.new result.hours result.columns blocks.now.count) }
+    ensures ready { ReadyFor edition day steps.now.sides steps.now.prices steps.now.quantities steps.now.ends
+        blocks.now.records blocks.now.sides blocks.now.hours blocks.now.prices blocks.now.quantities parents
+        (tables_of unit_prices.new gap.new result.hours result.columns blocks.now.count) }
 {
-    let count = blocks.count;
-    let block_sides = blocks.sides;
-    let hours = blocks.hours;
-    let limits = blocks.prices;
-    let amounts = blocks.quantities;
-    let off = traded_by_hour(count, block_sides, hours, amounts, false);
-    let most = traded_by_hour(count, block_sides, hours, amounts, true);
-    fill_tables(sides, prices, quantities, ends, off, most, unit_prices);
-    let root = root_prices(
-        edition,
-        day,
-        unit_prices,
-        off,
-        count,
-        block_sides,
-        hours,
-        limits,
-        amounts,
-    );
-    let ranges = fill_ranges(
-        sides,
-        prices,
-        quantities,
-        ends,
-        off,
-        most,
-        root,
-        unit_prices,
-        gap,
-    );
+    let off = traded_by_hour(blocks, false);
+    let most = traded_by_hour(blocks, true);
+    fill_tables(steps, off, most, unit_prices);
+    let root = root_prices(edition, day, unit_prices, off, blocks);
+    let ranges = fill_ranges(steps, off, most, root, unit_prices, gap);
     let often = change_weight(day);
     let counted = counted_prices(root, often);
-    let columns = block_columns(day, count, block_sides, hours, limits, amounts, counted);
+    let columns = block_columns(day, blocks, counted);
     let first = ranges.first;
     let last = ranges.last;
     let turn = ranges.turn;
     let wide = widened(columns);
     let linked = with_parents(parents, wide);
-    let traded = with_rows(count, linked);
+    let traded = with_rows(blocks.count, linked);
     Prepared {
         hours: joined(first, last, turn, often, edition),
-        columns: with_twins(count, traded),
+        columns: with_twins(blocks.count, traded),
     }
 }

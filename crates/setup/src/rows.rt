@@ -4,10 +4,11 @@ ghost use Rattle.rules.specs.Orders.{max_price};
 ghost use Rattle.places.specs.Layout.{hour_places, last_place, last_and_above};
 ghost use Rattle.places.specs.Hours.{Small, row_width, last_in, HasRows, clears_first, clears_last, gaps_turn, change_often, gives_way_in};
 ghost use Rattle.rules.specs.Day.{gives_way};
-ghost use Rattle.setup.specs.Setup.{row_places, RowsFit, StepsHeld, PartHeld, TableOf, RowsAre, RangedOf, RangesAre};
+ghost use Rattle.tables.specs.Tables.{PriceTable};
+ghost use Rattle.setup.specs.Setup.{row_places, RowsFit, StepsHeld, RowsAre, Ranged, RangesAre};
 
+use orders::{HourSteps, Steps};
 use places::layout::{CHANGE, HOUR_LIST, HOURS, LAST, LAST_AND_ABOVE, SHIFTS, TURN};
-use places::numbers::number_of;
 use roots::gives_way;
 use tables::{all_totals, clear_range, fill_gaps, fill_prices};
 
@@ -27,118 +28,71 @@ pub struct Ranges {
     pub turn: [u32; HOURS],
 }
 
-// The price table of an hour, whose steps stand from a up to e.
-fn fill_row(
-    sides: &[u8],
-    prices: &[u32],
-    quantities: &[u32],
-    a: usize,
-    e: usize,
-    off: u32,
-    row: &mut [u32],
-)
-    requires { PartHeld sides.now prices.now quantities.now a e × (off ≤ last_place) × (length row.old ≤ last_place + last_and_above) }
-    ensures { TableOf sides.now prices.now quantities.now a e off row.new }
-{
-    fill_prices(&sides[a..e], &prices[a..e], &quantities[a..e], off, row);
-}
-
 // The price tables of the hours, row after row: of each the places that the blocks can reach, up to most, and the one above it. The others stay as they were.
-pub fn fill_tables(
-    sides: &[u8],
-    prices: &[u32],
-    quantities: &[u32],
-    ends: [u16; HOURS + 1],
-    off: [u32; HOURS],
-    most: [u32; HOURS],
-    unit_prices: &mut [u32],
-)
-    requires steps { StepsHeld sides.now prices.now quantities.now ends × Small last_place off × Small last_place most }
+pub fn fill_tables(steps: &Steps, off: [u32; HOURS], most: [u32; HOURS], unit_prices: &mut [u32])
+    requires steps { StepsHeld steps.now.sides steps.now.prices steps.now.quantities steps.now.ends × Small last_place off × Small last_place most }
     requires table { HasRows unit_prices.old × RowsFit (row_width unit_prices.old) most × Small max_price unit_prices.old }
-    ensures rows { RowsAre (row_width unit_prices.old) sides.now prices.now quantities.now ends off most unit_prices.new }
+    ensures rows { RowsAre (row_width unit_prices.old) steps.now.sides steps.now.prices steps.now.quantities steps.now.ends off most unit_prices.new }
     ensures small { Small max_price unit_prices.new }
 {
     let width = unit_prices.len() / HOURS;
-    let mut h: usize = 0;
-    while h < HOURS {
+    for h in 0..HOURS {
         let from = h * width;
         let to = from + (most[h] as usize) + LAST_AND_ABOVE;
-        fill_row(
-            sides,
-            prices,
-            quantities,
-            ends[h] as usize,
-            ends[h + 1] as usize,
-            off[h],
-            &mut unit_prices[from..to],
-        );
-        h += 1;
+        fill_prices(&steps.hour(h), off[h], &mut unit_prices[from..to]);
     }
 }
 
-// The places at which an hour clears, of those up to most, whose steps stand from a up to e, and its gaps there at a price. The range has the place off:
-// there N is 0.
+// The places at which an hour clears, of those up to most, and its gaps there at a price. The range has the place off: there N is 0.
 fn fill_hour(
-    sides: &[u8],
-    prices: &[u32],
-    quantities: &[u32],
-    a: usize,
-    e: usize,
+    steps: &HourSteps,
     off: u32,
     most: u32,
     price: u32,
     row: &[u32],
     gap: &mut [u32],
 ) -> Range
-    requires held { PartHeld sides.now prices.now quantities.now a e × (off ≤ most) × (most ≤ last_place) × (price ≤ max_price) × (length gap.old ≡ row_places most) }
-    requires table { (length row.now ≡ row_places most) × TableOf sides.now prices.now quantities.now a e off row.now }
+    requires held { (off ≤ most) × (most ≤ last_place) × (price ≤ max_price) × (length gap.old ≡ row_places most) }
+    requires table { (length row.now ≡ row_places most) × PriceTable steps.now.sides.now steps.now.prices.now steps.now.quantities.now off row.now }
     ensures fits { (result.first ≤ most) × (result.last ≤ most) × (result.turn ≤ most) }
-    ensures ranged { RangedOf sides.now prices.now quantities.now a e off most price
+    ensures ranged { Ranged steps.now.sides.now steps.now.prices.now steps.now.quantities.now off most price
         result.first result.last result.turn row.now gap.new }
 {
-    let all = all_totals(&sides[a..e], &prices[a..e], &quantities[a..e]);
+    let all = all_totals(steps);
     let range = clear_range(all.buys, all.sells, off, most as usize);
     let turn = fill_gaps(row, price, range.first, range.last, gap);
     Range {
         first: range.first,
         last: range.last,
-        turn: turn,
+        turn,
     }
 }
 
 // The hours' ranges, and their gaps at the prices root, row after row.
 pub fn fill_ranges(
-    sides: &[u8],
-    prices: &[u32],
-    quantities: &[u32],
-    ends: [u16; HOURS + 1],
+    steps: &Steps,
     off: [u32; HOURS],
     most: [u32; HOURS],
     root: [u32; HOURS],
     unit_prices: &[u32],
     gap: &mut [u32],
 ) -> Ranges
-    requires held { StepsHeld sides.now prices.now quantities.now ends × Small last_place most × Small max_price root × HasRows gap.old × RowsFit (row_width gap.old) most }
+    requires held { StepsHeld steps.now.sides steps.now.prices steps.now.quantities steps.now.ends × Small last_place most × Small max_price root × HasRows gap.old × RowsFit (row_width gap.old) most }
     requires within { (h : ℕ) → h < hour_places → get_or off h 0 ≤ get_or most h 0 }
-    requires tables { (length unit_prices.now ≡ length gap.old) × RowsAre (row_width gap.old) sides.now prices.now quantities.now ends off most unit_prices.now }
+    requires tables { (length unit_prices.now ≡ length gap.old) × RowsAre (row_width gap.old) steps.now.sides steps.now.prices steps.now.quantities steps.now.ends off most unit_prices.now }
     ensures small { (length result.first ≡ hour_places) × (length result.last ≡ hour_places) × (length result.turn ≡ hour_places) × Small (last_in gap.old) result.last }
-    ensures ranges { RangesAre (row_width gap.old) sides.now prices.now quantities.now ends off most root
+    ensures ranges { RangesAre (row_width gap.old) steps.now.sides steps.now.prices steps.now.quantities steps.now.ends off most root
         unit_prices.now gap.new result.first result.last result.turn }
 {
     let width = gap.len() / HOURS;
     let mut first = [0; HOURS];
     let mut last = [0; HOURS];
     let mut turn = [0; HOURS];
-    let mut h: usize = 0;
-    while h < HOURS {
+    for h in 0..HOURS {
         let from = h * width;
         let to = from + (most[h] as usize) + LAST_AND_ABOVE;
         let range = fill_hour(
-            sides,
-            prices,
-            quantities,
-            ends[h] as usize,
-            ends[h + 1] as usize,
+            &steps.hour(h),
             off[h],
             most[h],
             root[h],
@@ -148,7 +102,6 @@ pub fn fill_ranges(
         first[h] = range.first as u32;
         last[h] = range.last as u32;
         turn[h] = range.turn as u32;
-        h += 1;
     }
     Ranges { first, last, turn }
 }
@@ -165,13 +118,11 @@ pub fn joined(
 {
     let mut r = [0; HOUR_LIST];
     r[CHANGE] = often;
-    r[SHIFTS] = number_of(gives_way(edition));
-    let mut h: usize = 0;
-    while h < HOURS {
+    r[SHIFTS] = u32::from(gives_way(edition));
+    for h in 0..HOURS {
         r[h] = first[h];
         r[LAST + h] = last[h];
         r[TURN + h] = turn[h];
-        h += 1;
     }
     r
 }

@@ -1,9 +1,9 @@
 // The twins for the search: for each block the earlier one of the same side, hours and quantity that is taken before it, and the one that is taken after it.
 // Only where to exchange the two breaks no link.
-ghost use Rattle.std.specs.Prelude.{◌≡◌, true, cond, ◌≤◌, ◌<◌, length};
+ghost use Rattle.std.specs.Prelude.{◌≡◌, ℕ, suc, true, cond, ◌≤◌, ◌<◌, length, Some};
 ghost use Rattle.book.specs.Bounds.{most_blocks};
 ghost use Rattle.places.specs.Layout.{block_list_size};
-ghost use Rattle.setup.specs.Setup.{parent_numbers, ParentsBefore, Marked, TwinsAt, StandsIn, no_worse, TwinOf, TwinsEmpty, TwinsWritten};
+ghost use Rattle.setup.specs.Setup.{parent_numbers, ParentsBefore, Marked, TwinsAt, StandsIn, no_worse, TwinFound, TwinsEmpty, TwinsWritten};
 
 use places::layout::{AHEAD, BEHIND, BLOCK_LIST, LIMIT, MOST_BLOCKS, PARENT, QUANTITY, RUNS, SIDE};
 use places::numbers::choose;
@@ -17,10 +17,8 @@ fn parent_marks(blocks: &[u32]) -> [u32; PARENT_NUMBERS]
     ensures { Marked blocks.now result }
 {
     let mut marks = [0; PARENT_NUMBERS];
-    let mut j: usize = 0;
-    while j < MOST_BLOCKS {
+    for j in 0..MOST_BLOCKS {
         marks[blocks[PARENT + j] as usize] = 1;
-        j += 1;
     }
     marks
 }
@@ -74,31 +72,38 @@ fn is_no_worse(side: u32, limit: u32, other: u32) -> bool
     }
 }
 
-// Of the earlier twins of block i that are taken before it, the last by limit; where ahead is false, of those that are taken after it, the first. Its number
-// and 1, or 0 for none.
-fn nearest_twin(blocks: &[u32], marks: &[u32], i: usize, ahead: bool) -> u32
+// Of the earlier twins of block i that are taken before it, the last by limit; where ahead is false, of those that are taken after it, the first.
+fn nearest_twin(blocks: &[u32], marks: &[u32], i: usize, ahead: bool) -> Option<usize>
     requires blocks { (length blocks.now ≡ block_list_size) × (i < most_blocks) }
     requires marks { (length marks.now ≡ parent_numbers) × Marked blocks.now marks.now }
-    ensures { TwinOf blocks.now i ahead result }
+    ensures { TwinFound blocks.now i ahead result }
 {
     let side = blocks[SIDE + i];
     let limit = blocks[LIMIT + i];
     let trades = 0 < blocks[QUANTITY + i];
-    let mut found: u32 = 0;
+    let mut found = None;
     let mut edge = choose((side == 0) == ahead, u32::MAX, 0);
-    let mut j: usize = 0;
-    while j < i {
+    for j in 0..i {
         let here = blocks[LIMIT + j];
         let twins = may_exchange(blocks, marks, j, i, ahead);
         let fits = (twins & trades) & (is_no_worse(side, here, limit) == ahead);
-        let test = fits & (is_no_worse(side, edge, here) == ahead);
-        let next = choose(test, (j + 1) as u32, found);
-        let nearer = choose(test, here, edge);
-        found = next;
-        edge = nearer;
-        j += 1;
+        if fits & (is_no_worse(side, edge, here) == ahead) {
+            found = Some(j);
+            edge = here;
+        }
     }
     found
+}
+
+// A twin's number and 1, or 0 for none: what the columns hold.
+fn numbered(found: Option<usize>) -> u32
+    requires { (a : ℕ) → found ≡ Some a → a < most_blocks }
+    ensures { (a : ℕ) → result ≡ suc a → found ≡ Some a }
+{
+    match found {
+        Some(a) => a as u32 + 1,
+        None => 0,
+    }
 }
 
 // The same with the twins of each block.
@@ -108,11 +113,9 @@ pub fn with_twins(count: usize, blocks: [u32; BLOCK_LIST]) -> [u32; BLOCK_LIST]
 {
     let marks = parent_marks(&blocks);
     let mut r = blocks;
-    let mut i: usize = 0;
-    while i < count {
-        r[AHEAD + i] = nearest_twin(&blocks, &marks, i, true);
-        r[BEHIND + i] = nearest_twin(&blocks, &marks, i, false);
-        i += 1;
+    for i in 0..count {
+        r[AHEAD + i] = numbered(nearest_twin(&blocks, &marks, i, true));
+        r[BEHIND + i] = numbered(nearest_twin(&blocks, &marks, i, false));
     }
     r
 }

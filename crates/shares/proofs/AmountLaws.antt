@@ -1,23 +1,20 @@
--- The amounts of an hour's columns at a price; and one step: what it gets before the leftover tenths are given, what it leaves of the amounts, what it
--- holds at the price. Assumes nothing.
-use Prim.Native.Nat.{ℕ, suc, ◌+◌, ◌-◌, ◌*◌, ◌/◌, ◌^◌, ◌≤◌, ◌<◌, min}
-use mathlib.Core.Bool.{Bool, true, false}
-use mathlib.Core.Path.{◌≡◌, refl, ap, ap₂, sym, ◌∙◌}
-use mathlib.Core.List.{List, [], ◌∷◌, map}
+-- The amounts of an hour's columns at a price; and what one step takes of them. Assumes nothing.
+use Prim.Native.Nat.{ℕ, suc, ◌+◌, ◌-◌, ◌*◌, ◌/◌, ◌≤◌, min}
+use mathlib.Core.Path.{◌≡◌, ap₂, sym, ◌∙◌}
+use mathlib.Core.List.{List}
 use native.Mathlib.Omega.{arith}
 use native.Mathlib.Decide.{ℕ_discrete}
 use native.Mathlib.Nat.{zero-mul, zero-div}
 use lib.Dec.{ltb, eqb}
-use borrow.Author.Tests.{lt-ltb, le-ltb, eq-eqb, ne_eqb}
-use Rattle.rules.specs.Orders.{Side, buy, sell, Step}
-use Rattle.rules.specs.Hour.{by_side, when, total, buys_from, sells_to, sells_below}
-use Rattle.rules.specs.Execution.{test_side, in_full, buying_at, selling_at, buy_amount, sell_amount, execution}
+use borrow.Author.Tests.{le-ltb, eq-eqb, ne_eqb}
+use Rattle.rules.specs.Orders.{Side, buy, sell}
+use Rattle.rules.specs.Hour.{by_side, when, total, buys_from, sells_below}
+use Rattle.rules.specs.Execution.{test_side, buying_at, selling_at, buy_amount, sell_amount, execution}
 use Rattle.rules.proofs.CurveLaws.{buys_from-suc, sells_below-suc, buys_from-split, sells_to-split}
 use Rattle.rules.proofs.ExecutionLaws.{sum-map, buy_amount-held, sell_amount-held}
-use Rattle.orders.specs.Columns.{side_for, steps_from}
+use Rattle.orders.specs.Columns.{steps_from}
 use Rattle.pricing.specs.Curves.{bias, hour_with, TotalsAt}
-use Rattle.pricing.proofs.TotalsLaws.{side-sell}
-use Rattle.shares.specs.Shares.{AmountsOf, AmountsHeld, step_for, holding, holdings, shared_out, SharedOut, ExecutedOf}
+use Rattle.shares.specs.Shares.{AmountsOf, AmountsHeld, holdings, shared_out, SharedOut, ExecutedOf}
 
 reordered : (a b c d : ℕ) → a + b + c - d ≡ a + c + b - d
 reordered a b c d = omega arith
@@ -74,48 +71,10 @@ pub executed-by : (sides prices quantities : List ℕ) (n price buys demand sell
 unfolding shared_out execution
 executed-by sides prices quantities n price buys demand sells offer out a o h = o h ∙ rw (a.for_buys h, a.for_sells h)
 
--- ONE STEP: what it gets before the leftover tenths, by the way it goes
+-- ONE STEP: what it takes of the amounts, its quotients
 no-share : (amount t : ℕ) → 0 * amount / t ≡ 0
 no-share amount t = rw zero-mul (zero-div t)
 
-module _ (p x q b d s o n : ℕ) where
-  abbrev Got : Side → ℕ → Type 0
-  Got side r =
-      r ≡ when (test_side side (ltb p x) (ltb x p)) q + (when (eqb x p) (by_side side q 0) * b / d + when (eqb x p) (by_side side 0 q) * s / o)
-
-  pub buy-better : n ≡ 0 → p < x → Got (side_for n) q
-  buy-better z k = rw (z, lt-ltb p x k, ne_eqb x p (omega arith)) (omega (arith, no-share b d, no-share s o))
-
-  pub buy-at : n ≡ 0 → x ≤ p → x ≡ p → Got (side_for n) (q * b / d)
-  buy-at z k e = rw (z, le-ltb p x k, eq-eqb x p e) (omega (arith, no-share s o))
-
-  pub buy-worse : n ≡ 0 → x ≤ p → (x ≡ p → ⊥) → Got (side_for n) 0
-  buy-worse z k e = rw (z, le-ltb p x k, ne_eqb x p e) (omega (arith, no-share b d, no-share s o))
-
-  pub sell-better : (n ≡ 0 → ⊥) → x < p → Got (side_for n) q
-  sell-better z k = rw (side-sell n z, lt-ltb x p k, ne_eqb x p (omega arith)) (omega (arith, no-share b d, no-share s o))
-
-  pub sell-at : (n ≡ 0 → ⊥) → p ≤ x → x ≡ p → Got (side_for n) (q * s / o)
-  sell-at z k e = rw (side-sell n z, le-ltb x p k, eq-eqb x p e) (omega (arith, no-share b d))
-
-  pub sell-worse : (n ≡ 0 → ⊥) → p ≤ x → (x ≡ p → ⊥) → Got (side_for n) 0
-  sell-worse z k e = rw (side-sell n z, le-ltb x p k, ne_eqb x p e) (omega (arith, no-share b d, no-share s o))
-
--- what is left after it
-module _ (p x b s n got : ℕ) where
-  abbrev After : Side → ℕ → ℕ → Type 0
-  After side b' s' = (b' ≡ b - when (eqb x p) (by_side side got 0)) × (s' ≡ s - when (eqb x p) (by_side side 0 got))
-
-  pub buys-left : n ≡ 0 → x ≡ p → After (side_for n) (b - got) s
-  buys-left z e = rw (z, eq-eqb x p e) (refl, omega arith)
-
-  pub sells-left : (n ≡ 0 → ⊥) → x ≡ p → After (side_for n) b (s - got)
-  sells-left z e = rw (side-sell n z, eq-eqb x p e) (omega arith, refl)
-
-  pub both_left : (x ≡ p → ⊥) → After (side_for n) b s
-  both_left e = rw (ne_eqb x p e) (omega arith, omega arith)
-
--- what it takes of the amounts: its quotients
 module _ (p x q b d s o got : ℕ) where
   pub taken_is : (side : Side) →
       got ≡ when (test_side side (ltb p x) (ltb x p)) q + (when (eqb x p) (by_side side q 0) * b / d + when (eqb x p) (by_side side 0 q) * s / o) →
@@ -134,21 +93,3 @@ module _ (p x q b d s o got : ℕ) where
           (when (eqb x p) (by_side side got 0) ≡ when (eqb x p) (by_side side q 0) * b / d)
           × (when (eqb x p) (by_side side 0 got) ≡ when (eqb x p) (by_side side 0 q) * s / o)
       apart side k = rw (ne_eqb x p k) (sym (no-share b d), sym (no-share s o))
-
--- WHAT IT HOLDS at the price, by the way it goes
-module _ (b : Bool) (p x q n : ℕ) where
-  pub buys-own : n ≡ 0 → x ≡ p → b ≡ true → q ≡ holding b p (step_for n x q)
-  buys-own z e t = rw (t, z, eq-eqb x p e)
-
-  pub sells-other : n ≡ 0 → x ≡ p → b ≡ false → 0 ≡ holding b p (step_for n x q)
-  sells-other z e t = rw (t, z, eq-eqb x p e)
-
-  pub buys-other : (n ≡ 0 → ⊥) → x ≡ p → b ≡ true → 0 ≡ holding b p (step_for n x q)
-  buys-other z e t = rw (t, side-sell n z, eq-eqb x p e)
-
-  pub sells-own : (n ≡ 0 → ⊥) → x ≡ p → b ≡ false → q ≡ holding b p (step_for n x q)
-  sells-own z e t = rw (t, side-sell n z, eq-eqb x p e)
-
-pub none_apart : (b : Bool) (p x q n : ℕ) → (x ≡ p → ⊥) → 0 ≡ holding b p (step_for n x q)
-none_apart true p x q n e = rw (ne_eqb x p e)
-none_apart false p x q n e = rw (ne_eqb x p e)

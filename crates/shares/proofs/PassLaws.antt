@@ -1,18 +1,20 @@
 -- One turn of each pass of the code, and its end. Assumes nothing.
-use Prim.Native.Nat.{ℕ, zero, suc, ◌+◌, ◌-◌, ◌*◌, ◌/◌, ◌%◌, ◌^◌, ◌≤◌, ◌<◌}
-use mathlib.Core.Bool.{Bool, true, false, ◌||◌, ◌&&◌}
+use Prim.Native.Nat.{ℕ, suc, ◌+◌, ◌-◌, ◌≤◌, ◌<◌}
+use mathlib.Core.Bool.{Bool, true, false, cond, ◌||◌, ◌&&◌}
 use mathlib.Core.Path.{◌≡◌, refl, sym, ap, ◌∙◌}
-use mathlib.Core.List.{List, [], ◌∷◌, ◌++◌, map, append-nil, append_assoc}
+use mathlib.Core.List.{List, ◌∷◌, ◌++◌, map, append-nil, append_assoc}
 use native.Mathlib.Omega.{arith}
 use native.Mathlib.Numerals.{add-one}
-use native.Mathlib.Nat.{add-zero, mul-zero, zero-div, mul-le-mul, mul-le-mul_left, mul-lt-mul_of_pos_right, div-lt_iff_lt-mul}
-use lib.Dec.{ltb, leb, eqb}
+use native.Mathlib.Nat.{add-zero}
+use lib.Dec.{ltb, eqb}
 use lib.ListN.{length, take, drop, get_or, set, drop_of_length-le}
 use lib.Seq.{drop-cons, take-suc-set, take_all, drop-set-lt, get_or-drop}
+use Rattle.std.specs.Int.{from_bool}
+use Rattle.std.proofs.Common.{count_by, nat_lt}
+use Rattle.std.proofs.lemmas.List.Recursion.{is_count_by}
 use Rattle.rules.specs.Orders.{Step}
 use Rattle.rules.specs.Hour.{when, total}
 use Rattle.rules.specs.Execution.{plus, at_least}
-use Rattle.rules.proofs.ShareLaws.{when-le}
 use Rattle.rules.proofs.CutLaws.{by_cut}
 use Rattle.orders.specs.Columns.{steps_from}
 use Rattle.pricing.specs.Curves.{Columns}
@@ -27,9 +29,6 @@ pub record Filled (f : Step → ℕ) (sides prices quantities out : List ℕ) (i
   pub whole : map f (steps_from 0 sides prices quantities) ≡ take i out ++ map f (rest_of 0 sides prices quantities i)
 
 module _ (f : Step → ℕ) (sides prices quantities : List ℕ) where
-  pub filled_none : (out : List ℕ) → length sides ≡ length out → Filled f sides prices quantities out 0
-  filled_none out e = record { inside = omega arith; long = sym e; whole = refl }
-
   pub filled_more : Columns sides prices quantities → (out : List ℕ) (i v : ℕ) → Filled f sides prices quantities out i → i < length sides →
       v ≡ f (step_for (get_or sides i 0) (get_or prices i 0) (get_or quantities i 0)) → Filled f sides prices quantities (set out i v) (i + 1)
   filled_more columns out i v t k e =
@@ -69,20 +68,19 @@ module _ (f : Step → ℕ) (sides prices quantities : List ℕ) where
       omega arith
 
 -- COUNTS
-pub count-more : (x : ℕ) (l : List ℕ) (i : ℕ) → i < length l →
-    at_least x (drop i l) ≡ when (leb x (get_or l i 0)) 1 + at_least x (drop (i + 1) l)
+pub count-above : (x : ℕ) (l : List ℕ) → count_by (λ r. nat_lt x r) l ≡ at_least (suc x) l
 unfolding at_least
-count-more x l i h = rw (add-one, drop-cons l i 0)
-
-pub count-done : (x : ℕ) (l : List ℕ) (i : ℕ) → length l ≤ i → at_least x (drop i l) ≡ 0
-unfolding at_least
-count-done x l i h = rw (drop_of_length-le l h)
+count-above x l = sym (is_count_by (at_least (suc x)) (λ r. nat_lt x r) refl (λ r l'. one-more (ltb x r) (at_least (suc x) l')) l)
+  where
+    one-more : (b : Bool) (n : ℕ) → when b 1 + n ≡ cond b (1 + n) n
+    one-more true n = refl
+    one-more false n = omega arith
 
 -- GIVING the leftover tenths
-pub room_within : (a : Bool) (m : ℕ) → when (a && ltb 0 m) 1 ≤ m
-room_within true zero = omega arith
-room_within true (suc m) = omega (arith, when-le (ltb 0 (suc m)) 1)
-room_within false m = omega arith
+-- a test as a number
+pub one-when : (b : Bool) → from_bool b ≡ when b 1
+one-when true = refl
+one-when false = refl
 
 -- whether a remainder gets one more
 abbrev pub extra_at : ℕ → ℕ → ℕ → ℕ
@@ -96,9 +94,6 @@ pub record Giving (cut most : ℕ) (rests old out : List ℕ) (room i : ℕ) : T
   pub whole : take i out ++ plus (drop i old) (by_cut cut room (drop i rests)) ≡ plus old (by_cut cut most rests)
 
 module _ (cut most : ℕ) (rests old : List ℕ) (same : length old ≡ length rests) where
-  pub giving-none : Giving cut most rests old old most 0
-  giving-none = record { inside = omega arith; long = same; behind = refl; whole = refl }
-
   pub giving-at : (out : List ℕ) (room i : ℕ) → Giving cut most rests old out room i → get_or out i 0 ≡ get_or old i 0
   giving-at out room i t =
       rw (add-zero) at (sym (get_or-drop i out 0 0) ∙ ap (λ l. get_or l 0 0) t.behind ∙ get_or-drop i old 0 0)
@@ -119,22 +114,3 @@ module _ (cut most : ℕ) (rests old : List ℕ) (same : length old ≡ length r
     where
       tail : {a b : ℕ} {l m : List ℕ} → a ∷ l ≡ b ∷ m → l ≡ m
       tail q = cc
-
-  pub giving-done : (out : List ℕ) (room i : ℕ) → Giving cut most rests old out room i → length rests ≤ i → out ≡ plus old (by_cut cut most rests)
-  giving-done out room i t h =
-      let k : length old ≤ i = omega arith in
-      sym (take_all i out (omega (arith, t.long))) ∙ sym (rw (drop_of_length-le old k) (append-nil (take i out))) ∙ t.whole
-
--- NUMBERS that fit
-pub quotient_fits : (own amount t : ℕ) → own < 2 ^ 32 → 0 < t → amount ≤ t → own * amount / t < 2 ^ 32
-quotient_fits own amount t h p k =
-    (div-lt_iff_lt-mul p).1 (omega (arith, mul-le-mul_left own k, mul-lt-mul_of_pos_right {k = t} h p))
-
-pub product-fits : (own amount : ℕ) → own < 2 ^ 32 → amount < 2 ^ 31 → own * amount < 2 ^ 64
-product-fits own amount h k =
-    let p : own ≤ 4294967295 = omega arith in
-    let q : amount ≤ 2147483647 = omega arith in
-    omega (arith, mul-le-mul p q)
-
-pub nothing-held : (own amount t : ℕ) → t ≡ 0 → amount ≤ t → 0 ≡ own * amount / t
-nothing-held own amount t z h = let a : amount ≡ 0 = omega arith in rw (z, a, mul-zero own) (sym (zero-div 0))

@@ -1,5 +1,5 @@
 -- The leftover tenths of a side, given by a cut; and the whole: what every step gets is the rules' shares. Assumes nothing.
-use Prim.Native.Nat.{ℕ, zero, suc, ◌+◌, ◌-◌, ◌*◌, ◌/◌, ◌%◌, ◌^◌, ◌≤◌, ◌<◌}
+use Prim.Native.Nat.{ℕ, zero, suc, ◌+◌, ◌-◌, ◌*◌, ◌/◌, ◌%◌, ◌≤◌, ◌<◌}
 use mathlib.Core.Bool.{Bool, true, false}
 use mathlib.Core.Path.{◌≡◌, refl, sym, ap, ap₂, ◌∙◌}
 use mathlib.Core.List.{List, [], ◌∷◌, map}
@@ -10,7 +10,7 @@ use lib.Dec.{ltb, eqb}
 use lib.ListN.{length, get_or, length-map}
 use borrow.Author.Tests.{le-ltb}
 use Rattle.rules.specs.Orders.{Step}
-use Rattle.rules.specs.Hour.{by_side, when, total}
+use Rattle.rules.specs.Hour.{by_side, total}
 use Rattle.rules.specs.Execution.{test_side, in_full, buying_at, selling_at, plus, sum_of, floors, remainders, at_least, extras, in_proportion, shares}
 use Rattle.rules.proofs.CurveLaws.{by_side-le}
 use Rattle.rules.proofs.ShareLaws.{when-le, at_least-none, at_least-length, leftover-few, length-extras, shares-none, shares-some}

@@ -1,6 +1,7 @@
 -- The lines of hours and of blocks, written one after another. Assumes nothing.
+use mir.Val.{bool_byte}
 use mathlib.Core.Path.{◌≡◌, refl, sym, ap, ◌∙◌}
-use mathlib.Core.Bool.{Bool, cond}
+use mathlib.Core.Bool.{Bool, true, false, cond}
 use mathlib.Core.List.{List, [], ◌∷◌, ◌++◌, append_assoc, append-nil}
 use Prim.Native.Nat.{ℕ, zero, suc, ◌+◌, ◌-◌, ◌≤◌, ◌<◌}
 use native.Mathlib.Omega.{arith}
@@ -44,6 +45,11 @@ module _ (l : List ℕ) (at h price traded : ℕ) (room : HasRoom l at (hour_lin
       pub put-hour-line : (r : List ℕ) (q : ℕ) → Put m₂ p₂ (field traded line_feed) r q → Put l at (hour_line h price traded) r q
       unfolding hour_line
       put-hour-line r q put₃ = put_then l at _ _ room-line m₁ p₁ put₁ r q (put_then m₁ p₁ _ _ rest m₂ p₂ put₂ r q put₃)
+
+-- A test as a number
+pub flag-is : (taken : Bool) → bool_byte taken ≡ cond taken 1 0
+flag-is true = refl
+flag-is false = refl
 
 -- A LINE OF A BLOCK: two fields
 module _ (l : List ℕ) (at number : ℕ) (taken : Bool) (room : HasRoom l at (block_line number taken)) where

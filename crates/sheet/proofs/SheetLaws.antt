@@ -11,7 +11,12 @@ use Rattle.records.specs.Bytes.{byte_at, u16_at}
 use Rattle.records.specs.Records.{record_count, number, block_at}
 use Rattle.chains.specs.Chains.{block_order}
 use Rattle.book.specs.Refusals.{refusal, Accepted}
-use Rattle.book.proofs.Accepted.{accepted, accepted-zero, record-count}
+use Rattle.std.specs.Prelude.{Err}
+use Rattle.book.specs.Numbers.{refusal_number}
+use Rattle.book.specs.Answers.{reading}
+use Rattle.book.specs.declared.refusal.Refusal.{Refusal}
+use Rattle.book.proofs.Refused.{answer-refused}
+use Rattle.book.proofs.Accepted.{accepted, accepted-zero}
 use Rattle.rules.specs.Day.{is_counted, set_prices, traded}
 use Rattle.rules.proofs.CurveLaws.{when-le}
 use Rattle.rules.specs.Outcome.{published, outcome}
@@ -22,9 +27,7 @@ use Rattle.orders.specs.Columns.{block_records}
 use Rattle.orders.proofs.BridgeLaws.{day-blocks, prices-in-range}
 use Rattle.orders.proofs.RecordLaws.{blocks-all, block-records-fit}
 use Rattle.result.specs.Result.{result_bytes, welfare_in, price_in, traded_in, taken_in}
-use Rattle.result.specs.Promise.{result_after, Promise}
-use Rattle.result.specs.declared.Clearing.{Clearing}
-use Rattle.result.proofs.PromiseLaws.{hour-at, not-refused, result_says, result-welfare, result-length, taken_is}
+use Rattle.result.proofs.PromiseLaws.{hour-at, result_says, result-welfare, taken_is}
 use Rattle.result.proofs.RowsLaws.{published_blocks, chosen_is}
 use Rattle.result.proofs.SizeLaws.{small-day}
 use Rattle.text.specs.Text.{text, decimal_in, decimal, field, line_feed, HasRoom, Put}
@@ -192,41 +195,20 @@ module _ (b : List ℕ) (bytes : (i : ℕ) → byte_at b i < 256) where
   pub put-short : (out after : List ℕ) (end : ℕ) → Put out 0 (sheet_of b) after end → end ≤ 781
   put-short out after end put = omega (arith, put.ends, sheet-short)
 
--- THE CLEARING of an accepted book into the front of a space
-module _ (b space : List ℕ) (count : ℕ) (a : Accepted b) (counted : count ≡ record_count b) (large : 8388 ≤ length space) where
-  pub front_fits : 196 + 4 * count ≤ length space
-  front_fits = omega (arith, (record-count b a).1)
+-- THE LINES of a result
+module _ (b result : List ℕ) (a : Accepted b) (is : result ≡ result_bytes b) where
+  lines-are : lines_in b result ≡ sheet_of b
+  lines-are = rw is (sheet-accepted b a)
 
-  pub front_length : 196 + 4 * count ≡ length (take (196 + 4 * count) space)
-  front_length = sym (length-take-le (196 + 4 * count) space front_fits)
+  -- they have room in 781 bytes, and are the sheet
+  pub lines-room : ((i : ℕ) → byte_at b i < 256) → (out : List ℕ) → length out ≡ 781 → HasRoom out 0 (lines_in b result)
+  unfolding HasRoom
+  lines-room bytes out room = rw lines-are (omega (arith, sheet-short b bytes))
 
-  module _ (after : List ℕ) (answer : Clearing) (promise : Promise b (take (196 + 4 * count) space) after answer) where
-    after_is : after ≡ result_bytes b
-    unfolding result_after
-    after_is = promise.bytes ∙ rw (not-refused b (take (196 + 4 * count) space) a (sym front_length ∙ rw counted))
+  pub lines-put : (out r : List ℕ) (q : ℕ) → Put out 0 (lines_in b result) r q → Put out 0 (sheet_of b) r q
+  lines-put out r q put = rw lines-are at put
 
-    after-length : length after ≡ 196 + 4 * count
-    after-length = rw (after_is, counted) (result-length b a)
-
-    pub again-fits : 196 + 4 * count ≤ length (after ++ drop (196 + 4 * count) space)
-    again-fits = omega (arith, length-append after (drop (196 + 4 * count) space), after-length)
-
-    pub again-length : 196 + 4 * count ≡ length (take (196 + 4 * count) (after ++ drop (196 + 4 * count) space))
-    again-length = sym (length-take-le (196 + 4 * count) (after ++ drop (196 + 4 * count) space) again-fits)
-
-    -- the front is the result
-    pub front-is : take (196 + 4 * count) (after ++ drop (196 + 4 * count) space) ≡ result_bytes b
-    front-is = take_at after (drop (196 + 4 * count) space) (196 + 4 * count) after-length ∙ after_is
-
-    lines-in-front : lines_in b (take (196 + 4 * count) (after ++ drop (196 + 4 * count) space)) ≡ sheet_of b
-    lines-in-front = rw front-is (sheet-accepted b a)
-
-    -- the lines have room in 781 bytes, and are the sheet
-    pub lines-room : ((i : ℕ) → byte_at b i < 256) → (out : List ℕ) → 781 ≤ length out →
-        HasRoom out 0 (lines_in b (take (196 + 4 * count) (after ++ drop (196 + 4 * count) space)))
-    unfolding HasRoom
-    lines-room bytes out room = rw lines-in-front (omega (arith, sheet-short b bytes))
-
-    pub lines-put : (out r : List ℕ) (q : ℕ) → Put out 0 (lines_in b (take (196 + 4 * count) (after ++ drop (196 + 4 * count) space))) r q →
-        Put out 0 (sheet_of b) r q
-    lines-put out r q put = rw lines-in-front at put
+-- THE LINE of a refusal, for the book's own
+pub refusal-put : (b : List ℕ) (why : Refusal) → reading b ≡ Err why → (out r : List ℕ) (q : ℕ) → Put out 0 (refused_line (refusal_number why)) r q
+    → Put out 0 (sheet_of b) r q
+refusal-put b why e out r q put = let refused = answer-refused b why e in rw (sheet-refused b _ refused.1 (λ z. refused.0 (refused.1 ∙ z))) at put

@@ -6,11 +6,11 @@ use mathlib.Core.Path.{◌≡◌, refl, sym, ap, ◌∙◌, fun_ext}
 use mathlib.Core.List.{List}
 use native.Mathlib.Omega.{arith}
 use native.Mathlib.Numerals.{add-one}
-use borrow.Author.Tests.{le-leb}
 use Rattle.rules.specs.Shift.{last_shift, middle_shift, nearest_shift, all_shifts}
 use Rattle.rules.proofs.Tests.{by-test, clash}
-use Rattle.rules.proofs.ChoiceLaws.{both_pass, choice-middle, choice-lower, choice-higher, choice-none, choice-no-first, choice-no-second}
-use Rattle.shift.specs.Columns.{column_at, side_kept_at, chosen_shift, shift_from, TurnsBehind}
+use Rattle.rules.proofs.ChoiceLaws.{chosen_is, both_pass, choice-middle, choice-lower, choice-higher, choice-none, choice-no-first, choice-no-second}
+use Rattle.places.specs.Blocks.{all_keep}
+use Rattle.shift.specs.Columns.{column_at, side_kept_at, chosen_shift, TurnsBehind}
 use Rattle.shift.proofs.SideLaws.{sides_apart, sells-up, buys-down}
 
 -- BISECTION: the test turns between two shifts, which come nearer until one is next to the other
@@ -51,15 +51,6 @@ pub second-fails : (x y : Bool) → (x && y) ≡ false → x ≡ true → y ≡ 
 second-fails true y e k = e
 second-fails false y e k = clash k refl
 
--- AS A NUMBER
-pub shift-some : (r : ℕ) → r ≤ last_shift → shift_from r ≡ some r
-unfolding shift_from
-shift-some r k = rw (le-leb r last_shift k)
-
-pub shift_none : shift_from (last_shift + 1) ≡ none
-unfolding shift_from
-shift_none = refl
-
 module _ (unit_prices blocks : List ℕ) (count set : ℕ) (places : List ℕ) (often : ℕ) where
   abbrev sells_kept : ℕ → Bool
   sells_kept = side_kept_at unit_prices blocks count set places often true
@@ -95,36 +86,41 @@ module _ (unit_prices blocks : List ℕ) (count set : ℕ) (places : List ℕ) (
   pub chosen_none : (t : ℕ) → sells_kept t ≡ false → buys_kept (suc t) ≡ false → chosen_shift unit_prices blocks count set places often ≡ none
   chosen_none t e f = by-sides ∙ choice-none sells_kept buys_kept up down t e f
 
+  pub chosen-small : {t : ℕ} → some t ≡ chosen_shift unit_prices blocks count set places often → t ≤ last_shift
+  unfolding chosen_shift
+  chosen-small {t} e =
+      let is = rw (sym e) at (chosen_is (λ t. all_keep blocks set (column_at unit_prices places often t) (column_at unit_prices places often t) count)) in
+      omega (arith, is.1)
+
   -- THE WAYS OUT of the search
   pub middle-way : (sold bought : Bool) → sold ≡ sells_kept middle_shift → bought ≡ buys_kept middle_shift → (sold && bought) ≡ true →
-      shift_from middle_shift ≡ chosen_shift unit_prices blocks count set places often
-  middle-way sold bought e f g = shift-some middle_shift (omega arith) ∙ sym (chosen-middle (rw (e, f) at g))
+      some middle_shift ≡ chosen_shift unit_prices blocks count set places often
+  middle-way sold bought e f g = sym (chosen-middle (rw (e, f) at g))
 
-  pub lower-way : (t : ℕ) → TurnsBehind buys_kept false 0 middle_shift t → sells_kept t ≡ true → shift_from t ≡ chosen_shift unit_prices blocks count set places often
+  pub lower-way : (t : ℕ) → TurnsBehind buys_kept false 0 middle_shift t → sells_kept t ≡ true → some t ≡ chosen_shift unit_prices blocks count set places often
   lower-way t turns e =
-      shift-some t (omega (arith, turns.before)) ∙ sym (chosen-lower t turns.before (rw (e, turns.here)) turns.behind)
+      sym (chosen-lower t turns.before (rw (e, turns.here)) turns.behind)
 
   pub higher-way : (t : ℕ) → TurnsBehind sells_kept true middle_shift last_shift t → buys_kept (t + 1) ≡ true →
-      shift_from (t + 1) ≡ chosen_shift unit_prices blocks count set places often
+      some (t + 1) ≡ chosen_shift unit_prices blocks count set places often
   higher-way t turns e =
       let e' : buys_kept (suc t) ≡ true = rw add-one at e in
-      shift-some (t + 1) (omega (arith, turns.before))
-      ∙ rw add-one (sym (chosen-higher t turns.from turns.before (rw (turns.behind, e')) turns.here))
+      rw add-one (sym (chosen-higher t turns.from turns.before (rw (turns.behind, e')) turns.here))
 
-  pub apart-way : (t : ℕ) → sells_kept t ≡ false → buys_kept (suc t) ≡ false → shift_from (last_shift + 1) ≡ chosen_shift unit_prices blocks count set places often
-  apart-way t e f = shift_none ∙ sym (chosen_none t e f)
+  pub apart-way : (t : ℕ) → sells_kept t ≡ false → buys_kept (suc t) ≡ false → none ≡ chosen_shift unit_prices blocks count set places often
+  apart-way t e f = sym (chosen_none t e f)
 
-  pub apart_above : (t : ℕ) → sells_kept t ≡ false → buys_kept (t + 1) ≡ false → shift_from (last_shift + 1) ≡ chosen_shift unit_prices blocks count set places often
+  pub apart_above : (t : ℕ) → sells_kept t ≡ false → buys_kept (t + 1) ≡ false → none ≡ chosen_shift unit_prices blocks count set places often
   apart_above t e f = apart-way t e (rw add-one at f)
 
   pub middle-apart : sells_kept middle_shift ≡ false → buys_kept middle_shift ≡ false →
-      shift_from (last_shift + 1) ≡ chosen_shift unit_prices blocks count set places often
+      none ≡ chosen_shift unit_prices blocks count set places often
   middle-apart e f =
       apart-way middle_shift e
       (by-test (λ x. x ≡ false) (buys_kept (suc middle_shift)) (λ k. clash (down middle_shift (suc middle_shift) (omega arith) k) f) (λ k. refl))
 
-  pub no-buys-way : buys_kept 0 ≡ false → shift_from (last_shift + 1) ≡ chosen_shift unit_prices blocks count set places often
-  no-buys-way e = shift_none ∙ sym (by-sides ∙ choice-no-second sells_kept buys_kept up down e)
+  pub no-buys-way : buys_kept 0 ≡ false → none ≡ chosen_shift unit_prices blocks count set places often
+  no-buys-way e = sym (by-sides ∙ choice-no-second sells_kept buys_kept up down e)
 
-  pub no-sells-way : sells_kept last_shift ≡ false → shift_from (last_shift + 1) ≡ chosen_shift unit_prices blocks count set places often
-  no-sells-way e = shift_none ∙ sym (by-sides ∙ choice-no-first sells_kept buys_kept up down e)
+  pub no-sells-way : sells_kept last_shift ≡ false → none ≡ chosen_shift unit_prices blocks count set places often
+  no-sells-way e = sym (by-sides ∙ choice-no-first sells_kept buys_kept up down e)

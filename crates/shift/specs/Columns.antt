@@ -1,10 +1,11 @@
 -- A SET'S SHIFT BY COLUMNS (edition 4): the prices of the hours at a shift, the limits that a set's blocks keep there, and the shift that is chosen.
 -- Definitions only. Assumes nothing.
 use Rattle.std.specs.Prelude.{ℕ, zero, suc, ◌+◌, ◌/◌, ◌%◌, ◌^◌, ◌≤◌, ◌<◌, Bool, true, false, not, ◌&&◌, ◌||◌, List, [], ◌∷◌, ◌≡◌, eqb, leb, length}
-use Rattle.std.proofs.Math.Option.{Option}
+use Rattle.std.specs.Prelude.{Some, None}
+use Rattle.std.specs.Prelude as code
+use Rattle.std.proofs.Math.Option.{Option, none, some}
 use Rattle.rules.specs.Orders.{max_price}
-use Rattle.rules.specs.Hour.{if_passes}
-use Rattle.rules.specs.Shift.{last_shift, shifted, nearest_shift, all_shifts}
+use Rattle.rules.specs.Shift.{shifted, nearest_shift, all_shifts}
 use Rattle.book.specs.Bounds.{most_blocks}
 use Rattle.places.specs.Layout.{hour_places, block_list_size}
 use Rattle.places.specs.Hours.{Small, HasRows, last_in, cell, of_hour, counted_column}
@@ -55,9 +56,10 @@ module _ (unit_prices blocks : List ℕ) (count set : ℕ) (places : List ℕ) (
   unfoldable pub chosen_shift : Option ℕ
   chosen_shift = nearest_shift all_kept_at all_shifts
 
--- A shift as the code writes it: above 1000 there is none.
-unfoldable pub shift_from : ℕ → Option ℕ
-shift_from r = if_passes (leb r last_shift) r
+-- A shift as the code gives it.
+abbrev pub shift_from : code.Option ℕ → Option ℕ
+shift_from (Some t) = some t
+shift_from None = none
 
 -- A test turns behind r, from first on and before last: there it answers otherwise than before.
 pub record TurnsBehind (test : ℕ → Bool) (after : Bool) (first last r : ℕ) : Type 0 where

@@ -8,16 +8,18 @@ ghost use Rattle.book.specs.Bounds.{most_blocks};
 ghost use Rattle.rules.specs.Shift.{last_shift, middle_shift};
 ghost use Rattle.places.specs.Layout.{block_list_size};
 ghost use Rattle.places.specs.Hours.{DayPrices};
-ghost use Rattle.shift.specs.Columns.{is_of_side, side_keeps, side_kept_at, chosen_shift, shift_from, TurnsBehind, ShiftSized};
+ghost use Rattle.shift.specs.Columns.{is_of_side, side_keeps, chosen_shift, shift_from, TurnsBehind, ShiftSized};
+ghost use Rattle.shift.specs.Sought.{kept_at, shift_for};
 
+mod sought; // the set whose shift is looked for
+
+use crate::sought::Sought;
 use places::cells::{counted_prices, shifted_prices};
 use places::layout::{HOURS, LAST_SHIFT, LIMIT, MIDDLE_SHIFT, RUNS, SIDE};
 use places::limits::keeps_limit;
+use places::tables::Tables;
 
-// What stands for no shift: the number above the last.
-pub const NO_SHIFT: u32 = LAST_SHIFT + 1;
-
-// Whether a block's side is the one that sells, or the one that buys.
+// Whether a block's side is the one that sells, or the one that buys. The side is a bool, since it is what the test of its blocks turns to as prices rise.
 fn is_of_side(sells: bool, side: u32) -> bool
     ensures { result ≡ is_of_side sells side }
 {
@@ -29,9 +31,7 @@ fn side_keeps(sells: bool, blocks: &[u32], count: usize, set: u32, prices: &[u32
     requires { (length blocks.now ≡ block_list_size) × (count ≤ most_blocks) × DayPrices prices.now }
     ensures { result ≡ side_keeps sells blocks.now set prices.now count }
 {
-    let mut i = count;
-    while 0 < i {
-        i -= 1;
+    for i in (0..count).rev() {
         let side = blocks[SIDE + i];
         let chosen = (set >> (i as u32)) % 2;
         let meant = is_of_side(sells, side);
@@ -44,171 +44,98 @@ fn side_keeps(sells: bool, blocks: &[u32], count: usize, set: u32, prices: &[u32
     true
 }
 
-// The same at shift t.
-fn side_kept_at(
-    sells: bool,
-    unit_prices: &[u32],
-    blocks: &[u32],
-    count: usize,
-    set: u32,
-    places: [u32; HOURS],
-    often: u32,
-    t: u32,
-) -> bool
-    requires { ShiftSized unit_prices.now blocks.now count places often × (t ≤ last_shift) }
-    ensures { result ≡ side_kept_at unit_prices.now blocks.now count set places often sells t }
-{
-    let prices = counted_prices(shifted_prices(unit_prices, places, t), often);
-    side_keeps(sells, blocks, count, set, &prices)
-}
+impl Sought<'_> {
+    // Whether the blocks of a side that the set holds keep their limits at shift t.
+    fn side_kept_at(&self, sells: bool, t: u32) -> bool
+        requires { t ≤ last_shift }
+        ensures { result ≡ kept_at self.now sells t }
+    {
+        let prices = shifted_prices(self.tables.unit_prices, self.places, t);
+        let counted = counted_prices(prices, self.often);
+        side_keeps(
+            sells,
+            self.tables.blocks,
+            self.tables.count as usize,
+            self.set,
+            &counted,
+        )
+    }
 
-// Between two shifts, at the first of which the buys of a set keep their limits and at the last no longer, or its sells not yet and then do: the last
-// shift that is as the first.
-fn last_before(
-    sells: bool,
-    unit_prices: &[u32],
-    blocks: &[u32],
-    count: usize,
-    set: u32,
-    places: [u32; HOURS],
-    often: u32,
-    first: u32,
-    last: u32,
-) -> u32
-    requires shift_sized { ShiftSized unit_prices.now blocks.now count places often × (first < last) × (last ≤ last_shift) }
-    requires first_value { side_kept_at unit_prices.now blocks.now count set places often sells first ≡ not sells }
-    requires last_value { side_kept_at unit_prices.now blocks.now count set places often sells last ≡ sells }
-    ensures { TurnsBehind (side_kept_at unit_prices.now blocks.now count set places often sells) sells first last result }
-{
-    let mut from = first;
-    let mut to = last;
-    while from + 1 < to {
-        let t = from + (to - from) / 2;
-        let kept = side_kept_at(sells, unit_prices, blocks, count, set, places, often, t);
-        if kept == sells {
-            to = t;
-        } else {
-            from = t;
+    // Between two shifts, at the first of which the buys of the set keep their limits and at the last no longer, or its sells not yet and then do: the
+    // last shift that is as the first. The two come nearer by halves.
+    fn last_before(&self, sells: bool, first: u32, last: u32) -> u32
+        requires apart { (first < last) × (last ≤ last_shift) }
+        requires first_value { kept_at self.now sells first ≡ not sells }
+        requires last_value { kept_at self.now sells last ≡ sells }
+        ensures { TurnsBehind (kept_at self.now sells) sells first last result }
+    {
+        let mut from = first;
+        let mut to = last;
+        // A bisection: its steps are not an index's.
+        while from + 1 < to {
+            let t = from + (to - from) / 2;
+            let kept = self.side_kept_at(sells, t);
+            if kept == sells {
+                to = t;
+            } else {
+                from = t;
+            }
         }
+        from
     }
-    from
+
+    // The shift where the buys miss their limits in the middle: the last that they keep, if the sells keep it.
+    fn lower_shift(&self) -> Option<u32>
+        requires { kept_at self.now false middle_shift ≡ false }
+        ensures { shift_from result ≡ shift_for self.now }
+    {
+        if !self.side_kept_at(false, 0) {
+            return None;
+        }
+        let t = self.last_before(false, 0, MIDDLE_SHIFT);
+        if !self.side_kept_at(true, t) {
+            return None;
+        }
+        Some(t)
+    }
+
+    // The shift where the sells miss their limits in the middle: the first that they keep, if the buys keep it.
+    fn higher_shift(&self) -> Option<u32>
+        requires { kept_at self.now true middle_shift ≡ false }
+        ensures { shift_from result ≡ shift_for self.now }
+    {
+        if !self.side_kept_at(true, LAST_SHIFT) {
+            return None;
+        }
+        let t = self.last_before(true, MIDDLE_SHIFT, LAST_SHIFT) + 1;
+        if !self.side_kept_at(false, t) {
+            return None;
+        }
+        Some(t)
+    }
 }
 
-// The shift where the buys miss their limits in the middle: the last that they keep, if the sells keep it.
-fn lower_shift(
-    unit_prices: &[u32],
-    blocks: &[u32],
-    count: usize,
-    set: u32,
-    places: [u32; HOURS],
-    often: u32,
-) -> u32
-    requires shift_sized { ShiftSized unit_prices.now blocks.now count places often }
-    requires middle_shift_value { side_kept_at unit_prices.now blocks.now count set places often false middle_shift ≡ false }
-    ensures { shift_from result ≡ chosen_shift unit_prices.now blocks.now count set places often }
+// THE SHIFT: the one nearest the middle, of two the smaller, at which each block that the set holds keeps its limit; or none.
+pub fn shift_of(tables: &Tables, set: u32, places: [u32; HOURS], often: u32) -> Option<u32>
+    requires { ShiftSized tables.now.unit_prices.now tables.now.blocks.now tables.now.count places often }
+    ensures { shift_from result ≡ chosen_shift tables.now.unit_prices.now tables.now.blocks.now tables.now.count set places often }
 {
-    if !side_kept_at(false, unit_prices, blocks, count, set, places, often, 0) {
-        return NO_SHIFT;
-    }
-    let t = last_before(
-        false,
-        unit_prices,
-        blocks,
-        count,
+    let sought = Sought {
+        tables,
         set,
         places,
         often,
-        0,
-        MIDDLE_SHIFT,
-    );
-    if !side_kept_at(true, unit_prices, blocks, count, set, places, often, t) {
-        return NO_SHIFT;
-    }
-    t
-}
-
-// The shift where the sells miss their limits in the middle: the first that they keep, if the buys keep it.
-fn higher_shift(
-    unit_prices: &[u32],
-    blocks: &[u32],
-    count: usize,
-    set: u32,
-    places: [u32; HOURS],
-    often: u32,
-) -> u32
-    requires shift_sized { ShiftSized unit_prices.now blocks.now count places often }
-    requires middle_shift_value { side_kept_at unit_prices.now blocks.now count set places often true middle_shift ≡ false }
-    ensures { shift_from result ≡ chosen_shift unit_prices.now blocks.now count set places often }
-{
-    if !side_kept_at(
-        true,
-        unit_prices,
-        blocks,
-        count,
-        set,
-        places,
-        often,
-        LAST_SHIFT,
-    ) {
-        return NO_SHIFT;
-    }
-    let t = last_before(
-        true,
-        unit_prices,
-        blocks,
-        count,
-        set,
-        places,
-        often,
-        MIDDLE_SHIFT,
-        LAST_SHIFT,
-    ) + 1;
-    if !side_kept_at(false, unit_prices, blocks, count, set, places, often, t) {
-        return NO_SHIFT;
-    }
-    t
-}
-
-// THE SHIFT: the one nearest the middle, of two the smaller, at which each of the first count blocks that the set holds keeps its limit; or none.
-pub fn shift_of(
-    unit_prices: &[u32],
-    blocks: &[u32],
-    count: usize,
-    set: u32,
-    places: [u32; HOURS],
-    often: u32,
-) -> u32
-    requires { ShiftSized unit_prices.now blocks.now count places often }
-    ensures { shift_from result ≡ chosen_shift unit_prices.now blocks.now count set places often }
-{
-    let sold = side_kept_at(
-        true,
-        unit_prices,
-        blocks,
-        count,
-        set,
-        places,
-        often,
-        MIDDLE_SHIFT,
-    );
-    let bought = side_kept_at(
-        false,
-        unit_prices,
-        blocks,
-        count,
-        set,
-        places,
-        often,
-        MIDDLE_SHIFT,
-    );
+    };
+    let sold = sought.side_kept_at(true, MIDDLE_SHIFT);
+    let bought = sought.side_kept_at(false, MIDDLE_SHIFT);
     if sold & bought {
-        return MIDDLE_SHIFT;
+        return Some(MIDDLE_SHIFT);
     }
     if sold {
-        return lower_shift(unit_prices, blocks, count, set, places, often);
+        return sought.lower_shift();
     }
     if bought {
-        return higher_shift(unit_prices, blocks, count, set, places, often);
+        return sought.higher_shift();
     }
-    NO_SHIFT
+    None
 }

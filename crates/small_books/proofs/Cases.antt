@@ -15,8 +15,15 @@ use Rattle.chains.specs.Causes.{misplaced, broken, broken_on, broken_chain, wron
 use Rattle.book.specs.Refusals.{wrong_size, links_too_early, wrong_head, too_many_of, too_many_blocks, too_many_steps, first_cause, own_causes, refusal}
 use Rattle.chains.specs.Causes.{uncounted, uncounted_on, wrong_hours, is_number, has_block, misnamed, wrong_link, is_for, steps_for, more_steps_in, more_steps}
 use Rattle.fields.specs.Hours.{counted_hours}
+use Rattle.std.specs.Prelude.{Ok, Err}
+use Rattle.book.specs.Numbers.{refusal_numbered, answered}
 use Rattle.book.specs.Answers.{reading}
-use Rattle.book.specs.declared.Reading.TheVariants as reading-of
+use Rattle.book.specs.declared.Counted.{Counted}
+use Rattle.book.specs.declared.refusal.Refusal.TheVariants as refused-for
+
+-- So many steps and blocks
+abbrev counts : ℕ → ℕ → Counted
+counts steps blocks = record { steps = steps; blocks = blocks }
 
 -- A book of the head alone
 pub head_alone : List ℕ
@@ -95,25 +102,25 @@ block_over hours bits =
 
 -- What reading each of them answers
 pub record SmallBooks : Type 0 where
-  pub head : reading head_alone ≡ reading-of.Accepted 0 0
-  pub orders : reading step_and_block ≡ reading-of.Accepted 1 1
-  pub loop : reading own_next ≡ reading-of.Refused 3
-  pub two : reading both_causes ≡ reading-of.Refused 3
-  pub left : reading left_over ≡ reading-of.Refused 5
+  pub head : reading head_alone ≡ Ok (counts 0 0)
+  pub orders : reading step_and_block ≡ Ok (counts 1 1)
+  pub loop : reading own_next ≡ Err refused-for.BrokenChain
+  pub two : reading both_causes ≡ Err refused-for.BrokenChain
+  pub left : reading left_over ≡ Err refused-for.StrayRecord
   -- head byte 6: 23 and 25 hours, and no fewer or more
-  pub spring : reading (head_on 23) ≡ reading-of.Accepted 0 0
-  pub autumn : reading (head_on 25) ≡ reading-of.Accepted 0 0
-  pub shorter : reading (head_on 22) ≡ reading-of.Refused 2
-  pub longer : reading (head_on 26) ≡ reading-of.Refused 2
+  pub spring : reading (head_on 23) ≡ Ok (counts 0 0)
+  pub autumn : reading (head_on 25) ≡ Ok (counts 0 0)
+  pub shorter : reading (head_on 22) ≡ Err refused-for.WrongHead
+  pub longer : reading (head_on 26) ≡ Err refused-for.WrongHead
   -- a step for hour 3 on 23, 24 and 25 hours
-  pub step_on23 : reading (step_of3 23) ≡ reading-of.Refused 9
-  pub step_on24 : reading (step_of3 24) ≡ reading-of.Accepted 1 0
-  pub step_on25 : reading (step_of3 25) ≡ reading-of.Accepted 1 0
+  pub step_on23 : reading (step_of3 23) ≡ Err refused-for.WrongHours
+  pub step_on24 : reading (step_of3 24) ≡ Ok (counts 1 0)
+  pub step_on25 : reading (step_of3 25) ≡ Ok (counts 1 0)
   -- a block of hours 2 and 3 on 23 hours and on 24, of 2, 3 and 4 on 23; of hour 3 alone on 25, which counts twice but is one hour
-  pub two_on23 : reading (block_over 23 6) ≡ reading-of.Refused 9
-  pub two_on24 : reading (block_over 24 6) ≡ reading-of.Accepted 0 1
-  pub three_on23 : reading (block_over 23 14) ≡ reading-of.Accepted 0 1
-  pub one_on25 : reading (block_over 25 4) ≡ reading-of.Refused 4
+  pub two_on23 : reading (block_over 23 6) ≡ Err refused-for.WrongHours
+  pub two_on24 : reading (block_over 24 6) ≡ Ok (counts 0 1)
+  pub three_on23 : reading (block_over 23 14) ≡ Ok (counts 0 1)
+  pub one_on25 : reading (block_over 25 4) ≡ Err refused-for.WrongField
 
 pub decided : SmallBooks
 unfolding
@@ -121,7 +128,7 @@ unfolding
     record_at hours_set chain_from chains is_on step_order block_order link_order links wrong_size links_too_early wrong_head misplaced broken broken_on broken_chain
     step_fits block_fits step_in_range
     block_in_range record_in_range out_of_range wrong_field_on wrong_field stray stray_record owned_by too_many_of too_many_blocks weight is_counted sum_to day_sum counted_hours
-    uncounted uncounted_on wrong_hours wrong_link too_many_steps first_cause own_causes refusal reading
+    uncounted uncounted_on wrong_hours wrong_link too_many_steps first_cause own_causes refusal refusal_numbered answered reading
 decided = record {
   head = refl;
   orders = refl;
@@ -143,26 +150,26 @@ decided = record {
 
 -- THE EDITIONS, at their limits
 pub record Editions : Type 0 where
-  pub second : reading (head_of 2) ≡ reading-of.Accepted 0 0
-  pub third : reading (head_of 3) ≡ reading-of.Accepted 0 0
-  pub fourth : reading (head_of 4) ≡ reading-of.Accepted 0 0
-  pub fifth : reading (head_of 5) ≡ reading-of.Refused 2
-  pub zeroth : reading (head_of 0) ≡ reading-of.Refused 2
-  pub most : reading (block_of 1 50) ≡ reading-of.Accepted 0 1
-  pub too_much : reading (block_of 1 51) ≡ reading-of.Refused 4
-  pub most_of_notice : reading (block_of 2 250) ≡ reading-of.Accepted 0 1
-  pub too_much_of_notice : reading (block_of 2 251) ≡ reading-of.Refused 4
-  pub five : reading (portfolio_of 1 5) ≡ reading-of.Accepted 0 5
-  pub six : reading (portfolio_of 1 6) ≡ reading-of.Refused 6
-  pub six_of_notice : reading (portfolio_of 2 6) ≡ reading-of.Accepted 0 6
-  pub ten_of_notice : reading (portfolio_of 2 10) ≡ reading-of.Accepted 0 10
-  pub eleven_of_notice : reading (portfolio_of 2 11) ≡ reading-of.Refused 6
-  pub eleven_with_links : reading (portfolio_of 3 11) ≡ reading-of.Refused 6
+  pub second : reading (head_of 2) ≡ Ok (counts 0 0)
+  pub third : reading (head_of 3) ≡ Ok (counts 0 0)
+  pub fourth : reading (head_of 4) ≡ Ok (counts 0 0)
+  pub fifth : reading (head_of 5) ≡ Err refused-for.WrongHead
+  pub zeroth : reading (head_of 0) ≡ Err refused-for.WrongHead
+  pub most : reading (block_of 1 50) ≡ Ok (counts 0 1)
+  pub too_much : reading (block_of 1 51) ≡ Err refused-for.WrongField
+  pub most_of_notice : reading (block_of 2 250) ≡ Ok (counts 0 1)
+  pub too_much_of_notice : reading (block_of 2 251) ≡ Err refused-for.WrongField
+  pub five : reading (portfolio_of 1 5) ≡ Ok (counts 0 5)
+  pub six : reading (portfolio_of 1 6) ≡ Err refused-for.TooManyBlocks
+  pub six_of_notice : reading (portfolio_of 2 6) ≡ Ok (counts 0 6)
+  pub ten_of_notice : reading (portfolio_of 2 10) ≡ Ok (counts 0 10)
+  pub eleven_of_notice : reading (portfolio_of 2 11) ≡ Err refused-for.TooManyBlocks
+  pub eleven_with_links : reading (portfolio_of 3 11) ≡ Err refused-for.TooManyBlocks
   -- edition 4 has all of edition 3
-  pub most_of_fourth : reading (block_of 4 250) ≡ reading-of.Accepted 0 1
-  pub too_much_of_fourth : reading (block_of 4 251) ≡ reading-of.Refused 4
-  pub ten_of_fourth : reading (portfolio_of 4 10) ≡ reading-of.Accepted 0 10
-  pub eleven_of_fourth : reading (portfolio_of 4 11) ≡ reading-of.Refused 6
+  pub most_of_fourth : reading (block_of 4 250) ≡ Ok (counts 0 1)
+  pub too_much_of_fourth : reading (block_of 4 251) ≡ Err refused-for.WrongField
+  pub ten_of_fourth : reading (portfolio_of 4 10) ≡ Ok (counts 0 10)
+  pub eleven_of_fourth : reading (portfolio_of 4 11) ≡ Err refused-for.TooManyBlocks
 
 pub at-the-limits : Editions
 unfolding
@@ -170,7 +177,7 @@ unfolding
     chain_from chains is_on step_order block_order link_order links wrong_size links_too_early wrong_head misplaced broken broken_on broken_chain step_fits block_fits
     step_in_range block_in_range
     record_in_range out_of_range wrong_field_on wrong_field stray stray_record owned_by too_many_of too_many_blocks wrong_hours wrong_link
-    is_for steps_for more_steps_in more_steps too_many_steps first_cause own_causes refusal reading
+    is_for steps_for more_steps_in more_steps too_many_steps first_cause own_causes refusal refusal_numbered answered reading
 at-the-limits =
     record {
       second = refl;
@@ -213,28 +220,28 @@ pub linked : (child parent : ℕ) → List ℕ
 linked child parent = family_of 24 3 3 3 (link_bytes 0 0 child parent 0)
 
 pub record Links : Type 0 where
-  pub good : reading (linked 4 2) ≡ reading-of.Accepted 0 2
-  pub good_in_fourth : reading (family_of 24 4 3 3 (link_bytes 0 0 4 2 0)) ≡ reading-of.Accepted 0 2
+  pub good : reading (linked 4 2) ≡ Ok (counts 0 2)
+  pub good_in_fourth : reading (family_of 24 4 3 3 (link_bytes 0 0 4 2 0)) ≡ Ok (counts 0 2)
   -- 10: the parent is 0, the parent or the child is not in the book, the parent is the child, or has the higher number
-  pub no_parent : reading (linked 4 0) ≡ reading-of.Refused 10
-  pub parent_missing : reading (linked 4 3) ≡ reading-of.Refused 10
-  pub child_missing : reading (linked 3 2) ≡ reading-of.Refused 10
-  pub own_parent : reading (linked 4 4) ≡ reading-of.Refused 10
-  pub parent_above : reading (linked 2 4) ≡ reading-of.Refused 10
-  pub no_parent_in_fourth : reading (family_of 24 4 3 3 (link_bytes 0 0 4 0 0)) ≡ reading-of.Refused 10
+  pub no_parent : reading (linked 4 0) ≡ Err refused-for.WrongLink
+  pub parent_missing : reading (linked 4 3) ≡ Err refused-for.WrongLink
+  pub child_missing : reading (linked 3 2) ≡ Err refused-for.WrongLink
+  pub own_parent : reading (linked 4 4) ≡ Err refused-for.WrongLink
+  pub parent_above : reading (linked 2 4) ≡ Err refused-for.WrongLink
+  pub no_parent_in_fourth : reading (family_of 24 4 3 3 (link_bytes 0 0 4 0 0)) ≡ Err refused-for.WrongLink
   -- 9 and 10 together: blocks over hours 2 and 3 on 23 hours
-  pub nine_first : reading (family_of 23 3 6 3 (link_bytes 0 0 4 0 0)) ≡ reading-of.Refused 9
+  pub nine_first : reading (family_of 23 3 6 3 (link_bytes 0 0 4 0 0)) ≡ Err refused-for.WrongHours
   -- 2: editions without links
-  pub second : reading (family_of 24 2 3 3 (link_bytes 0 0 4 2 0)) ≡ reading-of.Refused 2
+  pub second : reading (family_of 24 2 3 3 (link_bytes 0 0 4 2 0)) ≡ Err refused-for.WrongHead
   -- 3: a child of 0, a link that is its own next, a link chain that begins at a block
-  pub child_zero : reading (linked 0 2) ≡ reading-of.Refused 3
-  pub loop : reading (family_of 24 3 3 3 (link_bytes 0 3 4 2 0)) ≡ reading-of.Refused 3
-  pub on_blocks : reading (family_of 24 3 3 2 (link_bytes 0 0 4 2 0)) ≡ reading-of.Refused 3
+  pub child_zero : reading (linked 0 2) ≡ Err refused-for.BrokenChain
+  pub loop : reading (family_of 24 3 3 3 (link_bytes 0 3 4 2 0)) ≡ Err refused-for.BrokenChain
+  pub on_blocks : reading (family_of 24 3 3 2 (link_bytes 0 0 4 2 0)) ≡ Err refused-for.BrokenChain
   -- 4: byte 1 or byte 15 not 0
-  pub side_set : reading (family_of 24 3 3 3 (link_bytes 1 0 4 2 0)) ≡ reading-of.Refused 4
-  pub last_set : reading (family_of 24 3 3 3 (link_bytes 0 0 4 2 1)) ≡ reading-of.Refused 4
+  pub side_set : reading (family_of 24 3 3 3 (link_bytes 1 0 4 2 0)) ≡ Err refused-for.WrongField
+  pub last_set : reading (family_of 24 3 3 3 (link_bytes 0 0 4 2 1)) ≡ Err refused-for.WrongField
   -- 5: a link on no chain
-  pub off_chain : reading (family_of 24 3 3 0 (link_bytes 0 0 4 2 0)) ≡ reading-of.Refused 5
+  pub off_chain : reading (family_of 24 3 3 0 (link_bytes 0 0 4 2 0)) ≡ Err refused-for.StrayRecord
 
 pub links-decided : Links
 unfolding
@@ -242,7 +249,7 @@ unfolding
     chain_from chains is_on step_order block_order link_order links wrong_size links_too_early wrong_head misplaced broken broken_on broken_chain step_fits block_fits
     step_in_range block_in_range link_in_range record_in_range out_of_range wrong_field_on wrong_field stray stray_record owned_by too_many_of too_many_blocks weight is_counted
     sum_to day_sum counted_hours uncounted uncounted_on wrong_hours is_number has_block misnamed wrong_link
-    is_for steps_for more_steps_in more_steps too_many_steps first_cause own_causes refusal reading
+    is_for steps_for more_steps_in more_steps too_many_steps first_cause own_causes refusal refusal_numbered answered reading
 links-decided =
     record {
       good = refl;

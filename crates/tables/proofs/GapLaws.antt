@@ -1,53 +1,21 @@
 -- The gap table of an hour: filled upwards and downwards from the place of the least gap, and what it says of the hour. Assumes nothing.
 use Prim.Native.Nat.{ℕ, zero, suc, ◌+◌, ◌-◌, ◌*◌, ◌≤◌, ◌<◌}
-use mathlib.Core.Path.{◌≡◌, refl, sym, ◌∙◌}
+use mathlib.Core.Path.{◌≡◌, sym, ◌∙◌}
 use mathlib.Core.List.{List}
 use native.Mathlib.Omega.{arith}
 use native.Mathlib.Decide.{dec_le}
 use native.Mathlib.Nat.{lt_of_not-le, add-zero}
 use native.Mathlib.Numerals.{add-one}
-use lib.ListN.{length, get_or, set, length-set}
-use lib.Seq.{get_or-set_same, get_or-set_other}
+use lib.ListN.{length, get_or}
 use Rattle.rules.specs.Orders.{Step, max_price}
 use Rattle.rules.specs.Contender.{PricesInRange}
 use Rattle.rules.proofs.PricingLaws.{Clearable, net}
 use Rattle.rules.proofs.NeighbourLaws.{slack, slack-next}
-use Rattle.tables.specs.Tables.{
-  UnitPrices,
-  NotRising,
-  Gaps,
-  AtOrBelow,
-  Above,
-  BestPlace,
-  GapsFor,
-  GapsUp,
-  GapsDown,
-  GapTable,
-}
+use Rattle.tables.specs.Tables.{UnitPrices, NotRising, Gaps, AtOrBelow, BestPlace, GapsFor, GapsUp, GapsDown, GapTable}
 use Rattle.tables.proofs.LevelLaws.{low-at}
 
 -- THE BEST PLACE
-pub above-none : (table : List ℕ) (price first : ℕ) → Above table price first first
-above-none table price first i a b = absurd (omega arith)
-
-pub above_more : (table : List ℕ) (price first m : ℕ) → Above table price first m → price < get_or table (m + 1) 0 → Above table price first (m + 1)
-above_more table price first m f here i a b = elim (dec_le m i) [
-  | yes k ↦ let e : i ≡ m = omega arith in rw e here
-  | no k ↦ f i a (lt_of_not-le k)
-]
-
-pub above_at : (table : List ℕ) (price first m i : ℕ) → Above table price first m → first < i → i ≤ m → price < get_or table i 0
-above_at table price first m i f a b =
-    let e : i - 1 + 1 ≡ i = omega arith in
-    rw e at (f (i - 1) (omega arith) (omega arith))
-
 module _ (table : List ℕ) (price first last : ℕ) where
-  pub best-found : (m : ℕ) → first ≤ m → m < last → Above table price first m → get_or table (m + 1) 0 ≤ price → BestPlace table price first last m
-  best-found m a b f t = record { from = a; to = omega arith; above = f; turns = λ _. t }
-
-  pub best-last : (m : ℕ) → first ≤ m → m ≤ last → last ≤ m → Above table price first m → BestPlace table price first last m
-  best-last m a b e f = record { from = a; to = b; above = f; turns = λ k. absurd (omega arith) }
-
   -- from the best place on the table is at or below the price, since it does not rise
   pub best-on : (m : ℕ) → NotRising table → last < length table → BestPlace table price first last m → AtOrBelow table price m last
   best-on m falls inside b i a k =
@@ -71,40 +39,6 @@ module _ (table : List ℕ) (price : ℕ) where
     pub fits : gap ≤ (i - m) * max_price
     pub gaps : Gaps table price m i out
 
-  pub rising-start : (m : ℕ) (out : List ℕ) → m < length out → Rising m m 0 (set out m 0) (set out m 0)
-  rising-start m out k = record {
-    from = omega arith;
-    same_length = refl;
-    zero_at = get_or-set_same out m 0 0 k;
-    last = get_or-set_same out m 0 0 k;
-    fits = omega arith;
-    gaps = λ i a b. absurd (omega arith);
-  }
-
-  pub rising-next : (m i gap : ℕ) (before out : List ℕ) → Rising m i gap before out → i + 1 < length out → get_or table (i + 1) 0 ≤ price →
-      price ≤ max_price → Rising m (i + 1) (gap + (price - get_or table (i + 1) 0)) before (set out (i + 1) (gap + (price - get_or table (i + 1) 0)))
-  rising-next m i gap before out r k low top =
-      let g = gap + (price - get_or table (i + 1) 0) in
-      let new = get_or-set_same out (i + 1) g 0 k in
-      let here : get_or (set out (i + 1) g) i 0 ≡ gap = get_or-set_other out (i + 1) i g 0 (λ e. omega arith) ∙ r.last in
-      record {
-        from = omega (arith, r.from);
-        same_length = rw length-set r.same_length;
-        zero_at = get_or-set_other out (i + 1) m g 0 (λ e. omega (arith, r.from)) ∙ r.zero_at;
-        last = new;
-        fits = omega (arith, r.fits, r.from);
-        gaps = λ j a b. elim (dec_le i j) [
-          | yes z ↦ let e : j ≡ i = omega arith in rw e (omega (arith, new, here))
-          | no z ↦
-              let lt : j < i = lt_of_not-le z in
-              rw (get_or-set_other out (i + 1) j g 0 (λ e. omega arith), get_or-set_other out (i + 1) (j + 1) g 0 (λ e. omega arith)) (r.gaps j a lt)
-        ];
-      }
-
-  pub rising-all : (m last i gap : ℕ) (before out : List ℕ) → Rising m i gap (set before m 0) out → last ≤ i → GapsUp table price m last before out
-  rising-all m last i gap before out r k =
-      record { same_length = r.same_length ∙ simp length-set; zero_at = r.zero_at; gaps = λ j a b. r.gaps j a (omega arith) }
-
   -- downwards from m to i
   pub record Falling (m i gap : ℕ) (before out : List ℕ) : Type 0 where
     pub to : i ≤ m
@@ -113,42 +47,6 @@ module _ (table : List ℕ) (price : ℕ) where
     pub last : get_or out i 0 ≡ gap
     pub fits : gap ≤ (m - i) * max_price
     pub gaps : Gaps table price i m out
-
-  pub falling-start : (m : ℕ) (out : List ℕ) → get_or out m 0 ≡ 0 → Falling m m 0 out out
-  falling-start m out e = record {
-    to = omega arith;
-    same_length = refl;
-    keeps = λ j k. refl;
-    last = e;
-    fits = omega arith;
-    gaps = λ i a b. absurd (omega arith);
-  }
-
-  pub falling-next : (m i gap : ℕ) (before out : List ℕ) → Falling m i gap before out → 0 < i → m < length out → price < get_or table i 0 →
-      get_or table i 0 ≤ max_price → Falling m (i - 1) (gap + (get_or table i 0 - price)) before (set out (i - 1) (gap + (get_or table i 0 - price)))
-  falling-next m i gap before out f pos k high top =
-      let g = gap + (get_or table i 0 - price) in
-      let new = get_or-set_same out (i - 1) g 0 (omega (arith, f.to)) in
-      let back : i - 1 + 1 ≡ i = omega arith in
-      let here : get_or (set out (i - 1) g) i 0 ≡ gap = get_or-set_other out (i - 1) i g 0 (λ e. omega arith) ∙ f.last in
-      record {
-        to = omega (arith, f.to);
-        same_length = rw length-set f.same_length;
-        keeps = λ j a. get_or-set_other out (i - 1) j g 0 (λ e. omega (arith, f.to)) ∙ f.keeps j a;
-        last = new;
-        fits = omega (arith, f.fits, f.to);
-        gaps = λ j a b. elim (dec_le i j) [
-          | yes z ↦
-              rw (get_or-set_other out (i - 1) j g 0 (λ e. omega arith), get_or-set_other out (i - 1) (j + 1) g 0 (λ e. omega arith)) (f.gaps j z b)
-          | no z ↦
-              let e : j ≡ i - 1 = omega (arith, lt_of_not-le z) in
-              rw (e, back) (omega (arith, new, here))
-        ];
-      }
-
-  pub falling-all : (first m i gap : ℕ) (before out : List ℕ) → Falling m i gap before out → i ≤ first → GapsDown table price first m before out
-  falling-all first m i gap before out f k =
-      record { same_length = f.same_length; keeps = f.keeps; gaps = λ j a b. f.gaps j (omega arith) b }
 
   -- both halves have room where the whole has
   module _ (first last m : ℕ) (out : List ℕ) (g : GapsFor table price first last out) (b : BestPlace table price first last m) where

@@ -1,13 +1,16 @@
 -- The price table of an hour, level by level: a price, and what the steps down to it trade. Assumes nothing.
-use Prim.Native.Nat.{ℕ, zero, suc, ◌+◌, ◌*◌, ◌^◌, ◌≤◌, ◌<◌}
+use Prim.Native.Nat.{ℕ, zero, suc, ◌+◌, ◌-◌, ◌*◌, ◌^◌, ◌≤◌, ◌<◌}
 use mathlib.Core.Path.{◌≡◌, refl, sym, ◌∙◌}
 use mathlib.Core.List.{List}
 use native.Mathlib.Omega.{arith}
 use native.Mathlib.Decide.{dec_le}
 use native.Mathlib.Nat.{lt_of_not-le}
 use lib.Dec.{ltb}
-use lib.ListN.{length, get_or, set, length-set}
-use lib.Seq.{get_or-set_same, get_or-set_other}
+use lib.ListN.{length, get_or, replicate}
+use borrow.Author.Rules.{rules}
+use borrow.Rule.Slice.PartMut.{put_mid}
+use Rattle.std.proofs.lemmas.Grind.{common_steps}
+use Rattle.std.proofs.lemmas.List.{places}
 use borrow.Author.Tests.{lt-ltb, le-ltb}
 use Rattle.rules.specs.Orders.{Step, max_price}
 use Rattle.rules.specs.Hour.{Hour}
@@ -15,7 +18,7 @@ use Rattle.rules.specs.Contender.{PricesInRange}
 use Rattle.rules.proofs.PricingLaws.{DemandMet, Clearable, net}
 use Rattle.rules.proofs.TableLaws.{low_of, unit_price, unit-first, unit-is, unit-falls, unit-net, unit-low}
 use Rattle.orders.specs.Columns.{steps_from}
-use Rattle.tables.specs.Tables.{UnitPrices, PriceTable, key_price, key_quantity, key_above, above_in, amount_in, KeysOf, NextLevel, RunFilled, NotRising, PricesFit}
+use Rattle.tables.specs.Tables.{UnitPrices, key_price, key_quantity, key_above, above_in, amount_in, KeysOf, NextLevel, RunFilled, NotRising, PricesFit}
 use Rattle.rules.proofs.CurveLaws.{when-le}
 use native.Mathlib.Numerals.{add-one}
 
@@ -99,10 +102,6 @@ module _ (sides prices quantities keys : List ℕ) (off : ℕ) where
     covers = λ q a b. omega arith;
     done = λ h j k. absurd (omega arith);
   }
-
-  pub filled-all : (table : List ℕ) (price traded taken i : ℕ) → Filled table price traded taken i → length table ≤ i →
-      PriceTable sides prices quantities off table
-  filled-all table price traded taken i f k h j m = f.done h j (omega arith)
 
   -- what is traded so far fits
   pub traded-fits : (table : List ℕ) (price traded taken i : ℕ) → Filled table price traded taken i → count ≤ 2048 → traded ≤ 2 ^ 62
@@ -206,32 +205,13 @@ module _ (sides prices quantities keys : List ℕ) (off : ℕ) where
     ]
 
 -- ONE PRICE over a run of places
-module _ (before : List ℕ) (from price : ℕ) where
-  pub record RunTo (i : ℕ) (after : List ℕ) : Type 0 where
-    pub begun : from ≤ i
-    pub run : RunFilled before from i price after
-
-  pub run-start : RunTo from before
-  run-start = record {
-    begun = omega arith;
-    run = record { same_length = refl; keeps = λ j k. refl; fills = λ j a b. absurd (omega arith) };
-  }
-
-  pub run-next : (i : ℕ) (after : List ℕ) → RunTo i after → i < length before → RunTo (i + 1) (set after i price)
-  run-next i after t k = record {
-    begun = omega (arith, t.begun);
-    run = record {
-      same_length = rw length-set t.run.same_length;
-      keeps = λ j less. get_or-set_other after i j price 0 (λ e. omega (arith, t.begun)) ∙ t.run.keeps j less;
-      fills = λ j a b. elim (dec_le i j) [
-        | yes z ↦ let e : j ≡ i = omega arith in rw e (get_or-set_same after i price 0 (omega (arith, t.run.same_length)))
-        | no z ↦ get_or-set_other after i j price 0 (λ e. omega (arith, lt_of_not-le z)) ∙ t.run.fills j a (lt_of_not-le z)
-      ];
-    };
-  }
-
-  pub run-all : (i to : ℕ) (after : List ℕ) → RunTo i after → i ≤ to → to ≤ i → RunFilled before from to price after
-  run-all i to after t a b = let e : to ≡ i = omega arith in rw e t.run
+pub run-filled : (before part : List ℕ) (from to price : ℕ) → from ≤ to → to ≤ length before → part ≡ replicate (to - from) price →
+    RunFilled before from to price (put_mid from (to - from) before part)
+run-filled before part from to price le room e = record {
+  same_length = rw e (grind (arith, common_steps));
+  keeps = λ j k. search (rules, places);
+  fills = λ j a b. rw e (search (rules, places));
+}
 
 -- WHAT A TABLE OF UNIT PRICES SAYS: it does not rise, and has prices of 1 to 300000; place i has H of N = i − off, the next place L
 module _ (l : List Step) (off : ℕ) (table : List ℕ) (t : UnitPrices l off table) where

@@ -6,6 +6,7 @@ use native.Mathlib.Omega.{arith}
 use native.Mathlib.Nat.{add-zero, add_assoc}
 use lib.ListN.{length, take, drop, length-append, length-drop, take-append-drop}
 use lib.Seq.{length-take-le, take_at, drop-drop, drop-append-add, drop-length}
+use borrow.Rule.Slice.PartMut.{put_mid}
 use Rattle.text.specs.Buffer.{splice}
 
 -- BYTES IN A BUFFER
@@ -36,6 +37,11 @@ module _ (l : List ℕ) (at : ℕ) (a : List ℕ) where
 pub splice-none : (l : List ℕ) (at : ℕ) → l ≡ splice l at []
 unfolding splice
 splice-none l at = rw (add-zero, take-append-drop)
+
+-- a part that is written over
+pub splice-part : (at n : ℕ) (l a b : List ℕ) → n ≡ length b → a ≡ b → put_mid at n l a ≡ splice l at b
+unfolding splice
+splice-part at n l a b e f = rw (f, e) (ap (λ (t : List ℕ). take at l ++ (b ++ t)) (drop-drop (length b) at l))
 
 -- a write of the whole buffer
 pub splice_all : (l b : List ℕ) → length b ≡ length l → splice l 0 b ≡ b

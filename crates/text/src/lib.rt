@@ -5,16 +5,14 @@ ghost use Rattle.std.specs.Prelude.{◌++◌};
 ghost use Rattle.text.specs.Text.{decimal, field, line_feed, HasRoom, Put};
 
 // The bytes of `words`.
+#[tactic(auto, unfolding(crate::specs::Text::HasRoom))]
 pub fn put_text(out: &mut [u8], at: usize, words: &[u8]) -> usize
     requires { HasRoom out.old at words.now }
     ensures { Put out.old at words.now out.new result }
 {
-    let mut i: usize = 0;
-    while i < words.len() {
-        out[at + i] = words[i];
-        i += 1;
-    }
-    at + i
+    let behind = at + words.len();
+    out[at..behind].copy_from_slice(words);
+    behind
 }
 
 // The decimal digits of n.
@@ -23,11 +21,11 @@ fn put_decimal(out: &mut [u8], at: usize, n: u64) -> usize
     ensures { Put out.old at (decimal n) out.new result }
 {
     if n < 10 {
-        out[at] = (48 + n % 10) as u8;
+        out[at] = b'0' + (n % 10) as u8;
         return at + 1;
     }
     let last = put_decimal(out, at, n / 10);
-    out[last] = (48 + n % 10) as u8;
+    out[last] = b'0' + (n % 10) as u8;
     last + 1
 }
 

@@ -1,10 +1,10 @@
 //! From the proved source to the by-value twin. A Rattle source file is Rust but
 //! for its contracts; so the twin is its text with
 //!
-//! - the contracts, the `ghost use` lines and the words to the prover left out,
+//! - the contracts, all that is ghost and the words to the prover left out,
 //! - the crates as modules of this package,
-//! - `Clone` and `Copy` for each type in place of its derives, of which plain Rust
-//!   has no `Drop`, and needs no more,
+//! - `Clone` and `Copy` derived for each type, and what else it derives but `Drop`,
+//!   which plain Rust has not,
 //! - the counters of [`count`](super::count) in `explore`.
 //!
 //! The program `twin_source` writes the files and compares them with the source.
@@ -71,22 +71,26 @@ pub fn plain(name: &str, source: &str) -> String {
     lines.collect()
 }
 
-/// What stands before an item and is not run: words to the prover, and derives.
-const ASIDE: [&str; 4] = ["ghost use ", "#![tactic(", "#[tactic(", "#[derive("];
+/// What stands before an item and is not run: words to the prover.
+const ASIDE: [&str; 3] = ["ghost use ", "#![tactic(", "#[tactic("];
 
-/// The lines that are run, and no two empty ones in a row. A contract begins on a line of its
-/// own and ends with the brace that closes it.
+/// What is said and not run: contracts, ghost fields and ghost members. Each begins on a line of
+/// its own and ends with the brace that closes it.
+const SAID: [&str; 3] = ["requires ", "ensures ", "ghost "];
+
+/// The lines that are run, and no two empty ones in a row.
 fn without_contracts(source: &str) -> Vec<&str> {
     let mut code = Vec::new();
     let mut open = 0;
     for line in source.lines() {
         let words = line.trim_start();
-        if open > 0 || words.starts_with("requires ") || words.starts_with("ensures ") {
+        let begins = |with: &[&str]| with.iter().any(|one| words.starts_with(one));
+        let is_aside = open == 0 && begins(&ASIDE);
+        if open > 0 || (begins(&SAID) && !is_aside) {
             open += line.matches('{').count();
             open -= line.matches('}').count();
             continue;
         }
-        let is_aside = ASIDE.iter().any(|aside| words.starts_with(aside));
         let is_gap = words.is_empty() && code.last().is_some_and(|last: &&str| last.is_empty());
         if !is_aside && !is_gap {
             code.push(line);
@@ -116,14 +120,15 @@ fn with_counters(code: Vec<&str>) -> Vec<&str> {
 /// One line, with the crates' paths as modules and the types as values.
 fn plain_line(name: &str, line: &str) -> String {
     let home = "use crate::twin::by_value::";
-    let type_words = ["pub struct ", "struct ", "pub enum ", "enum "];
-    if type_words.iter().any(|words| line.starts_with(words)) {
-        return format!("#[derive(Clone, Copy)]\n{line}\n");
+    if let Some(derived) = line.strip_prefix("#[derive(").and_then(|rest| rest.strip_suffix(")]")) {
+        let others = derived.split(", ").filter(|one| !["Clone", "Copy", "Drop"].contains(one));
+        let all: Vec<&str> = ["Clone", "Copy"].into_iter().chain(others).collect();
+        return format!("#[derive({})]\n", all.join(", "));
     }
     if let Some(path) = line.strip_prefix("use crate::") {
         return format!("{home}{name}::{path}\n");
     }
-    if let Some(path) = line.strip_prefix("use ") {
+    if let Some(path) = line.strip_prefix("use ").filter(|path| !path.starts_with("std::")) {
         return format!("{home}{path}\n");
     }
     format!("{line}\n")

@@ -8,7 +8,7 @@ use auction_listing::books::{
     small_orders, thirty_two_blocks, Dice, Met, Orders, StepOrder, DAYS,
 };
 use auction_listing::paper::{self, Book, Side};
-use auction_listing::twin::by_value::{clearing, result::Clearing};
+use auction_listing::twin::by_value::clearing;
 use std::fs::File;
 use std::io::Write;
 use std::os::fd::OwnedFd;
@@ -175,7 +175,7 @@ impl Program {
             let book = std::fs::read(&file).expect("a book");
             let accepted = paper::read(&book).expect("accepted");
             let mut result = vec![0; paper::result_length(accepted.record_count)];
-            assert!(matches!(clearing::clear(&book, &mut result), Clearing::Published));
+            assert!(clearing::clear(&book, &mut result).is_ok());
             let name = file.display().to_string();
             assert_same(self.printed(&book), &(self.of_result)(&accepted, &result), &name);
         }

@@ -4,5 +4,5 @@ use Rattle.passes.proofs.find.Goals as goal
 
 pub returns : goal.returns
 returns c =
-    found_back c.find_there-best.result c.requires.0.few c.order_of-order.ensures c.reordered-other.ensures.1
+    found_back c.find_there-best.result c.requires.0.few c.order_of-order.ensures c.reordered-blocks.ensures.1
     (λ fits. c.by_number.ensures) c.find_there-best.ensures

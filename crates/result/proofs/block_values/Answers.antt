@@ -1,25 +1,18 @@
 -- `block_values` meets its contract: the rows of the blocks before i. Assumes nothing.
-use mathlib.Core.Path.{◌≡◌}
 use native.Mathlib.Omega.{arith}
 use Rattle.result.proofs.RowLaws.{Valued, valued-start, valued-taken, valued-passed}
-use borrow.Author.Rules.{rules}
 use Rattle.result.proofs.block_values.Goals.{then-set-i-eq1, else-set-i-eq1}
 use Rattle.result.proofs.block_values.Goals as goal
 
 pub loop-i-init : goal.loop-i-init
-loop-i-init c = (search rules, valued-start _ _)
+loop-i-init c = valued-start _ _
 
 pub loop-i-preserved : goal.loop-i-preserved
 loop-i-preserved c =
-    let loop = c.loop-i in (
-      search rules,
-      elim c.if-set-i-eq1.branch [
-        | then-set-i-eq1 w ↦ rw w.values-is (valued-taken _ _ _ _ loop.invariant.1 (search rules) w.if-set-i-eq1.true)
-        | else-set-i-eq1 w ↦ rw w.values-is (valued-passed _ _ _ _ loop.invariant.1 w.if-set-i-eq1.false)
-      ],
-    )
+    elim c.if-set-i-eq1.branch [
+      | then-set-i-eq1 w ↦ rw w.values-is (valued-taken _ _ _ _ c.loop-i.invariant (omega arith) w.if-set-i-eq1.true)
+      | else-set-i-eq1 w ↦ rw w.values-is (valued-passed _ _ _ _ c.loop-i.invariant w.if-set-i-eq1.false)
+    ]
 
 pub returns : goal.returns
-returns c =
-    let all : c.loop-i.i ≡ c.args.count = omega arith in
-    λ i h. c.loop-i.invariant.1.done i (omega arith)
+returns c = λ i h. c.loop-i.invariant.done i (omega arith)

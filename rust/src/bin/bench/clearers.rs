@@ -1,6 +1,6 @@
 //! The three programs that are timed.
 
-use auction_listing::twin::by_value::{clearing, result::Clearing};
+use auction_listing::twin::by_value::clearing;
 use auction_listing::twin::in_place::{self, Workspace};
 
 #[derive(Clone, Copy, Debug, PartialEq, Eq)]
@@ -44,8 +44,8 @@ impl Clearer {
             Kind::Proved => auction::clear_into(book, result).err().map_or(0, |it| it.number()),
             Kind::InPlace => in_place::clear(book, result, &mut self.space),
             Kind::ByValue => match clearing::clear(book, result) {
-                Clearing::Published => 0,
-                Clearing::Refused(number) => u32::from(number),
+                Ok(()) => 0,
+                Err(refusal) => u32::from(u8::from(refusal)),
             },
         };
         assert_eq!(refusal, 0, "{}: refused", self.kind.name());

@@ -19,3 +19,10 @@ pub struct Order {
     pub blocks: [usize; MOST_BLOCKS],
     pub places: [usize; MOST_BLOCKS],
 }
+
+// The columns and rows of the blocks, as the search reads them, and how many blocks there are.
+#[derive(Clone, Copy)]
+struct Listed<'a> {
+    blocks: &'a [u32],
+    count: usize,
+}

@@ -4,6 +4,8 @@
 
 use crate::twin::by_value::passes::stages::find_there;
 use crate::twin::by_value::order::{by_number, order_of, reordered};
+use crate::twin::by_value::orders::Steps;
+use crate::twin::by_value::places::tables::Tables;
 use crate::twin::by_value::search::Best;
 
 mod heavy; // passes with a table of rivals
@@ -12,41 +14,17 @@ mod limits; // the limits of the passes
 mod pass; // one pass
 mod stages; // light passes, then heavy ones
 
-// What the light passes give: the set that they found, or none, which has no fuel; and the limit that was reached.
-#[derive(Clone, Copy)]
-pub struct Reached {
-    pub best: Best,
-    pub limit: u64,
-}
-
 // The published set, by number: found with the blocks in the order in which they are decided.
-pub fn find(
-    unit_prices: &[u32],
-    gap: &[u32],
-    hours: &[u32],
-    blocks: &[u32],
-    sides: &[u8],
-    prices: &[u32],
-    quantities: &[u32],
-    ends: &[u16],
-    count: u32,
-) -> Best
+pub fn find(tables: &Tables, steps: &Steps) -> Best
 {
-    let order = order_of(blocks, count as usize);
-    let numbers = order.blocks;
-    let places = order.places;
-    let other = reordered(blocks, numbers, places, count as usize);
-    let mut best = find_there(
-        unit_prices,
-        gap,
-        hours,
-        &other,
-        sides,
-        prices,
-        quantities,
-        ends,
-        count,
-    );
-    best.set = by_number(best.set, places, count as usize);
+    let count = tables.count as usize;
+    let order = order_of(tables.blocks, count);
+    let blocks = reordered(tables.blocks, &order, count);
+    let ordered = Tables {
+        blocks: &blocks,
+        ..*tables
+    };
+    let mut best = find_there(&ordered, steps);
+    best.set = by_number(best.set, &order, count);
     best
 }

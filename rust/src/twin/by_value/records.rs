@@ -1,5 +1,5 @@
 // Written by `twin_source` from crates/records/src/lib.rt.
-// The records of a book, layer 1 of document 01: the head's fields and those of record k at their bytes, and a record as a step, a block or a link.
+// The records of a book: the head's fields and those of record k at their bytes, and a record as a step, a block or a link.
 // Nothing is judged here: every call takes any bytes, ends, and has no `requires`. A missing byte reads as 0, and a
 // record that the book ends within is none of the three. Assumes nothing.
 
@@ -22,6 +22,14 @@ pub use records::{
 pub enum Side {
     Buy,
     Sell,
+}
+
+// The side that a byte names: 0 buy, 1 sell; another byte is refused before it is asked.
+impl From<u8> for Side {
+
+    fn from(byte: u8) -> Side {
+        if byte == 0 { Side::Buy } else { Side::Sell }
+    }
 }
 
 // An hourly step. Price in cents per MWh, quantity in tenths of a MW.
@@ -53,7 +61,7 @@ pub struct Link {
     pub parent: u16,
 }
 
-// A record as its kind says.
+// A record as its kind says. `Other` stays a case of it, no Option around it: the causes of a refusal in specs/ are told by these four cases.
 #[derive(Clone, Copy)]
 pub enum Record {
     Step(Step),

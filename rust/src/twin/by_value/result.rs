@@ -1,56 +1,36 @@
 // Written by `twin_source` from crates/result/src/lib.rt.
-// The result of a clearing: the answer, and the result's bytes: 8 bytes welfare, the price and the traded quantity of each hour, the row of each record.
+// The result of a clearing: the result's bytes: 8 bytes welfare, the price and the traded quantity of each hour, the row of each record.
 // Numbers stand high byte first. What a clearing promises of them is in specs/Promise. Assumes nothing.
 
 mod layout; // where a result's bytes have what
 mod numbers; // the numbers of a result read again
 
-use crate::twin::by_value::result::layout::{HALF, HOUR_ROW, TRADED, WELFARE_SIZE};
-pub use layout::{RECORD_ROW, RECORD_ROWS};
+use crate::twin::by_value::result::layout::{HOUR_ROW, TRADED, WELFARE_SIZE};
+pub use layout::{MOST_RESULT, RECORD_ROW, RECORD_ROWS};
 pub use numbers::{price_in, row_in, traded_in, welfare_in};
 use crate::twin::by_value::orders::layout::{BLOCK_PLACES, HOURS, STEP_PLACES};
 
-// What a clearing answers: the outcome is published, or refused with its number.
-#[derive(Clone, Copy)]
-pub enum Clearing {
-    Published,
-    Refused(u8),
-}
-
-// Four bytes from `at` on.
-fn put32(res: &mut [u8], at: usize, value: u32)
+// `bytes` from `at` on.
+fn put(res: &mut [u8], at: usize, bytes: &[u8])
 {
-    res[at] = (value / 16777216 % 256) as u8;
-    res[at + 1] = (value / 65536 % 256) as u8;
-    res[at + 2] = (value / 256 % 256) as u8;
-    res[at + 3] = (value % 256) as u8;
-}
-
-// Eight bytes from `at` on.
-fn put64(res: &mut [u8], at: usize, value: u64)
-{
-    put32(res, at, (value / 4294967296) as u32);
-    put32(res, at + HALF, (value % 4294967296) as u32);
+    res[at..at + bytes.len()].copy_from_slice(bytes);
 }
 
 // The rows of the hours: hour h + 1 from byte 8 + 8 * h on.
 fn put_hours(res: &mut [u8], prices: [u32; HOURS], quantities: [u32; HOURS])
 {
-    let mut h: usize = 0;
-    while h < HOURS {
-        put32(res, WELFARE_SIZE + HOUR_ROW * h, prices[h]);
-        put32(res, WELFARE_SIZE + HOUR_ROW * h + TRADED, quantities[h]);
-        h += 1;
+    for h in 0..HOURS {
+        let row = WELFARE_SIZE + HOUR_ROW * h;
+        put(res, row, &prices[h].to_be_bytes());
+        put(res, row + TRADED, &quantities[h].to_be_bytes());
     }
 }
 
 // The rows of the records 1 to count - 1: record k from byte 196 + 4 * k on.
 fn put_records(res: &mut [u8], count: usize, rows: &[u32; STEP_PLACES])
 {
-    let mut k: usize = 1;
-    while k < count {
-        put32(res, RECORD_ROWS + RECORD_ROW * k, rows[k]);
-        k += 1;
+    for k in 1..count {
+        put(res, RECORD_ROWS + RECORD_ROW * k, &rows[k].to_be_bytes());
     }
 }
 
@@ -64,7 +44,7 @@ pub fn write_result(
     rows: &[u32; STEP_PLACES],
 )
 {
-    put64(res, 0, welfare);
+    put(res, 0, &welfare.to_be_bytes());
     put_hours(res, prices, quantities);
     put_records(res, count, rows);
 }
@@ -73,10 +53,8 @@ pub fn write_result(
 pub fn with_rows(rows: [u32; STEP_PLACES], records: &[u16], values: &[u32]) -> [u32; STEP_PLACES]
 {
     let mut filled = rows;
-    let mut i = records.len();
-    while 0 < i {
-        i -= 1;
-        let k = records[i] as usize;
+    for i in (0..records.len()).rev() {
+        let k = usize::from(records[i]);
         if k < STEP_PLACES {
             filled[k] = values[i];
         }
@@ -87,13 +65,11 @@ pub fn with_rows(rows: [u32; STEP_PLACES], records: &[u16], values: &[u32]) -> [
 // The row of each block: its quantity if its bit of the set is 1, else 0.
 pub fn block_values(count: usize, quantities: &[u32], set: u32) -> [u32; BLOCK_PLACES]
 {
-    let mut values = [0u32; BLOCK_PLACES];
-    let mut i: usize = 0;
-    while i < count {
+    let mut values = [0; BLOCK_PLACES];
+    for i in 0..count {
         if (set >> i) % 2 == 1 {
             values[i] = quantities[i];
         }
-        i += 1;
     }
     values
 }

@@ -3,9 +3,10 @@
 // Assumes nothing.
 
 use crate::twin::by_value::roots::held::{bounds_of, held};
-use crate::twin::by_value::roots::losses::{gains_at, gaps_from};
+use crate::twin::by_value::roots::losses::{Asked, loss_at};
 use crate::twin::by_value::roots::moves::{MOVES, ROUND, Trail, moved_on};
 use crate::twin::by_value::fields::hours::{change_weight, counted_hours};
+use crate::twin::by_value::orders::Blocks;
 use crate::twin::by_value::places::cells::prices_at;
 use crate::twin::by_value::places::layout::{HOURS, MOST_BLOCKS};
 
@@ -23,18 +24,11 @@ pub fn gives_way(edition: u8) -> bool
 }
 
 // What each block asks for over its hours: its price times their number, as they count.
-fn limits_of(
-    day: u8,
-    count: usize,
-    hours: [u32; MOST_BLOCKS],
-    prices: [u32; MOST_BLOCKS],
-) -> [u32; MOST_BLOCKS]
+fn limits_of(day: u8, blocks: &Blocks) -> [u32; MOST_BLOCKS]
 {
     let mut limits = [0; MOST_BLOCKS];
-    let mut i: usize = 0;
-    while i < count {
-        limits[i] = prices[i] * counted_hours(day, hours[i]);
-        i += 1;
+    for i in 0..blocks.count {
+        limits[i] = blocks.prices[i] * counted_hours(day, blocks.hours[i]);
     }
     limits
 }
@@ -47,45 +41,30 @@ pub fn root_prices(
     day: u8,
     unit_prices: &[u32],
     off: [u32; HOURS],
-    count: usize,
-    sides: [u8; MOST_BLOCKS],
-    hours: [u32; MOST_BLOCKS],
-    prices: [u32; MOST_BLOCKS],
-    quantities: [u32; MOST_BLOCKS],
+    blocks: &Blocks,
 ) -> [u32; HOURS]
 {
-    let often = change_weight(day);
-    let limits = limits_of(day, count, hours, prices);
-    let bounds = bounds_of(gives_way(edition), unit_prices, off, count, prices);
-    let mut best = held(prices_at(unit_prices, off), bounds);
-    let first_gains = gains_at(count, sides, hours, limits, quantities, best, often);
-    let mut least = first_gains + gaps_from(unit_prices, off, best, often);
+    let asked = Asked {
+        blocks,
+        limits: limits_of(day, blocks),
+        often: change_weight(day),
+    };
+    let bounds = bounds_of(gives_way(edition), unit_prices, off, blocks);
+    let mut best = held(prices_at(unit_prices, off), &bounds);
+    let mut least = loss_at(unit_prices, off, &asked, best);
     let mut trail = Trail {
         prices: best,
         sum: off,
     };
-    let mut n: u32 = 1;
-    while n < MOVES {
-        let next = moved_on(
-            unit_prices,
-            count,
-            hours,
-            limits,
-            quantities,
-            trail,
-            n,
-            often,
-            bounds,
-        );
+    for n in (1..MOVES).step_by(ROUND as usize) {
+        let next = moved_on(unit_prices, &asked, trail, n, &bounds);
         let root = next.prices;
-        let gains = gains_at(count, sides, hours, limits, quantities, root, often);
-        let loss = gains + gaps_from(unit_prices, off, root, often);
+        let loss = loss_at(unit_prices, off, &asked, root);
         if loss < least {
             best = root;
             least = loss;
         }
         trail = next;
-        n += ROUND;
     }
     best
 }

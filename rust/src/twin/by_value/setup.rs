@@ -5,7 +5,7 @@ use crate::twin::by_value::setup::blocks::{block_columns, largest, traded_by_hou
 use crate::twin::by_value::setup::rows::{fill_ranges, fill_tables, joined};
 use crate::twin::by_value::setup::twins::with_twins;
 use crate::twin::by_value::fields::hours::change_weight;
-use crate::twin::by_value::orders::Blocks;
+use crate::twin::by_value::orders::{Blocks, Steps};
 use crate::twin::by_value::places::cells::counted_prices;
 use crate::twin::by_value::places::layout::{BLOCK_LIST, HOUR_LIST, HOURS, LAST_AND_ABOVE, MOST_BLOCKS};
 use crate::twin::by_value::roots::root_prices;
@@ -22,12 +22,9 @@ pub struct Prepared {
 }
 
 // The places that a row needs: up to the last that the blocks reach in any hour, and the one above it.
-pub fn row_needed(blocks: Blocks) -> usize
+pub fn row_needed(blocks: &Blocks) -> usize
 {
-    let sides = blocks.sides;
-    let hours = blocks.hours;
-    let quantities = blocks.quantities;
-    let most = traded_by_hour(blocks.count, sides, hours, quantities, true);
+    let most = traded_by_hour(blocks, true);
     (largest(most) as usize) + LAST_AND_ABOVE
 }
 
@@ -36,57 +33,29 @@ pub fn row_needed(blocks: Blocks) -> usize
 pub fn prepare(
     edition: u8,
     day: u8,
-    sides: &[u8],
-    prices: &[u32],
-    quantities: &[u32],
-    ends: [u16; HOURS + 1],
-    blocks: Blocks,
+    steps: &Steps,
+    blocks: &Blocks,
     parents: [u32; MOST_BLOCKS],
     unit_prices: &mut [u32],
     gap: &mut [u32],
 ) -> Prepared
 {
-    let count = blocks.count;
-    let block_sides = blocks.sides;
-    let hours = blocks.hours;
-    let limits = blocks.prices;
-    let amounts = blocks.quantities;
-    let off = traded_by_hour(count, block_sides, hours, amounts, false);
-    let most = traded_by_hour(count, block_sides, hours, amounts, true);
-    fill_tables(sides, prices, quantities, ends, off, most, unit_prices);
-    let root = root_prices(
-        edition,
-        day,
-        unit_prices,
-        off,
-        count,
-        block_sides,
-        hours,
-        limits,
-        amounts,
-    );
-    let ranges = fill_ranges(
-        sides,
-        prices,
-        quantities,
-        ends,
-        off,
-        most,
-        root,
-        unit_prices,
-        gap,
-    );
+    let off = traded_by_hour(blocks, false);
+    let most = traded_by_hour(blocks, true);
+    fill_tables(steps, off, most, unit_prices);
+    let root = root_prices(edition, day, unit_prices, off, blocks);
+    let ranges = fill_ranges(steps, off, most, root, unit_prices, gap);
     let often = change_weight(day);
     let counted = counted_prices(root, often);
-    let columns = block_columns(day, count, block_sides, hours, limits, amounts, counted);
+    let columns = block_columns(day, blocks, counted);
     let first = ranges.first;
     let last = ranges.last;
     let turn = ranges.turn;
     let wide = widened(columns);
     let linked = with_parents(parents, wide);
-    let traded = with_rows(count, linked);
+    let traded = with_rows(blocks.count, linked);
     Prepared {
         hours: joined(first, last, turn, often, edition),
-        columns: with_twins(count, traded),
+        columns: with_twins(blocks.count, traded),
     }
 }

@@ -3,19 +3,24 @@
 // nothing.
 
 use crate::twin::by_value::shares::leftover::give_leftover;
+use crate::twin::by_value::orders::HourSteps;
 use crate::twin::by_value::pricing::BIAS;
-use crate::twin::by_value::pricing::execution::{less, lesser};
 use crate::twin::by_value::pricing::hour::totals_at;
 
 pub mod leftover;
 
-// What the buys at the price get together and what they hold, and the same of the sells.
+// What the steps of one side at the price get together, and what they hold.
+#[derive(Clone, Copy)]
+pub struct Portion {
+    pub amount: u64,
+    pub held: u64,
+}
+
+// What the buys at the price get and hold, and the same of the sells.
 #[derive(Clone, Copy)]
 pub struct Amounts {
-    pub buys: u64,
-    pub demand: u64,
-    pub sells: u64,
-    pub offer: u64,
+    pub buys: Portion,
+    pub sells: Portion,
 }
 
 // What is left of the amounts.
@@ -27,32 +32,44 @@ pub struct Left {
 
 // The amounts of an hour at a price: for the buys at it what they hold or what the sells and N allow, for the sells what they hold or what then
 // balances, the lesser.
-pub fn amounts_at(sides: &[u8], prices: &[u32], quantities: &[u32], net: u32, price: u32) -> Amounts
+pub fn amounts_at(steps: &HourSteps, net: u32, price: u32) -> Amounts
 {
-    let at = totals_at(sides, prices, quantities, price);
-    let before = totals_at(sides, prices, quantities, price - 1);
+    let at = totals_at(steps, price);
+    let before = totals_at(steps, price - 1);
     let bought = at.above + BIAS;
-    let sold = at.upto + (net as u64);
-    let sold_below = before.upto + (net as u64);
-    let demand = less(before.above, at.above);
-    let offer = less(at.upto, before.upto);
-    let buys = lesser(demand, less(sold, bought));
-    let sells = lesser(offer, less(bought + buys, sold_below));
+    let sold = at.upto + u64::from(net);
+    let sold_below = before.upto + u64::from(net);
+    let demand = before.above.saturating_sub(at.above);
+    let offer = at.upto.saturating_sub(before.upto);
+    let buys = demand.min(sold.saturating_sub(bought));
+    let sells = offer.min((bought + buys).saturating_sub(sold_below));
     Amounts {
-        buys,
-        demand,
-        sells,
-        offer,
+        buys: Portion {
+            amount: buys,
+            held: demand,
+        },
+        sells: Portion {
+            amount: sells,
+            held: offer,
+        },
     }
 }
 
-// A quantity times the amount, divided by the total, rounded down.
-fn quotient(own: u32, amount: u64, total: u64) -> u32
-{
-    if total == 0 {
-        return 0;
+impl Portion {
+    // What a step that holds so much gets, rounded down.
+    fn quotient(self, own: u32) -> u32
+    {
+        if self.held == 0 {
+            return 0;
+        }
+        (u64::from(own) * self.amount / self.held) as u32
     }
-    ((own as u64) * amount / total) as u32
+
+    // What is left of that.
+    fn rest_of(self, own: u32) -> u32
+    {
+        (u64::from(own) * self.amount % self.held) as u32
+    }
 }
 
 impl Amounts {
@@ -64,7 +81,7 @@ impl Amounts {
                 return quantity;
             }
             if limit == price {
-                return quotient(quantity, self.buys, self.demand);
+                return self.buys.quotient(quantity);
             }
             return 0;
         }
@@ -72,7 +89,7 @@ impl Amounts {
             return quantity;
         }
         if limit == price {
-            return quotient(quantity, self.sells, self.offer);
+            return self.sells.quotient(quantity);
         }
         0
     }
@@ -84,9 +101,9 @@ impl Left {
     {
         if limit == price {
             if side == 0 {
-                self.buys = less(self.buys, got as u64);
+                self.buys = self.buys.saturating_sub(u64::from(got));
             } else {
-                self.sells = less(self.sells, got as u64);
+                self.sells = self.sells.saturating_sub(u64::from(got));
             }
         }
         self
@@ -94,63 +111,30 @@ impl Left {
 }
 
 // What each step gets before the leftover tenths are given, into out, and what is left of the amounts.
-fn round_down(
-    sides: &[u8],
-    prices: &[u32],
-    quantities: &[u32],
-    price: u32,
-    amounts: Amounts,
-    out: &mut [u32],
-) -> Left
+fn round_down(steps: &HourSteps, price: u32, amounts: Amounts, out: &mut [u32]) -> Left
 {
     let mut left = Left {
-        buys: amounts.buys,
-        sells: amounts.sells,
+        buys: amounts.buys.amount,
+        sells: amounts.sells.amount,
     };
-    let mut i: usize = 0;
-    while i < sides.len() {
-        let got = amounts.first(price, sides[i], prices[i], quantities[i]);
+    for i in 0..steps.sides.len() {
+        let got = amounts.first(price, steps.sides[i], steps.prices[i], steps.quantities[i]);
         out[i] = got;
-        left = left.after(price, sides[i], prices[i], got);
-        i += 1;
+        left = left.after(price, steps.sides[i], steps.prices[i], got);
     }
     left
 }
 
 // Each step's quantity into out, in the columns' order; rests is lent to work in. Where no tenth is left over, one pass is all.
 pub fn share_out(
-    sides: &[u8],
-    prices: &[u32],
-    quantities: &[u32],
+    steps: &HourSteps,
     price: u32,
     amounts: Amounts,
     out: &mut [u32],
     rests: &mut [u32],
 )
 {
-    let left = round_down(sides, prices, quantities, price, amounts, out);
-    give_leftover(
-        true,
-        sides,
-        prices,
-        quantities,
-        price,
-        amounts.buys,
-        amounts.demand,
-        left.buys,
-        out,
-        rests,
-    );
-    give_leftover(
-        false,
-        sides,
-        prices,
-        quantities,
-        price,
-        amounts.sells,
-        amounts.offer,
-        left.sells,
-        out,
-        rests,
-    );
+    let left = round_down(steps, price, amounts, out);
+    give_leftover(true, steps, price, amounts.buys, left.buys, out, rests);
+    give_leftover(false, steps, price, amounts.sells, left.sells, out, rests);
 }

@@ -1,5 +1,5 @@
 -- `chains::uncounted::has_wrong_hours` meets its contract: on a 23-hour day what the walks along the chains found. Assumes nothing.
-use native.Mathlib.Omega.{arith}
+use Rattle.std.proofs.Common.{arith}
 use borrow.Author.Tests.{eq-eqb, ne_eqb}
 use Rattle.rules.specs.Day.{spring_hours}
 use Rattle.chains.specs.Causes.{uncounted_on, wrong_hours}
@@ -13,14 +13,11 @@ returns-then-day_hours-ne-SPRING_HOURS c = rw (← c.day_hours.ensures, ne_eqb _
 pub returns : goal.returns
 unfolding wrong_hours
 returns c =
-    let blocks = c in
-    let steps = blocks in
-    let day = steps in
     rw (
-      ← day.day_hours.ensures,
-      eq-eqb day.day_hours.result spring_hours (omega (arith, steps.if-day_hours-ne-SPRING_HOURS.false)),
-      steps.is_uncounted_on.ensures,
-      blocks.is_uncounted_on-2.ensures,
+      ← c.day_hours.ensures,
+      eq-eqb c.day_hours.result spring_hours (omega (arith, c.if-day_hours-ne-SPRING_HOURS.false)),
+      c.is_uncounted_on.ensures,
+      c.is_uncounted_on-2.ensures,
       c.is_uncounted_on-3.ensures,
     )
-    (on_some (uncounted_on day.args.book.now))
+    (on_some (uncounted_on c.args.book.now))

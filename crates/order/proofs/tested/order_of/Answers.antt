@@ -6,6 +6,4 @@ pub returns-then-is_order : goal.returns-then-is_order
 returns-then-is_order c = c.is_order.ensures.0 c.if-is_order.true
 
 pub returns : goal.returns
-returns c =
-    let p = c.requires in
-    itself-order _ _ _ p.0 p.1 c.by_themselves-numbers.ensures
+returns c = itself-order _ _ _ _ c.requires.0 c.requires.1 c.by_themselves.ensures.0 c.by_themselves.ensures.1

@@ -1,29 +1,20 @@
--- `places::cells::shifted_price` meets its contract: where L is not below H nothing is added to it. Assumes nothing.
-use Prim.Native.Nat.{ℕ, ◌-◌, ◌*◌, ◌≤◌}
-use mathlib.Core.Path.{◌≡◌, refl}
-use native.Mathlib.Omega.{arith}
+-- `places::cells::shifted_price` meets its contract: it is the definition, and what is added fits. Assumes nothing.
+use Rattle.std.proofs.Common.{arith}
 use Rattle.rules.specs.Orders.{max_price}
 use Rattle.rules.specs.Shift.{last_shift, shifted}
 use Rattle.rules.proofs.BoundsLaws.{product_le}
 use Rattle.places.proofs.cells.shifted_price.Goals as goal
 
-pub returns-then-high-low : goal.returns-then-high-low
-unfolding shifted
-returns-then-high-low c =
-    let a = c.args in
-    let none : a.high - a.low ≡ 0 = omega (arith, c.if-high-low.true) in
-    rw none (omega arith)
-
--- what is added fits
-part-fits : (t low high : ℕ) → t ≤ last_shift → high ≤ max_price → (high - low) * t ≤ max_price * last_shift
-part-fits t low high few fits = product_le (high - low) t max_price last_shift (omega arith) few
-
 pub overflow_mul-result : goal.overflow_mul-result
-overflow_mul-result c = let a = c.args in let p = c.requires in omega (arith, part-fits a.t a.low a.high p.0 p.2)
+overflow_mul-result c =
+    let p = c.requires in
+    omega (arith, product_le c.saturating_sub.result c.args.t max_price last_shift (omega (arith, c.saturating_sub.ensures)) p.0)
 
 pub overflow_add-result : goal.overflow_add-result
-overflow_add-result c = let a = c.args in let p = c.requires in omega (arith, p.1, part-fits a.t a.low a.high p.0 p.2)
+overflow_add-result c =
+    let p = c.requires in
+    omega (arith, p.1, product_le c.saturating_sub.result c.args.t max_price last_shift (omega (arith, c.saturating_sub.ensures)) p.0)
 
 pub returns : goal.returns
 unfolding shifted
-returns c = refl
+returns c = rw c.saturating_sub.ensures

@@ -1,11 +1,11 @@
 // Written by `twin_source` from crates/book/src/causes.rt.
-// The causes for which a book by itself is refused, 1 to 6 (document 01, "Refused books and calls"), 9 to 11 (document 02), and the first
-// of them that holds. Assumes nothing.
+// The causes for which a book by itself is refused, 1 to 6 and 9 to 11, and the first of them that holds. Assumes nothing.
 
 use crate::twin::by_value::book::bounds::{
     AUTUMN_HOURS, FIRST_LINK_EDITION, FIRST_STEP_LIMIT_EDITION, LAST_EDITION, MOST_BLOCKS,
     MOST_RECORDS,
 };
+use crate::twin::by_value::book::refusal::{Refusal, refuse};
 use crate::twin::by_value::chains::{
     Chain, MOST_STEPS_IN_HOUR, PORTFOLIO_NUMBERS, Surveyed, counts_by_portfolio, has_more_steps,
     has_wrong_hours, has_wrong_link,
@@ -58,31 +58,17 @@ fn has_crowded_portfolio(book: &[u8]) -> bool
 {
     let most = most_blocks_of_portfolio(edition_of(book));
     let counts = counts_by_portfolio(book, Chain::Blocks);
-    let mut p = PORTFOLIO_NUMBERS;
-    while 0 < p {
-        p -= 1;
-        if most < counts[p] {
+    for count in counts {
+        if most < count {
             return true;
         }
     }
     false
 }
 
-// 10, looked for only where no other cause holds: there are then at most 32 blocks.
-fn finds_wrong_link(book: &[u8], before: u8) -> bool
+// 11, looked for only in an edition with this limit, and where the chain has more steps than one portfolio may have in one hour.
+fn has_too_many_steps(book: &[u8], steps: u16) -> bool
 {
-    if before != 0 {
-        return false;
-    }
-    has_wrong_link(book)
-}
-
-// 11, looked for only where no other cause holds, in an edition with this limit, and where the chain has more steps than one portfolio may have in one hour.
-fn finds_too_many_steps(book: &[u8], steps: u16, before: u8) -> bool
-{
-    if before != 0 {
-        return false;
-    }
     if edition_of(book) < FIRST_STEP_LIMIT_EDITION {
         return false;
     }
@@ -92,34 +78,29 @@ fn finds_too_many_steps(book: &[u8], steps: u16, before: u8) -> bool
     has_more_steps(book)
 }
 
-// One cause more: the number that those before it gave, else, where it holds, its own.
-fn next_found(before: u8, holds: bool, number: u8) -> u8
+// Refused for the first cause that holds, where 1 does not. What the walks along the chains found is handed in; later causes are looked for only where no
+// earlier one holds.
+pub fn refuse_for_rest(
+    book: &[u8],
+    steps: Surveyed,
+    blocks: Surveyed,
+    links: Surveyed,
+) -> Result<(), Refusal>
 {
-    if before != 0 {
-        return before;
-    }
-    if holds { number } else { 0 }
-}
-
-// The number of the first cause that holds, where 1 does not; 0 where none does. What the walks along the chains found is handed in.
-pub fn refusal_of(book: &[u8], steps: Surveyed, blocks: Surveyed, links: Surveyed) -> u8
-{
-    let head = next_found(0, has_wrong_head(book), 2);
+    refuse(has_wrong_head(book), Refusal::WrongHead)?;
     let is_broken = steps.broken | blocks.broken | links.broken;
-    let broken = next_found(head, is_broken, 3);
+    refuse(is_broken, Refusal::BrokenChain)?;
     let is_outside = steps.outside | blocks.outside | links.outside;
-    let outside = next_found(broken, is_outside, 4);
-    let short = are_short(
-        steps.length,
-        blocks.length,
-        links.length,
-        record_count(book),
-    );
-    let stray = next_found(outside, short, 5);
-    let many = (MOST_BLOCKS < blocks.length) | has_crowded_portfolio(book);
-    let crowded = next_found(stray, many, 6);
-    let uncounted = next_found(crowded, has_wrong_hours(book), 9);
-    let misnamed = next_found(uncounted, finds_wrong_link(book, uncounted), 10);
-    let too_many = finds_too_many_steps(book, steps.length, misnamed);
-    next_found(misnamed, too_many, 11)
+    refuse(is_outside, Refusal::WrongField)?;
+    let count = record_count(book);
+    let is_short = are_short(steps.length, blocks.length, links.length, count);
+    refuse(is_short, Refusal::StrayRecord)?;
+    let is_crowded = (MOST_BLOCKS < blocks.length) | has_crowded_portfolio(book);
+    refuse(is_crowded, Refusal::TooManyBlocks)?;
+    refuse(has_wrong_hours(book), Refusal::WrongHours)?;
+    refuse(has_wrong_link(book), Refusal::WrongLink)?;
+    refuse(
+        has_too_many_steps(book, steps.length),
+        Refusal::TooManySteps,
+    )
 }

@@ -7,6 +7,7 @@ use crate::twin::by_value::places::layout::{AGAINST, CHANGE, GAIN, HOURS, LIMIT,
 use crate::twin::by_value::places::limits::{keeps_limit, keeps_limits};
 use crate::twin::by_value::places::numbers::choose;
 use crate::twin::by_value::places::reach::{is_out, reach_at};
+use crate::twin::by_value::places::tables::Tables;
 
 // The set that holds block number at alone.
 pub fn bit(at: u32) -> u32
@@ -16,6 +17,7 @@ pub fn bit(at: u32) -> u32
 
 // Whether the block that is named, by its number and 1, is gone from a branch whose first blocks, at of them, are decided: left out, or out; where none is
 // named, by 0, it is not.
+// A name stays a number, as the column of the search's list has it: an Option would be made and taken apart for each block, and says no more.
 fn is_gone(name: u32, at: usize, set: u32, out: u32) -> bool
 {
     if name == 0 {
@@ -63,14 +65,12 @@ fn ruled_out(
 {
     let mut r: u32 = 0;
     let mut gains: u64 = 0;
-    let mut i = at;
-    while i < count {
+    for i in at..count {
         let k = i - at;
         let gone = is_gone(blocks[PARENT + i], at, set, r);
         let test = is_ruled_out(blocks, i, is_out(out, k), gone, high, low);
         r = r + choose(test, bit(k as u32), 0);
-        gains = gains + (choose(test, blocks[GAIN + i], 0) as u64);
-        i += 1;
+        gains = gains + u64::from(choose(test, blocks[GAIN + i], 0));
     }
     Ruled { out: r, gains }
 }
@@ -82,12 +82,10 @@ fn out_gains(blocks: &[u32], count: usize, at: usize, out: u32) -> u64
         return 0;
     }
     let mut gains: u64 = 0;
-    let mut i = at;
-    while i < count {
+    for i in at..count {
         let k = i - at;
         let gain = choose(is_out(out, k), blocks[GAIN + i], 0);
-        gains = gains + (gain as u64);
-        i += 1;
+        gains = gains + u64::from(gain);
     }
     gains
 }
@@ -105,7 +103,7 @@ fn is_forced(blocks: &[u32], at: usize, set: u32, loss: u64, limit: u64) -> bool
     } else {
         blocks[AGAINST + i]
     };
-    limit <= loss + (other as u64)
+    limit <= loss + u64::from(other)
 }
 
 // The best prices within reach, as they count: those for sells and those for buys.
@@ -137,75 +135,38 @@ fn bounds_at(
     }
 }
 
-// Whether a branch is dropped, and its blocks that are out.
-#[derive(Clone, Copy)]
-pub struct Judged {
-    pub dropped: bool,
-    pub out: u32,
-}
-
 // A branch is dropped where no completion can be lawful and lose less than the limit: where the decided blocks and those that are out lose as much already,
 // where an hour can no longer balance, where the least gaps within reach come to as much, or where a taken block misses its limit at the best prices within
 // reach. An undecided block that misses its limit there is out, and so is a child of one that is out or left out; the branch is dropped too where what they
-// would gain and the least gaps come to as much.
-pub fn judge(
-    unit_prices: &[u32],
-    gap: &[u32],
-    hours: &[u32],
-    blocks: &[u32],
-    count: u32,
-    left: u32,
-    out: u32,
-    node: Node,
-    limit: u64,
-) -> Judged
+// would gain and the least gaps come to as much. None where it is dropped, else its blocks that are out.
+pub fn judge(tables: &Tables, left: u32, out: u32, node: Node, limit: u64) -> Option<u32>
 {
-    let drop = Judged {
-        dropped: true,
-        out: out,
-    };
-    let at = (count - left) as usize;
-    let charged = node.loss + out_gains(blocks, count as usize, at, out);
+    let blocks = tables.blocks;
+    let hours = tables.hours;
+    let count = tables.count as usize;
+    let at = (tables.count - left) as usize;
+    let charged = node.loss + out_gains(blocks, count, at, out);
     if limit <= charged {
-        return drop;
+        return None;
     }
     if is_forced(blocks, at, node.set, charged, limit) {
-        return Judged {
-            dropped: false,
-            out: out,
-        };
+        return Some(out);
     }
-    let places = node.places;
-    let reach = reach_at(
-        hours,
-        blocks,
-        count as usize,
-        at,
-        out,
-        charged,
-        limit,
-        places,
-    );
-    if !reach.balances {
-        return drop;
-    }
+    let reach = reach_at(hours, blocks, count, at, out, charged, limit, node.places)?;
     let from = reach.from;
     let to = reach.to;
     let often = hours[CHANGE];
-    let least = node.loss + counted_least_gaps(gap, &hours[TURN..CHANGE], from, to, often);
+    let least = node.loss + counted_least_gaps(tables.gap, &hours[TURN..CHANGE], from, to, often);
     if limit <= least {
-        return drop;
+        return None;
     }
-    let bounds = bounds_at(unit_prices, hours[SHIFTS] != 0, often, from, to);
-    let high = bounds.high;
-    let low = bounds.low;
-    if !keeps_limits(blocks, at, node.set, &high, &low) {
-        return drop;
+    let bounds = bounds_at(tables.unit_prices, hours[SHIFTS] != 0, often, from, to);
+    if !keeps_limits(blocks, at, node.set, &bounds.high, &bounds.low) {
+        return None;
     }
-    let ruled = ruled_out(blocks, count as usize, at, node.set, out, &high, &low);
-    let with_gains = least + ruled.gains;
-    Judged {
-        dropped: limit <= with_gains,
-        out: ruled.out,
+    let ruled = ruled_out(blocks, count, at, node.set, out, &bounds.high, &bounds.low);
+    if limit <= least + ruled.gains {
+        return None;
     }
+    Some(ruled.out)
 }

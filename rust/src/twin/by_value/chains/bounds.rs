@@ -1,5 +1,5 @@
 // Written by `twin_source` from crates/chains/src/bounds.rt.
-// The numbers by which records are counted along a chain (document 01, "The book in bytes"; document 02, P8). No code, no contract; the same numbers for
+// The numbers by which records are counted along a chain. No code, no contract; the same numbers for
 // the contracts stand in specs/Bounds.antt.
 
 // The numbers that a portfolio's byte can be.

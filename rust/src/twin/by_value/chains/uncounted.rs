@@ -1,19 +1,19 @@
 // Written by `twin_source` from crates/chains/src/uncounted.rt.
-// Cause 9 (document 02, P2): on a 23-hour day a step for hour 3, or a block with fewer than two counted hours. Assumes nothing.
+// Cause 9: on a 23-hour day a step for hour 3, or a block with fewer than two counted hours. Assumes nothing.
 
 use crate::twin::by_value::chains::Chain;
+use crate::twin::by_value::chains::following::chained;
 use crate::twin::by_value::chains::walks::first_on;
 use crate::twin::by_value::fields::hours::{counted_hours, is_counted};
 use crate::twin::by_value::fields::{FEWEST_HOURS, SPRING_HOURS};
-use crate::twin::by_value::records::{Record, day_hours, next_of, record_at, record_count};
+use crate::twin::by_value::records::{Record, day_hours, record_at};
 
 // Whether record i is a step for an hour that does not count, or a block with fewer than two counted hours.
 fn is_uncounted(book: &[u8], i: u16) -> bool
 {
     let day = day_hours(book);
-    let found = record_at(book, i);
-    match found {
-        Record::Step(step) => !is_counted(day, step.hour as u32),
+    match record_at(book, i) {
+        Record::Step(step) => !is_counted(day, u32::from(step.hour)),
         Record::Block(block) => counted_hours(day, block.hours) < FEWEST_HOURS,
         Record::Link(_) | Record::Other => false,
     }
@@ -22,19 +22,7 @@ fn is_uncounted(book: &[u8], i: u16) -> bool
 // Cause 9 along a chain, whatever its day.
 fn is_uncounted_on(book: &[u8], chain: Chain) -> bool
 {
-    let mut left = record_count(book);
-    let mut i = first_on(book, chain);
-    while 0 < left {
-        if i == 0 {
-            return false;
-        }
-        if is_uncounted(book, i) {
-            return true;
-        }
-        i = next_of(book, i);
-        left -= 1;
-    }
-    false
+    chained(book, first_on(book, chain)).any(|i| is_uncounted(book, i))
 }
 
 // 9: on a 23-hour day a step for hour 3, or a block with fewer than two counted hours.

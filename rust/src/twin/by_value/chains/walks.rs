@@ -1,13 +1,14 @@
 // Written by `twin_source` from crates/chains/src/walks.rt.
-// The chains (document 01, "The book in bytes"): what belongs on each, and the walks along one, from its first record to the zero that ends it, for at
+// The chains: what belongs on each, and the walks along one, from its first record to the zero that ends it, for at
 // most R records: causes 3 and 4, and the records of each portfolio, for 6. Assumes nothing.
 
 use crate::twin::by_value::chains::bounds::PORTFOLIO_NUMBERS;
+use crate::twin::by_value::chains::following::chained;
 use crate::twin::by_value::chains::{Chain, Surveyed};
 use crate::twin::by_value::fields::is_out_of_range;
 use crate::twin::by_value::records::{
-    BLOCK_KIND, LINK_KIND, STEP_KIND, first_block, first_link, first_step, kind_of, next_of,
-    number_of, portfolio_of, record_count,
+    BLOCK_KIND, LINK_KIND, STEP_KIND, first_block, first_link, first_step, kind_of, number_of,
+    portfolio_of, record_count,
 };
 
 // The index of a chain's first record.
@@ -30,7 +31,7 @@ fn kind_on(chain: Chain) -> u8
     }
 }
 
-// Whether the numbers along a chain must rise.
+// Whether the numbers along a chain must rise. An arm for each chain, though all say the same: each is told, and can be wrong, by itself.
 fn is_numbered(chain: Chain) -> bool
 {
     match chain {
@@ -51,26 +52,15 @@ fn is_misplaced(book: &[u8], chain: Chain, last: u16, i: u16) -> bool
 // Causes 3 and 4 along a chain, and its length, in one walk.
 pub fn survey_of(book: &[u8], chain: Chain) -> Surveyed
 {
-    let mut left = record_count(book);
-    let mut i = first_on(book, chain);
     let mut last = 0;
     let mut broken = false;
     let mut outside = false;
     let mut length = 0;
-    while 0 < left {
-        if i == 0 {
-            return Surveyed {
-                broken,
-                outside,
-                length,
-            };
-        }
-        broken = broken | is_misplaced(book, chain, last, i);
-        outside = outside | is_out_of_range(book, i);
+    for i in chained(book, first_on(book, chain)) {
+        broken |= is_misplaced(book, chain, last, i);
+        outside |= is_out_of_range(book, i);
         length += 1;
         last = number_of(book, i);
-        i = next_of(book, i);
-        left -= 1;
     }
     Surveyed {
         broken,
@@ -83,16 +73,8 @@ pub fn survey_of(book: &[u8], chain: Chain) -> Surveyed
 pub fn counts_by_portfolio(book: &[u8], chain: Chain) -> [u16; PORTFOLIO_NUMBERS]
 {
     let mut counts = [0; PORTFOLIO_NUMBERS];
-    let mut left = record_count(book);
-    let mut i = first_on(book, chain);
-    while 0 < left {
-        if i == 0 {
-            return counts;
-        }
-        let p = portfolio_of(book, i) as usize;
-        counts[p] += 1;
-        i = next_of(book, i);
-        left -= 1;
+    for i in chained(book, first_on(book, chain)) {
+        counts[usize::from(portfolio_of(book, i))] += 1;
     }
     counts
 }

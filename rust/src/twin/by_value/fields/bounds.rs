@@ -1,5 +1,5 @@
 // Written by `twin_source` from crates/fields/src/bounds.rt.
-// How large a record's fields may be (document 01, "The book in bytes"). No code, no contract; the same numbers for the contracts stand in
+// How large a record's fields may be. No code, no contract; the same numbers for the contracts stand in
 // specs/Bounds.antt, the price and the limits of an edition in the rules.
 
 // The hours of a day, in the head: 23 in spring.
@@ -14,7 +14,7 @@ pub const CHANGE_BIT: u32 = 4;
 pub const FIRST_EDITION: u8 = 1;
 
 // The last portfolio: 1 to 255.
-pub const LAST_PORTFOLIO: u32 = 255;
+pub const LAST_PORTFOLIO: u8 = 255;
 
 // The highest price: 1 to 300000.
 pub const MAX_PRICE: u32 = 300000;

@@ -1,5 +1,5 @@
 // Written by `twin_source` from crates/fields/src/hours.rt.
-// The hours on their day (document 02, P2): how often hour 3 counts, which hours count, and those of a block. Assumes nothing.
+// The hours on their day: how often hour 3 counts, which hours count, and those of a block. Assumes nothing.
 
 use crate::twin::by_value::fields::bounds::{CHANGE_BIT, CHANGE_HOUR, SPRING_HOURS};
 use crate::twin::by_value::records::hour_count;
@@ -7,11 +7,7 @@ use crate::twin::by_value::records::hour_count;
 // How often hour 3 counts on a day of so many hours: not at all on 23, once on 24, twice on 25.
 pub fn change_weight(day: u8) -> u32
 {
-    if SPRING_HOURS <= day {
-        (day - SPRING_HOURS) as u32
-    } else {
-        0
-    }
+    u32::from(day.saturating_sub(SPRING_HOURS))
 }
 
 // Whether an hour counts at all.

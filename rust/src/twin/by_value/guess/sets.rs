@@ -1,5 +1,6 @@
 // Written by `twin_source` from crates/guess/src/sets.rt.
-// Sets of blocks: which are taken, by their numbers.
+// Sets of blocks: which are taken, by their numbers. The blocks and their count are two of the fields that `Tables` lends: a struct of these two alone is no
+// plainer.
 
 use crate::twin::by_value::places::layout::{GAIN, MOST_BLOCKS, PARENT};
 
@@ -7,10 +8,8 @@ use crate::twin::by_value::places::layout::{GAIN, MOST_BLOCKS, PARENT};
 pub fn gaining(blocks: &[u32], count: usize) -> [bool; MOST_BLOCKS]
 {
     let mut set = [false; MOST_BLOCKS];
-    let mut i: usize = 0;
-    while i < count {
+    for i in 0..count {
         set[i] = 0 < blocks[GAIN + i];
-        i += 1;
     }
     set
 }
@@ -27,14 +26,10 @@ pub fn without(set: [bool; MOST_BLOCKS], i: usize) -> [bool; MOST_BLOCKS]
 pub fn closed(blocks: &[u32], count: usize, set: [bool; MOST_BLOCKS]) -> [bool; MOST_BLOCKS]
 {
     let mut r = set;
-    let mut i: usize = 0;
-    while i < count {
-        let parent = blocks[PARENT + i] as usize;
-        if 0 < parent {
-            let held = r[parent - 1];
-            r[i] = r[i] & held;
+    for i in 0..count {
+        if let Some(parent) = blocks[PARENT + i].checked_sub(1) {
+            r[i] = r[i] & r[parent as usize];
         }
-        i += 1;
     }
     r
 }

@@ -7,32 +7,27 @@ use crate::twin::by_value::places::layout::{
     AGAINST, BLOCK_ROWS, CHANGE, FIRST, GAIN, HOURS, LAST, LIMIT, MOST_BLOCKS, RUNS, SIDE, TURN,
 };
 use crate::twin::by_value::places::limits::price_sum;
-use crate::twin::by_value::places::numbers::{choose, larger, less};
+use crate::twin::by_value::places::numbers::choose;
+use crate::twin::by_value::places::tables::Tables;
 
-// The rules by which one of the blocks that miss their limits is left out: the one that misses its limit by most, the one that gains least at the root
-// prices, the smallest, and by any other number the largest.
-const BY_MISS: u32 = 0;
-
-const BY_GAIN: u32 = 1;
-
-const BY_SMALLNESS: u32 = 2;
-
-// More than a block gains or trades.
-const MOST: u32 = 4294967295;
+// The rules: the block that misses its limit by most is left out first, the one that gains least at the root prices, the smallest, the largest.
+#[derive(Clone, Copy)]
+pub enum Rule {
+    ByMiss,
+    ByGain,
+    BySmallness,
+    BySize,
+}
 
 // How soon a block is left out by a rule.
-fn urgency(rule: u32, miss: u32, gain: u32, size: u32) -> u32
+fn urgency(rule: Rule, miss: u32, gain: u32, size: u32) -> u32
 {
-    if rule == BY_MISS {
-        return miss;
+    match rule {
+        Rule::ByMiss => miss,
+        Rule::ByGain => u32::MAX - gain,
+        Rule::BySmallness => u32::MAX - size,
+        Rule::BySize => size,
     }
-    if rule == BY_GAIN {
-        return MOST - gain;
-    }
-    if rule == BY_SMALLNESS {
-        return MOST - size;
-    }
-    size
 }
 
 // By how much a block misses its limit at prices as they count, 0 where it keeps it.
@@ -40,9 +35,9 @@ fn miss_of(side: u32, hours: u32, limit: u32, prices: &[u32]) -> u32
 {
     let sum = price_sum(prices, hours);
     if side == 0 {
-        less(sum, limit)
+        sum.saturating_sub(limit)
     } else {
-        less(limit, sum)
+        limit.saturating_sub(sum)
     }
 }
 
@@ -51,16 +46,14 @@ fn size_of(blocks: &[u32], i: usize) -> u32
 {
     let row = BLOCK_ROWS + HOURS * i;
     let mut sum: u32 = 0;
-    let mut h: usize = 0;
-    while h < HOURS {
+    for h in 0..HOURS {
         sum += blocks[row + h];
-        h += 1;
     }
     sum
 }
 
 // How soon block i is left out of a set by a rule, 0 where it is not taken or keeps its limit.
-fn urgency_of(rule: u32, blocks: &[u32], i: usize, taken: bool, prices: &[u32]) -> u32
+fn urgency_of(rule: Rule, blocks: &[u32], i: usize, taken: bool, prices: &[u32]) -> u32
 {
     if !taken {
         return 0;
@@ -77,44 +70,33 @@ fn urgency_of(rule: u32, blocks: &[u32], i: usize, taken: bool, prices: &[u32]) 
     urgency(rule, miss, blocks[GAIN + i], size_of(blocks, i))
 }
 
-// Whether a block of a set misses its limit, and the one to be left out first.
-#[derive(Clone, Copy)]
-struct Missing {
-    any: bool,
-    worst: u32,
-}
-
+// The block of a set to be left out first of those that miss their limits, if any does.
 fn missing_in(
-    rule: u32,
+    rule: Rule,
     blocks: &[u32],
     count: usize,
     set: [bool; MOST_BLOCKS],
     prices: &[u32],
-) -> Missing
+) -> Option<usize>
 {
-    let mut worst: u32 = 0;
+    let mut worst = None;
     let mut most: u32 = 0;
-    let mut i: usize = 0;
-    while i < count {
+    for i in 0..count {
         let urgent = urgency_of(rule, blocks, i, set[i], prices);
-        worst = choose(most < urgent, i as u32, worst);
-        most = larger(most, urgent);
-        i += 1;
+        if most < urgent {
+            worst = Some(i);
+            most = urgent;
+        }
     }
-    Missing {
-        any: 0 < most,
-        worst,
-    }
+    worst
 }
 
 // What the decisions of a set lose at the root prices.
 fn losses_of(blocks: &[u32], count: usize, set: [bool; MOST_BLOCKS]) -> u64
 {
     let mut sum: u64 = 0;
-    let mut i: usize = 0;
-    while i < count {
-        sum += choose(set[i], blocks[AGAINST + i], blocks[GAIN + i]) as u64;
-        i += 1;
+    for i in 0..count {
+        sum += u64::from(choose(set[i], blocks[AGAINST + i], blocks[GAIN + i]));
     }
     sum
 }
@@ -123,54 +105,40 @@ fn losses_of(blocks: &[u32], count: usize, set: [bool; MOST_BLOCKS]) -> u64
 fn places_of(blocks: &[u32], count: usize, set: [bool; MOST_BLOCKS]) -> [u32; HOURS]
 {
     let mut places = [0; HOURS];
-    let mut i: usize = 0;
-    while i < count {
+    for i in 0..count {
         let buys = blocks[SIDE + i] == 0;
-        let moves = if set[i] { !buys } else { buys };
-        let more = moved_where(moves, places, blocks, i);
+        // A variable of its own: the borrow checker covers no call whose result is laid in an array.
+        let more = moved_where(set[i] != buys, places, blocks, i);
         places = more;
-        i += 1;
     }
     places
 }
 
-// What is found of a set.
+// What is found of a set under which every hour clears: each of its blocks keeps its limit, and it loses so much; or this one is to be left out.
 #[derive(Clone, Copy)]
-pub struct Trial {
-    pub clears: bool,
-    pub loss: u64,
-    pub misses: bool,
-    pub worst: usize,
+pub enum Trial {
+    Keeps(u64),
+    Misses(usize),
 }
 
-// A set tried by a rule.
-pub fn try_set(
-    rule: u32,
-    unit_prices: &[u32],
-    gap: &[u32],
-    hours: &[u32],
-    blocks: &[u32],
-    count: usize,
-    set: [bool; MOST_BLOCKS],
-) -> Trial
+// A set tried by a rule; none where an hour does not clear.
+pub fn try_set(rule: Rule, tables: &Tables, set: [bool; MOST_BLOCKS]) -> Option<Trial>
 {
+    let hours = tables.hours;
+    let blocks = tables.blocks;
+    let count = tables.count as usize;
     let often = hours[CHANGE];
     let places = places_of(blocks, count, set);
-    let gaps = counted_gaps(gap, &hours[FIRST..LAST], &hours[LAST..TURN], places, often);
-    if !gaps.clears {
-        return Trial {
-            clears: false,
-            loss: 0,
-            misses: false,
-            worst: 0,
-        };
-    }
-    let prices = counted_prices(prices_at(unit_prices, places), often);
-    let missing = missing_in(rule, blocks, count, set, &prices);
-    Trial {
-        clears: true,
-        loss: losses_of(blocks, count, set) + gaps.sum,
-        misses: missing.any,
-        worst: missing.worst as usize,
-    }
+    let gaps = counted_gaps(
+        tables.gap,
+        &hours[FIRST..LAST],
+        &hours[LAST..TURN],
+        places,
+        often,
+    )?;
+    let prices = counted_prices(prices_at(tables.unit_prices, places), often);
+    Some(match missing_in(rule, blocks, count, set, &prices) {
+        Some(worst) => Trial::Misses(worst),
+        None => Trial::Keeps(losses_of(blocks, count, set) + gaps),
+    })
 }

@@ -1,39 +1,39 @@
 // Written by `twin_source` from crates/order/src/names.rt.
-// Blocks named by their places in an order: a name is a number and 1, or 0 for none.
+// Blocks named by their places in an order: a name is a number and 1, or 0 for none, and no Option: names lie in the packed list that the search reads.
 
-use crate::twin::by_value::places::layout::MOST_BLOCKS;
+use crate::twin::by_value::order::Order;
 
 // The highest bit of a rank: that of block 0.
 const LAST_BIT: u32 = 31;
 
 // Whether the block that is named stands before place j, or none is named.
-pub fn stands_before(place: [usize; MOST_BLOCKS], name: u32, j: usize) -> bool
+pub fn stands_before(order: &Order, name: u32, j: usize) -> bool
 {
-    if name == 0 {
-        return true;
+    match name.checked_sub(1) {
+        None => true,
+        Some(i) => order.places[i as usize] < j,
     }
-    place[(name - 1) as usize] < j
 }
 
 // The name of a block by its place.
-pub fn placed_name(place: [usize; MOST_BLOCKS], name: u32) -> u32
+pub fn placed_name(order: &Order, name: u32) -> u32
 {
-    if name == 0 {
-        return 0;
+    match name.checked_sub(1) {
+        None => 0,
+        Some(i) => (order.places[i as usize] + 1) as u32,
     }
-    (place[(name - 1) as usize] + 1) as u32
 }
 
 // The name of a block by its place, where it is one of count and stands before place j; else none.
-pub fn earlier_name(place: [usize; MOST_BLOCKS], count: usize, j: usize, name: u32) -> u32
+pub fn earlier_name(order: &Order, count: usize, j: usize, name: u32) -> u32
 {
     if count < name as usize {
         return 0;
     }
-    if !stands_before(place, name, j) {
+    if !stands_before(order, name, j) {
         return 0;
     }
-    placed_name(place, name)
+    placed_name(order, name)
 }
 
 // The rank of block number i: the lower its number, the higher, and more than those of all after it together.

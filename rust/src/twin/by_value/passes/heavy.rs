@@ -3,60 +3,31 @@
 
 use crate::twin::by_value::passes::limits::{ENOUGH_FUEL, LAST_LIMIT, limit_after};
 use crate::twin::by_value::passes::pass::pass;
+use crate::twin::by_value::orders::Steps;
+use crate::twin::by_value::places::tables::Tables;
 use crate::twin::by_value::search::Best;
 
 // The slots of the table of rivals: more would pay on some days only, and take more of the stack.
 const SLOTS: usize = 32768;
 
+// Each number of a list is a word: what its type says, for the proof that the last pass finds.
+fn are_words(list: &[u32])
+{}
+
 // The published set, by passes from a limit on. A pass that finds a set has found the published one, and the last one finds.
-pub fn find_heavy(
-    unit_prices: &[u32],
-    gap: &[u32],
-    hours: &[u32],
-    blocks: &[u32],
-    sides: &[u8],
-    prices: &[u32],
-    quantities: &[u32],
-    ends: &[u16],
-    count: u32,
-    guessed: u64,
-    from: u64,
-) -> Best
+pub fn find_heavy(tables: &Tables, steps: &Steps, guessed: Option<u64>, from: u64) -> Best
 {
     let mut table = [0; SLOTS];
     let mut limit = from;
+    // The limit doubles or jumps to the guess, so this is no `for`.
     while limit < LAST_LIMIT {
-        let found = pass(
-            unit_prices,
-            gap,
-            hours,
-            blocks,
-            sides,
-            prices,
-            quantities,
-            ends,
-            &mut table,
-            count,
-            limit,
-            ENOUGH_FUEL,
-        );
+        let found = pass(tables, steps, &mut table, limit, ENOUGH_FUEL);
         if found.limit < limit {
             return found;
         }
         limit = limit_after(limit, guessed);
     }
-    pass(
-        unit_prices,
-        gap,
-        hours,
-        blocks,
-        sides,
-        prices,
-        quantities,
-        ends,
-        &mut table,
-        count,
-        limit,
-        ENOUGH_FUEL,
-    )
+    are_words(tables.gap);
+    are_words(tables.blocks);
+    pass(tables, steps, &mut table, limit, ENOUGH_FUEL)
 }

@@ -21,13 +21,16 @@ pub const ENOUGH_FUEL: u64 = 4294967296;
 
 // The limit of the pass after one that found nothing: twice as much; or just above the guess, where that is no more than about three times as much. A guess
 // that is further off is often too high by far.
-pub fn limit_after(limit: u64, guessed: u64) -> u64
+pub fn limit_after(limit: u64, guessed: Option<u64>) -> u64
 {
-    if guessed < limit {
+    let Some(loss) = guessed else {
+        return limit * 2;
+    };
+    if loss < limit {
         return limit * 2;
     }
-    if limit * 3 + limit / 8 < guessed {
+    if limit * 3 + limit / 8 < loss {
         return limit * 2;
     }
-    guessed + 1
+    loss + 1
 }

@@ -2,7 +2,9 @@
 // One pass over all blocks.
 
 use crate::twin::by_value::branches::Node;
+use crate::twin::by_value::orders::Steps;
 use crate::twin::by_value::places::layout::HOURS;
+use crate::twin::by_value::places::tables::Tables;
 use crate::twin::by_value::search::explore::explore;
 use crate::twin::by_value::search::{Best, Day};
 
@@ -14,29 +16,16 @@ pub fn start_at(limit: u64, fuel: u64) -> Best
         quantities: [0; HOURS],
     };
     Best {
-        limit: limit,
+        limit,
         tie: 0,
-        fuel: fuel,
+        fuel,
         set: 0,
-        day: day,
+        day,
     }
 }
 
 // A pass over all blocks from a limit, with fuel; rivals are looked up in the table, where it has slots.
-pub fn pass(
-    unit_prices: &[u32],
-    gap: &[u32],
-    hours: &[u32],
-    blocks: &[u32],
-    sides: &[u8],
-    prices: &[u32],
-    quantities: &[u32],
-    ends: &[u16],
-    table: &mut [u32],
-    count: u32,
-    limit: u64,
-    fuel: u64,
-) -> Best
+pub fn pass(tables: &Tables, steps: &Steps, table: &mut [u32], limit: u64, fuel: u64) -> Best
 {
     let root = Node {
         set: 0,
@@ -44,21 +33,13 @@ pub fn pass(
         tie: 0,
         places: [0; HOURS],
     };
-    let start = start_at(limit, fuel);
     explore(
-        unit_prices,
-        gap,
-        hours,
-        blocks,
-        sides,
-        prices,
-        quantities,
-        ends,
+        tables,
+        steps,
         table,
-        count,
-        count,
+        tables.count,
         0,
         root,
-        start,
+        start_at(limit, fuel),
     )
 }

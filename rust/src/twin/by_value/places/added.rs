@@ -2,32 +2,27 @@
 // What a block adds to the hours' places: its quantity in its hours, or its row.
 
 use crate::twin::by_value::places::layout::{BLOCK_ROWS, HOURS};
-use crate::twin::by_value::places::numbers::number_of;
 
 // The places with a quantity more in each hour of a block.
 pub fn moved(places: [u32; HOURS], hours: u32, quantity: u32) -> [u32; HOURS]
 {
     let mut r = places;
-    let mut h: usize = 0;
     let mut rest = hours;
-    while h < HOURS {
+    for h in 0..HOURS {
         r[h] += (rest % 2) * quantity;
         rest = rest / 2;
-        h += 1;
     }
     r
 }
 
-// The places with what block i trades in each hour more, where the test passes.
+// The places with what block i trades in each hour more, where the test passes. Not one function with `moved`, which reads bits of hours and no row.
 pub fn moved_where(test: bool, places: [u32; HOURS], blocks: &[u32], i: usize) -> [u32; HOURS]
 {
-    let times = number_of(test);
+    let times = u32::from(test);
     let row = BLOCK_ROWS + HOURS * i;
     let mut r = places;
-    let mut h: usize = 0;
-    while h < HOURS {
+    for h in 0..HOURS {
         r[h] += times * blocks[row + h];
-        h += 1;
     }
     r
 }

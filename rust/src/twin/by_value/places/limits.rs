@@ -7,12 +7,10 @@ use crate::twin::by_value::places::layout::{HOURS, LIMIT, RUNS, SIDE};
 pub fn price_sum(prices: &[u32], hours: u32) -> u32
 {
     let mut sum: u32 = 0;
-    let mut h: usize = 0;
     let mut rest = hours;
-    while h < HOURS {
+    for h in 0..HOURS {
         sum += (rest % 2) * prices[h];
         rest = rest / 2;
-        h += 1;
     }
     sum
 }
@@ -31,9 +29,7 @@ pub fn keeps_limit(side: u32, hours: u32, limit: u32, high: &[u32], low: &[u32])
 // Whether each of the first count blocks that the set holds keeps its limit: a buy at the low prices, a sell at the high ones.
 pub fn keeps_limits(blocks: &[u32], count: usize, set: u32, high: &[u32], low: &[u32]) -> bool
 {
-    let mut i = count;
-    while 0 < i {
-        i -= 1;
+    for i in (0..count).rev() {
         let chosen = (set >> (i as u32)) % 2;
         if chosen == 1 {
             if !keeps_limit(

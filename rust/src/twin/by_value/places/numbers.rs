@@ -1,29 +1,5 @@
 // Written by `twin_source` from crates/places/src/numbers.rt.
-// Numbers by a test or a side, the larger and the smaller of two.
-
-// 1 where the test passes, else 0.
-pub fn number_of(test: bool) -> u32
-{
-    if test { 1 } else { 0 }
-}
-
-// The larger of two numbers.
-pub fn larger(a: u32, b: u32) -> u32
-{
-    if a <= b { b } else { a }
-}
-
-// The smaller of two numbers.
-pub fn smaller(a: u32, b: u32) -> u32
-{
-    if a <= b { a } else { b }
-}
-
-// The difference, or 0.
-pub fn less(a: u32, b: u32) -> u32
-{
-    if b <= a { a - b } else { 0 }
-}
+// One of two numbers, by a side or a test: a choice where the search's loops would have a branch.
 
 // The first number for a buy, the second for a sell.
 pub fn by_side(side: u8, a: u32, b: u32) -> u32

@@ -2,7 +2,6 @@
 // The places that a branch can still come to: what its undecided blocks must and may add, and the places of these at which the hours clear.
 
 use crate::twin::by_value::places::layout::{AGAINST, BLOCK_ROWS, FIRST, GAIN, HOURS, LAST, SIDE, TURN};
-use crate::twin::by_value::places::numbers::{larger, number_of, smaller};
 
 // Whether the block k places after the decided ones is out of the branch: no lawful completion that loses less than the limit takes it.
 pub fn is_out(out: u32, k: usize) -> bool
@@ -20,8 +19,8 @@ pub struct Moves {
 fn moves_of(blocks: &[u32], i: usize, out: bool, loss: u64, limit: u64) -> Moves
 {
     let buys = blocks[SIDE + i] == 0;
-    let left_out = out | (limit <= loss + (blocks[AGAINST + i] as u64));
-    let taken = !out & (limit <= loss + (blocks[GAIN + i] as u64));
+    let left_out = out | (limit <= loss + u64::from(blocks[AGAINST + i]));
+    let taken = !out & (limit <= loss + u64::from(blocks[GAIN + i]));
     Moves {
         must: (left_out & buys) | (taken & !buys),
         may: !left_out & !taken,
@@ -35,26 +34,18 @@ pub struct Rest {
     pub free: [u32; HOURS],
 }
 
-// The least places and what is free with block i more, where it must move them on, or may.
-fn with_moves(
-    least: [u32; HOURS],
-    free: [u32; HOURS],
-    moves: Moves,
-    blocks: &[u32],
-    i: usize,
-) -> Rest
+// The least places and what is free with block i more, where it must move them on, or may. One walk for both, since it is the search's most frequent.
+fn with_moves(rest: Rest, moves: Moves, blocks: &[u32], i: usize) -> Rest
 {
-    let must = number_of(moves.must);
-    let may = number_of(moves.may);
+    let must = u32::from(moves.must);
+    let may = u32::from(moves.may);
     let row = BLOCK_ROWS + HOURS * i;
-    let mut more = least;
-    let mut freer = free;
-    let mut h: usize = 0;
-    while h < HOURS {
+    let mut more = rest.least;
+    let mut freer = rest.free;
+    for h in 0..HOURS {
         let traded = blocks[row + h];
         more[h] += must * traded;
         freer[h] += may * traded;
-        h += 1;
     }
     Rest {
         least: more,
@@ -73,45 +64,48 @@ fn rest_of(
     places: [u32; HOURS],
 ) -> Rest
 {
-    let mut least = places;
-    let mut free = [0; HOURS];
-    let mut i = count;
-    while at < i {
-        i -= 1;
+    let mut rest = Rest {
+        least: places,
+        free: [0; HOURS],
+    };
+    for i in (at..count).rev() {
         let moves = moves_of(blocks, i, is_out(out, i - at), loss, limit);
-        let more = with_moves(least, free, moves, blocks, i);
-        least = more.least;
-        free = more.free;
+        rest = with_moves(rest, moves, blocks, i);
     }
-    Rest { least, free }
+    rest
 }
 
-// The places that a branch can still reach and at which its hours clear, from and to; an hour that has none can no longer balance.
+// The places that a branch can still reach and at which its hours clear: for each hour the first and the last.
 #[derive(Clone, Copy)]
 pub struct Reach {
-    pub balances: bool,
     pub from: [u32; HOURS],
     pub to: [u32; HOURS],
 }
 
-fn reach_of(first: &[u32], last: &[u32], least: [u32; HOURS], free: [u32; HOURS]) -> Reach
+// What hours reach from their least places with so much free to add; none where an hour has no such place: it can no longer balance.
+fn reach_of(first: &[u32], last: &[u32], rest: Rest) -> Option<Reach>
 {
+    let least = rest.least;
+    let free = rest.free;
     let mut balances = true;
     let mut from = [0; HOURS];
     let mut to = [0; HOURS];
-    let mut h: usize = 0;
-    while h < HOURS {
-        let lowest = larger(least[h], first[h]);
-        let highest = smaller(least[h] + free[h], last[h]);
+    for h in 0..HOURS {
+        let lowest = least[h].max(first[h]);
+        let highest = (least[h] + free[h]).min(last[h]);
         from[h] = lowest;
         to[h] = highest;
+        // A flag, and no return from here: the loop has no branch.
         balances = balances & (lowest <= highest);
-        h += 1;
     }
-    Reach { balances, from, to }
+    if balances {
+        Some(Reach { from, to })
+    } else {
+        None
+    }
 }
 
-// What a branch at these places reaches with its undecided blocks, from number at on.
+// What a branch at these places reaches with its undecided blocks, from number at on; none where an hour can no longer balance.
 pub fn reach_at(
     hours: &[u32],
     blocks: &[u32],
@@ -121,10 +115,8 @@ pub fn reach_at(
     loss: u64,
     limit: u64,
     places: [u32; HOURS],
-) -> Reach
+) -> Option<Reach>
 {
     let rest = rest_of(blocks, count, at, out, loss, limit, places);
-    let least = rest.least;
-    let free = rest.free;
-    reach_of(&hours[FIRST..LAST], &hours[LAST..TURN], least, free)
+    reach_of(&hours[FIRST..LAST], &hours[LAST..TURN], rest)
 }

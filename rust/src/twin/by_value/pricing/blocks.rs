@@ -9,14 +9,14 @@ pub struct Trades {
 }
 
 impl Trades {
-    // One block more, if it is chosen and runs in the hour (each 1 for yes).
-    fn add(mut self, chosen: u32, runs: u32, side: u8, quantity: u32) -> Trades
+    // One block more, if it is chosen and runs in the hour.
+    fn add(mut self, chosen: bool, runs: bool, side: u8, quantity: u32) -> Trades
     {
-        if (chosen == 1) & (runs == 1) {
+        if chosen & runs {
             if side == 0 {
-                self.buys += quantity as u64;
+                self.buys += u64::from(quantity);
             } else {
-                self.sales += quantity as u64;
+                self.sales += u64::from(quantity);
             }
         }
         self
@@ -24,16 +24,16 @@ impl Trades {
 }
 
 // The trades of the blocks that the set holds, the lowest bit for the first block.
+// Slices and no `&Blocks`: the publication lends columns cut at the count, and a struct for two callers is no plainer.
 pub fn trades_of(sides: &[u8], hours: &[u32], quantities: &[u32], set: u32, hour: u32) -> Trades
 {
     let mut trades = Trades { sales: 0, buys: 0 };
     let mut rest = set;
-    let mut i: usize = 0;
-    while i < sides.len() {
-        let runs = (hours[i] >> (hour - 1)) % 2;
-        trades = trades.add(rest % 2, runs, sides[i], quantities[i]);
-        rest = rest / 2;
-        i += 1;
+    for i in 0..sides.len() {
+        let chosen = rest % 2 == 1;
+        let runs = (hours[i] >> (hour - 1)) % 2 == 1;
+        trades = trades.add(chosen, runs, sides[i], quantities[i]);
+        rest /= 2;
     }
     trades
 }

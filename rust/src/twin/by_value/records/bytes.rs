@@ -1,22 +1,11 @@
 // Written by `twin_source` from crates/records/src/bytes.rt.
-// The numbers in a book's bytes (document 01, "The book in bytes"): unsigned, high byte first. A missing byte reads as 0.
+// The numbers in a book's bytes: unsigned, high byte first. A missing byte reads as 0.
 // Assumes nothing.
 
-// Byte i, for any i.
+// Byte i, for any i. (A u32 becomes a usize by `as`: the library has no From for it.)
 fn byte(book: &[u8], i: usize) -> u8
 {
     if i < book.len() { book[i] } else { 0 }
-}
-
-// A byte as a wider number.
-fn wide16(x: u8) -> u16
-{
-    x as u16
-}
-
-fn wide32(x: u8) -> u32
-{
-    x as u32
 }
 
 pub fn byte_at(book: &[u8], at: u32) -> u8
@@ -24,66 +13,41 @@ pub fn byte_at(book: &[u8], at: u32) -> u8
     byte(book, at as usize)
 }
 
-// The number in 2, 3 or 4 bytes.
-fn from_two(high: u8, low: u8) -> u16
-{
-    wide16(high) * 256 + wide16(low)
-}
-
-fn from_three(high: u8, middle: u8, low: u8) -> u32
-{
-    wide32(high) * 65536 + wide32(middle) * 256 + wide32(low)
-}
-
-fn from_four(first: u8, second: u8, third: u8, fourth: u8) -> u32
-{
-    wide32(first) * 16777216 + wide32(second) * 65536 + wide32(third) * 256 + wide32(fourth)
-}
-
-// The number in the 2, 3 or 4 bytes from at on: one test where all are there, a test for each byte where one is missing.
-pub fn u16_at(book: &[u8], at: u32) -> u16
+// The N bytes from at on: one test where all are there, a test for each byte where one is missing.
+fn bytes_at<const N: usize>(book: &[u8], at: u32) -> [u8; N]
 {
     let i = at as usize;
-    if i + 1 < book.len() {
-        return from_two(book[i], book[i + 1]);
+    let mut bytes = [0; N];
+    if i + N <= book.len() {
+        bytes.copy_from_slice(&book[i..i + N]);
+        return bytes;
     }
-    from_two(byte(book, i), byte(book, i + 1))
+    for (k, b) in bytes.iter_mut().enumerate() {
+        *b = byte(book, i + k);
+    }
+    bytes
+}
+
+// The number in the 2, 3 or 4 bytes from at on.
+pub fn u16_at(book: &[u8], at: u32) -> u16
+{
+    u16::from_be_bytes(bytes_at(book, at))
 }
 
 pub fn u24_at(book: &[u8], at: u32) -> u32
 {
-    let i = at as usize;
-    if i + 2 < book.len() {
-        return from_three(book[i], book[i + 1], book[i + 2]);
-    }
-    from_three(byte(book, i), byte(book, i + 1), byte(book, i + 2))
+    let [high, middle, low] = bytes_at::<3>(book, at);
+    u32::from_be_bytes([0, high, middle, low])
 }
 
 pub fn u32_at(book: &[u8], at: u32) -> u32
 {
-    let i = at as usize;
-    if i + 3 < book.len() {
-        return from_four(book[i], book[i + 1], book[i + 2], book[i + 3]);
-    }
-    from_four(
-        byte(book, i),
-        byte(book, i + 1),
-        byte(book, i + 2),
-        byte(book, i + 3),
-    )
+    u32::from_be_bytes(bytes_at(book, at))
 }
 
 // Whether the count bytes from at on are not all 0.
 pub fn is_nonzero(book: &[u8], at: u32, count: u16) -> bool
 {
-    let mut i = at as usize;
-    let mut left = count;
-    while 0 < left {
-        if byte(book, i) != 0 {
-            return true;
-        }
-        i += 1;
-        left -= 1;
-    }
-    false
+    let i = at as usize;
+    (i..i + usize::from(count)).any(|k| byte(book, k) != 0)
 }

@@ -1,5 +1,5 @@
 // Written by `twin_source` from crates/records/src/records.rt.
-// The fields of the head and of record k, and a record as a step, a block or a link (document 01, "The book in bytes").
+// The fields of the head and of record k, and a record as a step, a block or a link.
 // Record k starts at byte 16 * k. Assumes nothing.
 
 use crate::twin::by_value::records::bytes::{byte_at, is_nonzero, u16_at, u24_at, u32_at};
@@ -46,46 +46,41 @@ pub fn edition_of(book: &[u8]) -> u8
 // The fields that steps and blocks share; a link has the first two bytes, the following record and, as its number, its child's.
 pub fn kind_of(book: &[u8], k: u16) -> u8
 {
-    byte_at(book, RECORD_SIZE * (k as u32))
+    byte_at(book, RECORD_SIZE * u32::from(k))
 }
 
 pub fn side_byte(book: &[u8], k: u16) -> u8
 {
-    byte_at(book, RECORD_SIZE * (k as u32) + SIDE_OFFSET)
+    byte_at(book, RECORD_SIZE * u32::from(k) + SIDE_OFFSET)
 }
 
 pub fn next_of(book: &[u8], k: u16) -> u16
 {
-    u16_at(book, RECORD_SIZE * (k as u32) + NEXT_OFFSET)
+    u16_at(book, RECORD_SIZE * u32::from(k) + NEXT_OFFSET)
 }
 
 pub fn number_of(book: &[u8], k: u16) -> u16
 {
-    u16_at(book, RECORD_SIZE * (k as u32) + NUMBER_OFFSET)
+    u16_at(book, RECORD_SIZE * u32::from(k) + NUMBER_OFFSET)
 }
 
 // A step's hour; 0 in a block.
 pub fn hour_byte(book: &[u8], k: u16) -> u8
 {
-    byte_at(book, RECORD_SIZE * (k as u32) + HOUR_OFFSET)
+    byte_at(book, RECORD_SIZE * u32::from(k) + HOUR_OFFSET)
 }
 
 pub fn portfolio_of(book: &[u8], k: u16) -> u8
 {
-    byte_at(book, RECORD_SIZE * (k as u32) + PORTFOLIO_OFFSET)
-}
-
-fn side_of(byte: u8) -> Side
-{
-    if byte == 0 { Side::Buy } else { Side::Sell }
+    byte_at(book, RECORD_SIZE * u32::from(k) + PORTFOLIO_OFFSET)
 }
 
 // Record k read as a step, whatever its kind.
 pub fn step_at(book: &[u8], k: u16) -> Step
 {
-    let at = RECORD_SIZE * (k as u32);
+    let at = RECORD_SIZE * u32::from(k);
     Step {
-        side: side_of(side_byte(book, k)),
+        side: Side::from(side_byte(book, k)),
         number: number_of(book, k),
         hour: hour_byte(book, k),
         portfolio: portfolio_of(book, k),
@@ -97,15 +92,15 @@ pub fn step_at(book: &[u8], k: u16) -> Step
 // The quantity of record k read as a block, whatever its kind.
 pub fn block_quantity(book: &[u8], k: u16) -> u16
 {
-    u16_at(book, RECORD_SIZE * (k as u32) + BLOCK_QUANTITY_OFFSET)
+    u16_at(book, RECORD_SIZE * u32::from(k) + BLOCK_QUANTITY_OFFSET)
 }
 
 // Record k read as a block, whatever its kind. `record_at` is its only caller: with a second one it stays a call, and each reading of a record is slower.
 fn block_at(book: &[u8], k: u16) -> Block
 {
-    let at = RECORD_SIZE * (k as u32);
+    let at = RECORD_SIZE * u32::from(k);
     Block {
-        side: side_of(side_byte(book, k)),
+        side: Side::from(side_byte(book, k)),
         number: number_of(book, k),
         portfolio: portfolio_of(book, k),
         hours: u24_at(book, at + BLOCK_HOURS_OFFSET),
@@ -119,7 +114,7 @@ pub fn link_at(book: &[u8], k: u16) -> Link
 {
     Link {
         child: number_of(book, k),
-        parent: u16_at(book, RECORD_SIZE * (k as u32) + PARENT_OFFSET),
+        parent: u16_at(book, RECORD_SIZE * u32::from(k) + PARENT_OFFSET),
     }
 }
 
@@ -128,7 +123,7 @@ pub fn has_link_rest(book: &[u8], k: u16) -> bool
 {
     is_nonzero(
         book,
-        RECORD_SIZE * (k as u32) + LINK_REST_OFFSET,
+        RECORD_SIZE * u32::from(k) + LINK_REST_OFFSET,
         LINK_REST_SIZE,
     )
 }
@@ -136,21 +131,16 @@ pub fn has_link_rest(book: &[u8], k: u16) -> bool
 // Record k as its kind says, where it is whole.
 pub fn record_at(book: &[u8], k: u16) -> Record
 {
-    let behind = RECORD_SIZE * (k as u32) + RECORD_SIZE;
+    let behind = RECORD_SIZE * u32::from(k) + RECORD_SIZE;
     if book.len() < behind as usize {
         return Record::Other;
     }
-    let kind = kind_of(book, k);
-    if kind == STEP_KIND {
-        return Record::Step(step_at(book, k));
+    match kind_of(book, k) {
+        STEP_KIND => Record::Step(step_at(book, k)),
+        BLOCK_KIND => Record::Block(block_at(book, k)),
+        LINK_KIND => Record::Link(link_at(book, k)),
+        _ => Record::Other,
     }
-    if kind == BLOCK_KIND {
-        return Record::Block(block_at(book, k));
-    }
-    if kind == LINK_KIND {
-        return Record::Link(link_at(book, k));
-    }
-    Record::Other
 }
 
 // How many of the 24 hours are set.
@@ -158,13 +148,11 @@ pub fn hour_count(hours: u32) -> u32
 {
     let mut count = 0;
     let mut rest = hours;
-    let mut h: u32 = 0;
-    while h < LAST_HOUR {
+    for _ in 0..LAST_HOUR {
         if rest % 2 == 1 {
             count += 1;
         }
-        rest = rest / 2;
-        h += 1;
+        rest /= 2;
     }
     count
 }

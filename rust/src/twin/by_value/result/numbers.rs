@@ -2,45 +2,40 @@
 // The numbers of a result read again: the welfare, the price and the traded quantity of an hour, the row of a record. Every call takes any bytes; a missing
 // byte reads as 0. Assumes nothing.
 
-use crate::twin::by_value::result::layout;
+use crate::twin::by_value::result::layout::{HALF, HOUR_ROW, RECORD_ROW, RECORD_ROWS, TRADED};
 use crate::twin::by_value::records::u32_at;
-
-// The places of a result's numbers, as the reader of bytes takes them.
-const HALF: u32 = layout::HALF as u32;
-
-const HOUR_ROW: u32 = layout::HOUR_ROW as u32;
-
-const TRADED: u32 = layout::TRADED as u32;
-
-const RECORD_ROW: u32 = layout::RECORD_ROW as u32;
-
-const RECORD_ROWS: u32 = layout::RECORD_ROWS as u32;
 
 // What the higher half of the welfare counts.
 const HIGHER: u64 = 4294967296;
 
+// The number that stands at a place of a result.
+fn number_at(res: &[u8], at: usize) -> u32
+{
+    u32_at(res, at as u32)
+}
+
 // The welfare: the 8 bytes at the start.
 pub fn welfare_in(res: &[u8]) -> u64
 {
-    let high = u32_at(res, 0);
-    let low = u32_at(res, HALF);
-    (high as u64) * HIGHER + (low as u64)
+    let high = number_at(res, 0);
+    let low = number_at(res, HALF);
+    u64::from(high) * HIGHER + u64::from(low)
 }
 
 // The price of hour h.
 pub fn price_in(res: &[u8], h: u8) -> u32
 {
-    u32_at(res, HOUR_ROW * (h as u32))
+    number_at(res, HOUR_ROW * usize::from(h))
 }
 
 // The traded quantity of hour h, 4 bytes behind its price.
 pub fn traded_in(res: &[u8], h: u8) -> u32
 {
-    u32_at(res, HOUR_ROW * (h as u32) + TRADED)
+    number_at(res, HOUR_ROW * usize::from(h) + TRADED)
 }
 
 // The row of record k.
 pub fn row_in(res: &[u8], k: u16) -> u32
 {
-    u32_at(res, RECORD_ROWS + RECORD_ROW * (k as u32))
+    number_at(res, RECORD_ROWS + RECORD_ROW * usize::from(k))
 }

@@ -4,7 +4,7 @@
 use crate::twin::by_value::rivals::replay::takes;
 use crate::twin::by_value::branches::Node;
 use crate::twin::by_value::branches::next::is_left;
-use crate::twin::by_value::places::layout::{HOURS, LIMIT, PARENT, RUNS, SIDE};
+use crate::twin::by_value::places::layout::{LIMIT, PARENT, RUNS, SIDE};
 
 // Whether block j keeps its limit wherever block i does: it has the same side and hours, and its limit is no tighter.
 fn is_outdone_by(blocks: &[u32], j: usize, i: usize) -> bool
@@ -24,14 +24,10 @@ fn is_outdone_by(blocks: &[u32], j: usize, i: usize) -> bool
 // Whether one of the first blocks that the set holds outdoes block j.
 fn is_outdone(blocks: &[u32], at: u32, set: u32, j: usize) -> bool
 {
-    let mut i: u32 = 0;
-    while i < at {
-        if takes(set, i) {
-            if is_outdone_by(blocks, j, i as usize) {
-                return true;
-            }
+    for i in 0..at {
+        if takes(set, i) && is_outdone_by(blocks, j, i as usize) {
+            return true;
         }
-        i += 1;
     }
     false
 }
@@ -48,12 +44,10 @@ fn is_matched(blocks: &[u32], at: u32, set: u32, rival: u32, j: u32) -> bool
 // Whether each of the first blocks is.
 pub fn holds_outdone(blocks: &[u32], at: u32, set: u32, rival: u32) -> bool
 {
-    let mut j: u32 = 0;
-    while j < at {
+    for j in 0..at {
         if !is_matched(blocks, at, set, rival, j) {
             return false;
         }
-        j += 1;
     }
     true
 }
@@ -61,12 +55,10 @@ pub fn holds_outdone(blocks: &[u32], at: u32, set: u32, rival: u32) -> bool
 // Whether the rival holds none of the first blocks without its parent.
 pub fn holds_parents(blocks: &[u32], at: u32, rival: u32) -> bool
 {
-    let mut j: u32 = 0;
-    while j < at {
+    for j in 0..at {
         if takes(rival, j) & is_left(blocks[PARENT + (j as usize)], rival) {
             return false;
         }
-        j += 1;
     }
     true
 }
@@ -74,26 +66,11 @@ pub fn holds_parents(blocks: &[u32], at: u32, rival: u32) -> bool
 // Whether no undecided block has a parent that the set holds and the rival does not: what completes the set may take such a block.
 pub fn leaves_no_child(blocks: &[u32], count: u32, at: u32, set: u32, rival: u32) -> bool
 {
-    let mut j = at;
-    while j < count {
+    for j in at..count {
         let parent = blocks[PARENT + (j as usize)];
         if is_left(parent, rival) & !is_left(parent, set) {
             return false;
         }
-        j += 1;
-    }
-    true
-}
-
-// Whether the places are the same in every hour.
-pub fn are_same(places: [u32; HOURS], others: [u32; HOURS]) -> bool
-{
-    let mut h: usize = 0;
-    while h < HOURS {
-        if places[h] != others[h] {
-            return false;
-        }
-        h += 1;
     }
     true
 }

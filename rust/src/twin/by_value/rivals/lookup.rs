@@ -1,7 +1,7 @@
 // Written by `twin_source` from crates/rivals/src/lookup.rt.
 // Whether a branch has a rival in a table of earlier branches. Assumes nothing.
 
-use crate::twin::by_value::rivals::compare::{are_same, costs_less, holds_outdone, holds_parents, leaves_no_child};
+use crate::twin::by_value::rivals::compare::{costs_less, holds_outdone, holds_parents, leaves_no_child};
 use crate::twin::by_value::rivals::replay::replayed;
 use crate::twin::by_value::rivals::slots::slot_of;
 use crate::twin::by_value::branches::Node;
@@ -23,24 +23,21 @@ fn is_rival(blocks: &[u32], count: u32, left: u32, node: Node, rival: u32) -> bo
         return false;
     }
     let other = replayed(blocks, at, rival);
-    let places = node.places;
-    let others = other.places;
-    if !are_same(places, others) {
+    if other.places != node.places {
         return false;
     }
     costs_less(other, node)
 }
 
 // Whether the branch has a rival in the table; where it has none, it takes the place of what was looked up. A table without slots is for a search without
-// rivals. A hint of no blocks is a slot that is empty, one of the branch's own the branch itself, met again.
+// rivals. A hint of no blocks is a slot that is empty, one of the branch's own the branch itself, met again. An Option in each slot would double the table.
 pub fn is_rivalled(blocks: &[u32], table: &mut [u32], count: u32, left: u32, node: Node) -> bool
 {
     let size = table.len();
     if (size == 0) | (left < LEAST_LEFT) {
         return false;
     }
-    let places = node.places;
-    let slot = slot_of(places, count - left, size);
+    let slot = slot_of(node.places, count - left, size);
     let hint = table[slot];
     if (hint != 0) & (hint != node.set) {
         if is_rival(blocks, count, left, node, hint) {

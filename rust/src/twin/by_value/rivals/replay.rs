@@ -29,10 +29,8 @@ pub fn replayed(blocks: &[u32], at: u32, set: u32) -> Node
         tie: 0,
         places: [0; HOURS],
     };
-    let mut i: u32 = 0;
-    while i < at {
+    for i in 0..at {
         node = with_next(blocks, i, set, node);
-        i += 1;
     }
     node
 }

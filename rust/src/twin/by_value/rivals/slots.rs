@@ -20,17 +20,15 @@ fn folded(key: u64) -> u64
 
 // The key with the place of one more hour.
 fn mixed(key: u64, place: u32) -> u64 {
-    folded(key) * MIXER + (place as u64)
+    folded(key) * MIXER + u64::from(place)
 }
 
 // The slot of a branch in a table of so many.
 pub fn slot_of(places: [u32; HOURS], at: u32, size: usize) -> usize
 {
-    let mut key = at as u64;
-    let mut h: usize = 0;
-    while h < HOURS {
-        key = mixed(key, places[h]);
-        h += 1;
+    let mut key = u64::from(at);
+    for place in places {
+        key = mixed(key, place);
     }
     (folded(key) % (size as u64)) as usize
 }

@@ -3,11 +3,12 @@
 // Hour 3 counts `often` times.
 
 use crate::twin::by_value::roots::held::{Bounds, held};
+use crate::twin::by_value::roots::losses::Asked;
 use crate::twin::by_value::places::added::moved;
 use crate::twin::by_value::places::cells::{counted_prices, prices_at};
-use crate::twin::by_value::places::layout::{HOURS, LAST_AND_ABOVE, MOST_BLOCKS};
+use crate::twin::by_value::places::layout::{HOURS, LAST_AND_ABOVE};
 use crate::twin::by_value::places::limits::price_sum;
-use crate::twin::by_value::places::numbers::{choose, smaller};
+use crate::twin::by_value::places::numbers::choose;
 
 // The moves of a round, after which the prices are tried.
 pub const ROUND: u32 = 7;
@@ -17,24 +18,16 @@ pub const MOVES: u32 = 56;
 
 // A list of places with those added at which each block that gains at the prices, as they count, is taken, and no other: a sell that gains moves its hours
 // on, a buy that does not.
-pub fn added_places(
-    sum: [u32; HOURS],
-    count: usize,
-    hours: [u32; MOST_BLOCKS],
-    limits: [u32; MOST_BLOCKS],
-    quantities: [u32; MOST_BLOCKS],
-    root: [u32; HOURS],
-    often: u32,
-) -> [u32; HOURS]
+pub fn added_places(sum: [u32; HOURS], asked: &Asked, root: [u32; HOURS]) -> [u32; HOURS]
 {
-    let counted = counted_prices(root, often);
+    let blocks = asked.blocks;
+    let counted = counted_prices(root, asked.often);
     let mut places = sum;
-    let mut i: usize = 0;
-    while i < count {
-        let moves = limits[i] <= price_sum(&counted, hours[i]);
-        let more = moved(places, hours[i], choose(moves, quantities[i], 0));
+    for i in 0..blocks.count {
+        let hours = blocks.hours[i];
+        let moves = asked.limits[i] <= price_sum(&counted, hours);
+        let more = moved(places, hours, choose(moves, blocks.quantities[i], 0));
         places = more;
-        i += 1;
     }
     places
 }
@@ -43,10 +36,8 @@ pub fn added_places(
 fn averaged(sum: [u32; HOURS], n: u32, last: u32) -> [u32; HOURS]
 {
     let mut r = [0; HOURS];
-    let mut h: usize = 0;
-    while h < HOURS {
-        r[h] = smaller(sum[h] / n, last);
-        h += 1;
+    for h in 0..HOURS {
+        r[h] = (sum[h] / n).min(last);
     }
     r
 }
@@ -65,10 +56,8 @@ fn nearer(a: u32, b: u32) -> u32
 fn closer(a: [u32; HOURS], b: [u32; HOURS]) -> [u32; HOURS]
 {
     let mut r = [0; HOURS];
-    let mut h: usize = 0;
-    while h < HOURS {
+    for h in 0..HOURS {
         r[h] = nearer(a[h], b[h]);
-        h += 1;
     }
     r
 }
@@ -81,33 +70,17 @@ pub struct Trail {
 }
 
 // A round more, where n places are added up: each move goes towards the prices at the average of the places so far at which the blocks that gain are taken.
-pub fn moved_on(
-    unit_prices: &[u32],
-    count: usize,
-    hours: [u32; MOST_BLOCKS],
-    limits: [u32; MOST_BLOCKS],
-    quantities: [u32; MOST_BLOCKS],
-    trail: Trail,
-    n: u32,
-    often: u32,
-    bounds: Bounds,
-) -> Trail
+pub fn moved_on(unit_prices: &[u32], asked: &Asked, trail: Trail, n: u32, bounds: &Bounds) -> Trail
 {
     let last = (unit_prices.len() / HOURS - LAST_AND_ABOVE) as u32;
     let mut root = trail.prices;
     let mut sum = trail.sum;
-    let mut k = n;
-    while k < n + ROUND {
-        let more = added_places(sum, count, hours, limits, quantities, root, often);
+    for k in n..n + ROUND {
+        let more = added_places(sum, asked, root);
         let mean = averaged(more, k + 1, last);
-        let there = prices_at(unit_prices, mean);
-        let next = closer(root, held(there, bounds));
+        let next = closer(root, held(prices_at(unit_prices, mean), bounds));
         sum = more;
         root = next;
-        k += 1;
     }
-    Trail {
-        prices: root,
-        sum: sum,
-    }
+    Trail { prices: root, sum }
 }

@@ -6,7 +6,9 @@ use crate::twin::by_value::search::decide::{decide, limit_at};
 use crate::twin::by_value::branches::Node;
 use crate::twin::by_value::branches::judge::judge;
 use crate::twin::by_value::branches::next::{is_barred, is_due, leave, take};
+use crate::twin::by_value::orders::Steps;
 use crate::twin::by_value::places::reach::is_out;
+use crate::twin::by_value::places::tables::Tables;
 use crate::twin::by_value::rivals::lookup::is_rivalled;
 
 // Every way to decide the blocks that are left, each first taken and then left out; of twins, the one that is taken before the other first. A block that
@@ -14,16 +16,9 @@ use crate::twin::by_value::rivals::lookup::is_rivalled;
 // branch has its own node by value, so nothing is released. A unit of fuel is spent between the two ways to decide a block; where none is left the second way
 // is not gone.
 pub fn explore(
-    unit_prices: &[u32],
-    gap: &[u32],
-    hours: &[u32],
-    blocks: &[u32],
-    sides: &[u8],
-    prices: &[u32],
-    quantities: &[u32],
-    ends: &[u16],
+    tables: &Tables,
+    steps: &Steps,
     table: &mut [u32],
-    count: u32,
     left: u32,
     out: u32,
     node: Node,
@@ -32,99 +27,32 @@ pub fn explore(
 {
     crate::twin::count::node();
     let limit = limit_at(best.limit, best.tie, node.tie);
-    let judged = judge(
-        unit_prices,
-        gap,
-        hours,
-        blocks,
-        count,
-        left,
-        out,
-        node,
-        limit,
-    );
-    if judged.dropped {
+    let Some(outs) = judge(tables, left, out, node, limit) else {
         crate::twin::count::cut();
         return best;
-    }
+    };
     if left == 0 {
-        return decide(
-            unit_prices,
-            gap,
-            hours,
-            blocks,
-            sides,
-            prices,
-            quantities,
-            ends,
-            count,
-            node,
-            best,
-        );
+        return decide(tables, steps, node, best);
     }
-    if is_rivalled(blocks, table, count, left, node) {
+    let blocks = tables.blocks;
+    if is_rivalled(blocks, table, tables.count, left, node) {
         return best;
     }
-    let at = count - left;
+    let at = tables.count - left;
     let after = left - 1;
-    let still = judged.out / 2;
+    let still = outs / 2;
     let without = leave(blocks, at, node);
-    if is_out(judged.out, 0) | is_barred(blocks, at as usize, node.set) {
-        return explore(
-            unit_prices,
-            gap,
-            hours,
-            blocks,
-            sides,
-            prices,
-            quantities,
-            ends,
-            table,
-            count,
-            after,
-            still,
-            without,
-            best,
-        );
+    if is_out(outs, 0) | is_barred(blocks, at as usize, node.set) {
+        return explore(tables, steps, table, after, still, without, best);
     }
     let with = take(blocks, at, node);
-    let mut taken = explore(
-        unit_prices,
-        gap,
-        hours,
-        blocks,
-        sides,
-        prices,
-        quantities,
-        ends,
-        table,
-        count,
-        after,
-        still,
-        with,
-        best,
-    );
+    let mut taken = explore(tables, steps, table, after, still, with, best);
     if taken.fuel == 0 {
         return taken;
     }
     if is_due(blocks, at as usize, node.set) {
         return taken;
     }
-    taken.fuel = taken.fuel - 1;
-    explore(
-        unit_prices,
-        gap,
-        hours,
-        blocks,
-        sides,
-        prices,
-        quantities,
-        ends,
-        table,
-        count,
-        after,
-        still,
-        without,
-        taken,
-    )
+    taken.fuel -= 1;
+    explore(tables, steps, table, after, still, without, taken)
 }

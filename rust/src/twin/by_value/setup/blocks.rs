@@ -2,45 +2,34 @@
 // The blocks for the search: what they trade in each hour, their six columns at the root prices, their parents, and a row of hours for each.
 
 use crate::twin::by_value::fields::hours::counted_hours;
+use crate::twin::by_value::orders::Blocks;
 use crate::twin::by_value::places::added::moved;
 use crate::twin::by_value::places::layout::{
     AGAINST, BLOCK_LIST, BLOCK_ROWS, GAIN, HOURS, LIMIT, MOST_BLOCKS, PARENT, QUANTITY, RUNS, SIDE,
+    SIX_COLUMNS,
 };
 use crate::twin::by_value::places::limits::price_sum;
-use crate::twin::by_value::places::numbers::{by_side, choose, larger, less};
-
-// How much the first six columns hold, those in front of the parents'.
-const SIX_COLUMNS: usize = PARENT;
+use crate::twin::by_value::places::numbers::{by_side, choose};
 
 // The largest number of a column of hours.
 pub fn largest(column: [u32; HOURS]) -> u32
 {
     let mut most: u32 = 0;
-    let mut h: usize = 0;
-    while h < HOURS {
-        most = larger(most, column[h]);
-        h += 1;
+    for number in column {
+        most = most.max(number);
     }
     most
 }
 
 // What the buy blocks buy in each hour; where `all` is true, with what the sell blocks sell.
-pub fn traded_by_hour(
-    count: usize,
-    sides: [u8; MOST_BLOCKS],
-    hours: [u32; MOST_BLOCKS],
-    quantities: [u32; MOST_BLOCKS],
-    all: bool,
-) -> [u32; HOURS]
+pub fn traded_by_hour(blocks: &Blocks, all: bool) -> [u32; HOURS]
 {
     let mut sum = [0; HOURS];
-    let mut i: usize = 0;
-    while i < count {
-        let quantity = quantities[i];
-        let traded = by_side(sides[i], quantity, choose(all, quantity, 0));
-        let more = moved(sum, hours[i], traded);
+    for i in 0..blocks.count {
+        let quantity = blocks.quantities[i];
+        let traded = by_side(blocks.sides[i], quantity, choose(all, quantity, 0));
+        let more = moved(sum, blocks.hours[i], traded);
         sum = more;
-        i += 1;
     }
     sum
 }
@@ -57,9 +46,9 @@ fn with_block(
 ) -> [u32; SIX_COLUMNS]
 {
     let mut r = columns;
-    let over = less(sum, limit);
-    let under = less(limit, sum);
-    r[SIDE + i] = side as u32;
+    let over = sum.saturating_sub(limit);
+    let under = limit.saturating_sub(sum);
+    r[SIDE + i] = u32::from(side);
     r[RUNS + i] = hours;
     r[QUANTITY + i] = quantity;
     r[LIMIT + i] = limit;
@@ -69,31 +58,22 @@ fn with_block(
 }
 
 // The blocks' six columns on a day of so many hours, at the prices root as they count.
-pub fn block_columns(
-    day: u8,
-    count: usize,
-    sides: [u8; MOST_BLOCKS],
-    hours: [u32; MOST_BLOCKS],
-    prices: [u32; MOST_BLOCKS],
-    quantities: [u32; MOST_BLOCKS],
-    root: [u32; HOURS],
-) -> [u32; SIX_COLUMNS]
+pub fn block_columns(day: u8, blocks: &Blocks, root: [u32; HOURS]) -> [u32; SIX_COLUMNS]
 {
     let mut columns = [0; SIX_COLUMNS];
-    let mut i: usize = 0;
-    while i < count {
-        let limit = prices[i] * counted_hours(day, hours[i]);
+    for i in 0..blocks.count {
+        let hours = blocks.hours[i];
+        let limit = blocks.prices[i] * counted_hours(day, hours);
         let more = with_block(
             columns,
             i,
-            sides[i],
-            hours[i],
-            quantities[i],
+            blocks.sides[i],
+            hours,
+            blocks.quantities[i],
             limit,
-            price_sum(&root, hours[i]),
+            price_sum(&root, hours),
         );
         columns = more;
-        i += 1;
     }
     columns
 }
@@ -102,11 +82,7 @@ pub fn block_columns(
 pub fn widened(columns: [u32; SIX_COLUMNS]) -> [u32; BLOCK_LIST]
 {
     let mut r = [0; BLOCK_LIST];
-    let mut k: usize = 0;
-    while k < SIX_COLUMNS {
-        r[k] = columns[k];
-        k += 1;
-    }
+    r[..SIX_COLUMNS].copy_from_slice(&columns);
     r
 }
 
@@ -114,10 +90,8 @@ pub fn widened(columns: [u32; SIX_COLUMNS]) -> [u32; BLOCK_LIST]
 pub fn with_parents(parents: [u32; MOST_BLOCKS], blocks: [u32; BLOCK_LIST]) -> [u32; BLOCK_LIST]
 {
     let mut r = blocks;
-    let mut i: usize = 0;
-    while i < MOST_BLOCKS {
+    for i in 0..MOST_BLOCKS {
         r[PARENT + i] = parents[i];
-        i += 1;
     }
     r
 }
@@ -126,11 +100,9 @@ pub fn with_parents(parents: [u32; MOST_BLOCKS], blocks: [u32; BLOCK_LIST]) -> [
 pub fn with_rows(count: usize, blocks: [u32; BLOCK_LIST]) -> [u32; BLOCK_LIST]
 {
     let mut r = blocks;
-    let mut k: usize = 0;
-    while k < HOURS * count {
+    for k in 0..HOURS * count {
         let runs = (blocks[RUNS + k / HOURS] >> (k % HOURS)) % 2;
         r[BLOCK_ROWS + k] = runs * blocks[QUANTITY + k / HOURS];
-        k += 1;
     }
     r
 }

@@ -1,8 +1,8 @@
 // Written by `twin_source` from crates/setup/src/rows.rt.
 // The hours for the search: the price table of each, the places at which it clears, and its gaps there, row after row; and the hours' three columns.
 
+use crate::twin::by_value::orders::{HourSteps, Steps};
 use crate::twin::by_value::places::layout::{CHANGE, HOUR_LIST, HOURS, LAST, LAST_AND_ABOVE, SHIFTS, TURN};
-use crate::twin::by_value::places::numbers::number_of;
 use crate::twin::by_value::roots::gives_way;
 use crate::twin::by_value::tables::{all_totals, clear_range, fill_gaps, fill_prices};
 
@@ -22,57 +22,20 @@ pub struct Ranges {
     pub turn: [u32; HOURS],
 }
 
-// The price table of an hour, whose steps stand from a up to e.
-fn fill_row(
-    sides: &[u8],
-    prices: &[u32],
-    quantities: &[u32],
-    a: usize,
-    e: usize,
-    off: u32,
-    row: &mut [u32],
-)
-{
-    fill_prices(&sides[a..e], &prices[a..e], &quantities[a..e], off, row);
-}
-
 // The price tables of the hours, row after row: of each the places that the blocks can reach, up to most, and the one above it. The others stay as they were.
-pub fn fill_tables(
-    sides: &[u8],
-    prices: &[u32],
-    quantities: &[u32],
-    ends: [u16; HOURS + 1],
-    off: [u32; HOURS],
-    most: [u32; HOURS],
-    unit_prices: &mut [u32],
-)
+pub fn fill_tables(steps: &Steps, off: [u32; HOURS], most: [u32; HOURS], unit_prices: &mut [u32])
 {
     let width = unit_prices.len() / HOURS;
-    let mut h: usize = 0;
-    while h < HOURS {
+    for h in 0..HOURS {
         let from = h * width;
         let to = from + (most[h] as usize) + LAST_AND_ABOVE;
-        fill_row(
-            sides,
-            prices,
-            quantities,
-            ends[h] as usize,
-            ends[h + 1] as usize,
-            off[h],
-            &mut unit_prices[from..to],
-        );
-        h += 1;
+        fill_prices(&steps.hour(h), off[h], &mut unit_prices[from..to]);
     }
 }
 
-// The places at which an hour clears, of those up to most, whose steps stand from a up to e, and its gaps there at a price. The range has the place off:
-// there N is 0.
+// The places at which an hour clears, of those up to most, and its gaps there at a price. The range has the place off: there N is 0.
 fn fill_hour(
-    sides: &[u8],
-    prices: &[u32],
-    quantities: &[u32],
-    a: usize,
-    e: usize,
+    steps: &HourSteps,
     off: u32,
     most: u32,
     price: u32,
@@ -80,22 +43,19 @@ fn fill_hour(
     gap: &mut [u32],
 ) -> Range
 {
-    let all = all_totals(&sides[a..e], &prices[a..e], &quantities[a..e]);
+    let all = all_totals(steps);
     let range = clear_range(all.buys, all.sells, off, most as usize);
     let turn = fill_gaps(row, price, range.first, range.last, gap);
     Range {
         first: range.first,
         last: range.last,
-        turn: turn,
+        turn,
     }
 }
 
 // The hours' ranges, and their gaps at the prices root, row after row.
 pub fn fill_ranges(
-    sides: &[u8],
-    prices: &[u32],
-    quantities: &[u32],
-    ends: [u16; HOURS + 1],
+    steps: &Steps,
     off: [u32; HOURS],
     most: [u32; HOURS],
     root: [u32; HOURS],
@@ -107,16 +67,11 @@ pub fn fill_ranges(
     let mut first = [0; HOURS];
     let mut last = [0; HOURS];
     let mut turn = [0; HOURS];
-    let mut h: usize = 0;
-    while h < HOURS {
+    for h in 0..HOURS {
         let from = h * width;
         let to = from + (most[h] as usize) + LAST_AND_ABOVE;
         let range = fill_hour(
-            sides,
-            prices,
-            quantities,
-            ends[h] as usize,
-            ends[h + 1] as usize,
+            &steps.hour(h),
             off[h],
             most[h],
             root[h],
@@ -126,7 +81,6 @@ pub fn fill_ranges(
         first[h] = range.first as u32;
         last[h] = range.last as u32;
         turn[h] = range.turn as u32;
-        h += 1;
     }
     Ranges { first, last, turn }
 }
@@ -142,13 +96,11 @@ pub fn joined(
 {
     let mut r = [0; HOUR_LIST];
     r[CHANGE] = often;
-    r[SHIFTS] = number_of(gives_way(edition));
-    let mut h: usize = 0;
-    while h < HOURS {
+    r[SHIFTS] = u32::from(gives_way(edition));
+    for h in 0..HOURS {
         r[h] = first[h];
         r[LAST + h] = last[h];
         r[TURN + h] = turn[h];
-        h += 1;
     }
     r
 }

@@ -12,10 +12,8 @@ const PARENT_NUMBERS: usize = MOST_BLOCKS + 1;
 fn parent_marks(blocks: &[u32]) -> [u32; PARENT_NUMBERS]
 {
     let mut marks = [0; PARENT_NUMBERS];
-    let mut j: usize = 0;
-    while j < MOST_BLOCKS {
+    for j in 0..MOST_BLOCKS {
         marks[blocks[PARENT + j] as usize] = 1;
-        j += 1;
     }
     marks
 }
@@ -60,28 +58,33 @@ fn is_no_worse(side: u32, limit: u32, other: u32) -> bool
     }
 }
 
-// Of the earlier twins of block i that are taken before it, the last by limit; where ahead is false, of those that are taken after it, the first. Its number
-// and 1, or 0 for none.
-fn nearest_twin(blocks: &[u32], marks: &[u32], i: usize, ahead: bool) -> u32
+// Of the earlier twins of block i that are taken before it, the last by limit; where ahead is false, of those that are taken after it, the first.
+fn nearest_twin(blocks: &[u32], marks: &[u32], i: usize, ahead: bool) -> Option<usize>
 {
     let side = blocks[SIDE + i];
     let limit = blocks[LIMIT + i];
     let trades = 0 < blocks[QUANTITY + i];
-    let mut found: u32 = 0;
+    let mut found = None;
     let mut edge = choose((side == 0) == ahead, u32::MAX, 0);
-    let mut j: usize = 0;
-    while j < i {
+    for j in 0..i {
         let here = blocks[LIMIT + j];
         let twins = may_exchange(blocks, marks, j, i, ahead);
         let fits = (twins & trades) & (is_no_worse(side, here, limit) == ahead);
-        let test = fits & (is_no_worse(side, edge, here) == ahead);
-        let next = choose(test, (j + 1) as u32, found);
-        let nearer = choose(test, here, edge);
-        found = next;
-        edge = nearer;
-        j += 1;
+        if fits & (is_no_worse(side, edge, here) == ahead) {
+            found = Some(j);
+            edge = here;
+        }
     }
     found
+}
+
+// A twin's number and 1, or 0 for none: what the columns hold.
+fn numbered(found: Option<usize>) -> u32
+{
+    match found {
+        Some(a) => a as u32 + 1,
+        None => 0,
+    }
 }
 
 // The same with the twins of each block.
@@ -89,11 +92,9 @@ pub fn with_twins(count: usize, blocks: [u32; BLOCK_LIST]) -> [u32; BLOCK_LIST]
 {
     let marks = parent_marks(&blocks);
     let mut r = blocks;
-    let mut i: usize = 0;
-    while i < count {
-        r[AHEAD + i] = nearest_twin(&blocks, &marks, i, true);
-        r[BEHIND + i] = nearest_twin(&blocks, &marks, i, false);
-        i += 1;
+    for i in 0..count {
+        r[AHEAD + i] = numbered(nearest_twin(&blocks, &marks, i, true));
+        r[BEHIND + i] = numbered(nearest_twin(&blocks, &marks, i, false));
     }
     r
 }

@@ -2,18 +2,11 @@
 // The tenths of a side's amount that are left over when the quotients are rounded down: one each to the largest remainders, equal ones to the lower
 // number. A cut among the remainders, found by bisection, says who gets one.
 
-// 1 where the test passes, else 0.
-fn one(test: bool) -> u32
-{
-    if test { 1 } else { 0 }
-}
+use crate::twin::by_value::shares::Portion;
+use crate::twin::by_value::orders::HourSteps;
 
-fn wide(x: u32) -> u64
-{
-    x as u64
-}
-
-// What a step of one side, the buys or else the sells, holds at the price.
+// What a step of one side, the buys or else the sells, holds at the price. `buys` is a bool, as in `holding` of the specs, and not records' Side, which is not
+// copied: each step would need it lent.
 fn held_at(buys: bool, price: u32, side: u8, limit: u32, quantity: u32) -> u32
 {
     if limit == price {
@@ -25,48 +18,31 @@ fn held_at(buys: bool, price: u32, side: u8, limit: u32, quantity: u32) -> u32
     0
 }
 
-// What is left of a quantity times the amount, divided by the total.
-fn rest_of(own: u32, amount: u64, total: u64) -> u32
-{
-    ((own as u64) * amount % total) as u32
-}
-
 // The remainders of a side's steps at the price into rests; the others hold nothing there, and their remainders are 0.
-fn put_rests(
-    buys: bool,
-    sides: &[u8],
-    prices: &[u32],
-    quantities: &[u32],
-    price: u32,
-    amount: u64,
-    total: u64,
-    rests: &mut [u32],
-)
+fn put_rests(buys: bool, steps: &HourSteps, price: u32, portion: Portion, rests: &mut [u32])
 {
-    let mut i: usize = 0;
-    while i < sides.len() {
-        let own = held_at(buys, price, sides[i], prices[i], quantities[i]);
-        rests[i] = rest_of(own, amount, total);
-        i += 1;
+    for i in 0..steps.sides.len() {
+        let own = held_at(
+            buys,
+            price,
+            steps.sides[i],
+            steps.prices[i],
+            steps.quantities[i],
+        );
+        rests[i] = portion.rest_of(own);
     }
 }
 
 // How many are above a number.
 fn above(rests: &[u32], x: u32) -> u64
 {
-    let mut n: u64 = 0;
-    let mut i: usize = 0;
-    while i < rests.len() {
-        let r = rests[i];
-        n += wide(one(x < r));
-        i += 1;
-    }
-    n
+    rests.iter().filter(|r| x < **r).count() as u64
 }
 
 // The cut for so many leftover tenths: no more remainders lie above it, and no fewer at or above it. By bisection from 0 to the total.
 fn cut_for(rests: &[u32], total: u32, left: u64) -> u32
 {
+    // a bisection: no count of turns
     let mut low: u32 = 0;
     let mut high: u32 = total;
     while low < high {
@@ -84,25 +60,20 @@ fn cut_for(rests: &[u32], total: u32, left: u64) -> u32
 fn give(rests: &[u32], cut: u32, most: u64, out: &mut [u32])
 {
     let mut room = most;
-    let mut i: usize = 0;
-    while i < rests.len() {
+    for i in 0..rests.len() {
         let r = rests[i];
-        let more = out[i] + one((cut < r) | ((r == cut) & (0 < room)));
-        out[i] = more;
-        room -= wide(one((r == cut) & (0 < room)));
-        i += 1;
+        let at = (r == cut) & (0 < room);
+        out[i] += u32::from((cut < r) | at);
+        room -= u64::from(at);
     }
 }
 
 // The leftover tenths of a side to its steps at the price; rests is lent to work in.
 pub fn give_leftover(
     buys: bool,
-    sides: &[u8],
-    prices: &[u32],
-    quantities: &[u32],
+    steps: &HourSteps,
     price: u32,
-    amount: u64,
-    total: u64,
+    portion: Portion,
     left: u64,
     out: &mut [u32],
     rests: &mut [u32],
@@ -111,8 +82,8 @@ pub fn give_leftover(
     if left == 0 {
         return;
     }
-    put_rests(buys, sides, prices, quantities, price, amount, total, rests);
-    let cut = cut_for(rests, total as u32, left);
+    put_rests(buys, steps, price, portion, rests);
+    let cut = cut_for(rests, portion.held as u32, left);
     let most = left - above(rests, cut);
     give(rests, cut, most, out);
 }

@@ -1,0 +1,11 @@
+-- `clearing::clear_small` meets its contract: the small tables are zeros with room for the blocks. Assumes nothing.
+use Prim.Native.Nat.{◌*◌}
+use native.Mathlib.Omega.{arith}
+use Rattle.orders.proofs.ColumnLaws.{zeros}
+use Rattle.clearing.specs.Clear.{small_row}
+use borrow.Author.Rules.{rules}
+use Rattle.clearing.proofs.clear_small.Goals as goal
+
+pub clear_within-requires : goal.clear_within-requires
+clear_within-requires c =
+    record { held = c.requires.0; tables = ((omega arith, omega arith), search rules, λ i. omega (arith, zeros (24 * small_row) i), c.requires.1) }

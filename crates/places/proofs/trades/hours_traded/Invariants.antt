@@ -1,0 +1,8 @@
+-- what is traded in the hours before h
+use Rattle.places.specs.Steps.{steps_at}
+use Rattle.places.proofs.TradeLaws.{TradedTo}
+use Rattle.places.proofs.trades.hours_traded.Given as goal
+
+abbrev pub invariant-loop-h : goal.invariant-loop-h
+invariant-loop-h l =
+    TradedTo (steps_at l.steps.ends l.steps.sides l.steps.prices l.steps.quantities) l.sales l.buys l.middles l.h l.traded
