@@ -91,7 +91,7 @@ pub extern "C" fn auction_range(list: &[u8], part: u32) -> u32
             GREATEST => found.greatest,
             _ => 0,
         },
-        Err(why) => first_alone(part, number_of(why)),
+        Err(refusal) => first_alone(part, number_of(refusal)),
     }
 }
 
@@ -104,7 +104,7 @@ pub extern "C" fn auction_clear(book: &[u8], res: &mut [u8]) -> u32
 {
     match clear(book, res) {
         Ok(()) => 0,
-        Err(why) => number_of(why),
+        Err(refusal) => number_of(refusal),
     }
 }
 

@@ -78,12 +78,12 @@ pub struct Asked<'a> {
     pub limits: [u32; MOST_BLOCKS],
     pub often: u32,
     ghost few: { (blocks.now.count ≤ most_blocks) × FirstSmall blocks.now.count most_quantity blocks.now.quantities },
-    ghost fits: { Small most_limit limits × (often ≤ 2) },
+    ghost fits: { often ≤ 2 },
 }
 
 // What the blocks gain at the prices root, as they count.
 fn gains_at(asked: &Asked, root: [u32; HOURS]) -> u64
-    requires { Small max_price root }
+    requires { Small most_limit asked.now.limits × Small max_price root }
     ensures { result ≤ most_blocks * (most_quantity * most_limit) }
 {
     let blocks = asked.blocks;
@@ -100,7 +100,7 @@ fn gains_at(asked: &Asked, root: [u32; HOURS]) -> u64
 // What the empty set, whose places are off, loses at the prices root: what the blocks would gain and what the hours lose.
 pub fn loss_at(unit_prices: &[u32], off: [u32; HOURS], asked: &Asked, root: [u32; HOURS]) -> u64
     requires tables { HasRows unit_prices.now × Small max_price unit_prices.now × Small (last_in unit_prices.now) off }
-    requires prices { Small max_price root }
+    requires prices { Small most_limit asked.now.limits × Small max_price root }
     ensures { result ≤ most_blocks * (most_quantity * most_limit) + 4 * hour_places * ((last_place + last_and_above) * max_price) }
 {
     gains_at(asked, root) + gaps_from(unit_prices, off, root, asked.often)

@@ -8,8 +8,7 @@ ghost use Rattle.shares.specs.Shares.{step_for, holding, holdings, LeftOver, Roo
 use crate::Portion;
 use orders::HourSteps;
 
-// What a step of one side, the buys or else the sells, holds at the price. `buys` is a bool, as in `holding` of the specs, and not records' Side, which is not
-// copied: each step would need it lent.
+// What a step of one side, the buys or else the sells, holds at the price. `buys` is a bool and not records' Side, since `holding` of the specs goes by Bool.
 fn held_at(buys: bool, price: u32, side: u8, limit: u32, quantity: u32) -> u32
     ensures { result ≡ holding buys price (step_for side limit quantity) }
 {

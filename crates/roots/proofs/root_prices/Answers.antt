@@ -10,7 +10,7 @@ invariant_of-asked c =
     let blocks = c.requires.blocks in
     record {
       few = (blocks.0, blocks.2);
-      fits = (c.limits_of.ensures, rw c.change_weight.ensures (weight-small _ change_hour c.requires.day));
+      fits = rw c.change_weight.ensures (weight-small _ change_hour c.requires.day);
     }
 
 pub loop-n-init : goal.loop-n-init
