@@ -49,7 +49,8 @@ fn clear_within(
     let day = day_hours(book);
     let count = record_count(book) as usize;
     let parents = parents_of(book);
-    let prepared = prepare(edition, day, steps, blocks, parents, unit_prices, gap);
+    let columns = steps.lent();
+    let prepared = prepare(edition, day, &columns, blocks, parents, unit_prices, gap);
     let tables = Tables {
         unit_prices,
         gap,
@@ -57,7 +58,7 @@ fn clear_within(
         blocks: &prepared.columns,
         count: blocks.count as u32,
     };
-    let best = find(&tables, steps);
+    let best = find(&tables, &columns);
     publish(day, count, steps, blocks, best.set, best.day, res);
 }
 

@@ -15,6 +15,14 @@ pub record HourInside (ends : List ℕ) (h : ℕ) : Type 0 where
   pub ordered : get_or ends h 0 ≤ get_or ends (h + 1) 0
   pub fits : get_or ends (h + 1) 0 ≤ step_places
 
+-- The same of columns that are lent, whose lengths are their own: its steps stand within each.
+pub record HourHeld (ends sides prices quantities : List ℕ) (h : ℕ) : Type 0 where
+  pub inside : HourInside ends h
+  pub has_end : h + 1 < length ends
+  pub in_sides : get_or ends (h + 1) 0 ≤ length sides
+  pub in_prices : get_or ends (h + 1) 0 ≤ length prices
+  pub in_quantities : get_or ends (h + 1) 0 ≤ length quantities
+
 -- Where hour h + 1 stands in a column: from `ends` at h up to `ends` at h + 1.
 abbrev pub hour_range : (ends column : List ℕ) (h : ℕ) → List ℕ
 hour_range ends column h = slice_range column (get_or ends h 0) (get_or ends (h + 1) 0)

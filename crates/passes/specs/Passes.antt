@@ -7,7 +7,7 @@ use Rattle.rules.specs.Contender.{NumbersRise}
 use Rattle.places.specs.Layout.{hour_places, hour_list_size, last_limit}
 use Rattle.places.specs.Blocks.{parent_at}
 use Rattle.places.specs.declared.tables.Tables as lent
-use Rattle.orders.specs.declared.Steps.{Steps}
+use Rattle.orders.specs.declared.DaySteps.{DaySteps}
 use Rattle.branches.specs.Tables.{Tables, seen}
 use Rattle.branches.specs.Meaning.{Sized, Known, Turning, cost_above}
 use Rattle.branches.specs.declared.Node.{Node}
@@ -15,7 +15,7 @@ use Rattle.search.specs.Meaning.{Kept, Sought, DayOf, StepsAre, StepsFit, Explor
 use Rattle.search.specs.declared.Best.{Best}
 
 -- WHAT IS GIVEN: the tables and the steps' columns, for safe arithmetic and indexing.
-abbrev pub Given : lent.Tables → Steps → Type 0
+abbrev pub Given : lent.Tables → DaySteps → Type 0
 Given tables steps = Sized (seen tables) × (length tables.hours.now ≡ hour_list_size) × StepsFit steps
 
 -- The limit of a pass, for safe arithmetic.

@@ -7,7 +7,7 @@ ghost use Rattle.passes.specs.Passes.{Given, LimitHeld, FoundThere};
 
 use crate::limits::{ENOUGH_FUEL, LAST_LIMIT, limit_after};
 use crate::pass::pass;
-use orders::Steps;
+use orders::DaySteps;
 use places::tables::Tables;
 use search::Best;
 
@@ -20,7 +20,7 @@ fn are_words(list: &[u32])
 {}
 
 // The published set, by passes from a limit on. A pass that finds a set has found the published one, and the last one finds.
-pub fn find_heavy(tables: &Tables, steps: &Steps, guessed: Option<u64>, from: u64) -> Best
+pub fn find_heavy(tables: &Tables, steps: &DaySteps, guessed: Option<u64>, from: u64) -> Best
     requires { Given tables.now steps.now × IfSome guessed (λ loss. loss ≤ most_guess) × LimitHeld from }
     ensures { FoundThere (seen tables.now) (hour_steps steps.now) result }
 {

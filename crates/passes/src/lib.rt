@@ -8,7 +8,7 @@ ghost use Rattle.passes.specs.Passes.{Given, FoundIn};
 
 use crate::stages::find_there;
 use order::{by_number, order_of, reordered};
-use orders::Steps;
+use orders::DaySteps;
 use places::tables::Tables;
 use search::Best;
 
@@ -19,7 +19,7 @@ mod pass; // one pass
 mod stages; // light passes, then heavy ones
 
 // The published set, by number: found with the blocks in the order in which they are decided.
-pub fn find(tables: &Tables, steps: &Steps) -> Best
+pub fn find(tables: &Tables, steps: &DaySteps) -> Best
     requires { Given tables.now steps.now }
     ensures { FoundIn (seen tables.now) (hour_steps steps.now) result }
 {

@@ -7,13 +7,13 @@ ghost use Rattle.passes.specs.Passes.{Given, LimitHeld, FoundLight};
 
 use crate::limits::LITTLE_FUEL;
 use crate::pass::pass;
-use orders::Steps;
+use orders::DaySteps;
 use places::tables::Tables;
 use search::Best;
 
 // The published set, where a light pass with a limit from..to finds it before the fuel is spent, a pass that has spent it says nothing; else the limit that
 // was reached.
-pub fn find_light(tables: &Tables, steps: &Steps, from: u64, to: u64) -> Result<Best, u64>
+pub fn find_light(tables: &Tables, steps: &DaySteps, from: u64, to: u64) -> Result<Best, u64>
     requires { Given tables.now steps.now × LimitHeld from × (to ≤ last_limit) }
     ensures { FoundLight (seen tables.now) (hour_steps steps.now) result }
 {

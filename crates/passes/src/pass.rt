@@ -5,7 +5,7 @@ ghost use Rattle.search.specs.Meaning.{hour_steps};
 ghost use Rattle.passes.specs.Passes.{Given, LimitHeld, start_at, Passed};
 
 use branches::Node;
-use orders::Steps;
+use orders::DaySteps;
 use places::layout::HOURS;
 use places::tables::Tables;
 use search::explore::explore;
@@ -29,7 +29,7 @@ pub fn start_at(limit: u64, fuel: u64) -> Best
 }
 
 // A pass over all blocks from a limit, with fuel; rivals are looked up in the table, where it has slots.
-pub fn pass(tables: &Tables, steps: &Steps, table: &mut [u32], limit: u64, fuel: u64) -> Best
+pub fn pass(tables: &Tables, steps: &DaySteps, table: &mut [u32], limit: u64, fuel: u64) -> Best
     requires { Given tables.now steps.now × LimitHeld limit }
     ensures { Passed (seen tables.now) (hour_steps steps.now) limit fuel result }
 {

@@ -10,7 +10,7 @@ use crate::heavy::find_heavy;
 use crate::light::find_light;
 use crate::limits::{FIRST_LIMIT, LAST_LIGHT, LAST_NEAR};
 use guess::guess;
-use orders::Steps;
+use orders::DaySteps;
 use places::layout::PARENT;
 use places::tables::Tables;
 use search::Best;
@@ -29,7 +29,7 @@ fn is_linked(blocks: &[u32], count: usize) -> bool
 }
 
 // The published set by rising limits. Ordinary days are found by the light passes, and pay nothing for a guess or a table.
-fn find_by_limits(tables: &Tables, steps: &Steps) -> Best
+fn find_by_limits(tables: &Tables, steps: &DaySteps) -> Best
     requires { Given tables.now steps.now }
     ensures { FoundThere (seen tables.now) (hour_steps steps.now) result }
 {
@@ -41,7 +41,7 @@ fn find_by_limits(tables: &Tables, steps: &Steps) -> Best
 
 // The published set from the guess on: a set of linked blocks loses much, since a parent that misses its limit takes its children out with it, and no small
 // limit finds it. A guess that is far off is not gone by.
-fn find_at_guess(tables: &Tables, steps: &Steps) -> Best
+fn find_at_guess(tables: &Tables, steps: &DaySteps) -> Best
     requires { Given tables.now steps.now }
     ensures { FoundThere (seen tables.now) (hour_steps steps.now) result }
 {
@@ -59,7 +59,7 @@ fn find_at_guess(tables: &Tables, steps: &Steps) -> Best
 }
 
 // The published set, of blocks as they stand.
-pub fn find_there(tables: &Tables, steps: &Steps) -> Best
+pub fn find_there(tables: &Tables, steps: &DaySteps) -> Best
     requires { Given tables.now steps.now }
     ensures { FoundThere (seen tables.now) (hour_steps steps.now) result }
 {

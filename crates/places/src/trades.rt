@@ -8,7 +8,7 @@ ghost use Rattle.places.specs.Steps.{steps_at, StepsSized, HoursTraded};
 
 use crate::added::moved_where;
 use crate::layout::{HOURS, SIDE};
-use orders::Steps;
+use orders::DaySteps;
 use pricing::execution::traded_at;
 
 // What blocks sell and buy in each hour.
@@ -37,9 +37,10 @@ pub fn set_trades(blocks: &[u32], count: usize, set: u32) -> Trades
 }
 
 // What is traded in each hour at its price.
-pub fn hours_traded(steps: &Steps, trades: Trades, middles: [u32; HOURS]) -> [u32; HOURS]
-    requires { StepsSized steps.now.ends steps.now.sides steps.now.prices steps.now.quantities × Small most_place trades.buys }
-    ensures { HoursTraded (steps_at steps.now.ends steps.now.sides steps.now.prices steps.now.quantities) trades.sales
+pub fn hours_traded(steps: &DaySteps, trades: Trades, middles: [u32; HOURS]) -> [u32; HOURS]
+    requires { (length steps.now.ends.now ≡ hour_places + 1)
+        × StepsSized steps.now.ends.now steps.now.sides.now steps.now.prices.now steps.now.quantities.now × Small most_place trades.buys }
+    ensures { HoursTraded (steps_at steps.now.ends.now steps.now.sides.now steps.now.prices.now steps.now.quantities.now) trades.sales
         trades.buys middles result }
 {
     let sales = trades.sales;

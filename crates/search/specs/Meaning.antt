@@ -16,16 +16,16 @@ use Rattle.places.specs.Steps.{steps_at, StepsSized, HoursTraded}
 use Rattle.branches.specs.Tables.{Tables, tables_of}
 use Rattle.branches.specs.Meaning.{AnHour, Known, Branch, loss_above, cost_above, At}
 use Rattle.branches.specs.declared.Node.{Node}
-use Rattle.orders.specs.declared.Steps as code-steps
+use Rattle.orders.specs.declared.DaySteps.{DaySteps}
 use Rattle.search.specs.declared.Day as code-day
 use Rattle.search.specs.declared.Best.{Best}
 
 -- THE STEPS as the code lends them: those of each hour, and what is asked of their columns for safe arithmetic.
-abbrev pub hour_steps : code-steps.Steps → ℕ → List Step
-hour_steps s = steps_at s.ends s.sides s.prices s.quantities
+abbrev pub hour_steps : DaySteps → ℕ → List Step
+hour_steps s = steps_at s.ends.now s.sides.now s.prices.now s.quantities.now
 
-abbrev pub StepsFit : code-steps.Steps → Type 0
-StepsFit s = StepsSized s.ends s.sides s.prices s.quantities
+abbrev pub StepsFit : DaySteps → Type 0
+StepsFit s = (length s.ends.now ≡ hour_places + 1) × StepsSized s.ends.now s.sides.now s.prices.now s.quantities.now
 
 -- THE BEST SO FAR
 -- What a set must cost less than, to become the best.

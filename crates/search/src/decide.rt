@@ -11,7 +11,7 @@ ghost use Rattle.search.specs.Meaning.{StepsFit, hour_steps, limit_at, Held, Kep
 
 use crate::{Best, Day};
 use branches::Node;
-use orders::Steps;
+use orders::DaySteps;
 use places::cells::{counted_gaps, counted_prices, prices_at, shifted_prices};
 use places::layout::{CHANGE, FIRST, HOURS, LAST, SHIFTS, TURN};
 use places::limits::keeps_limits;
@@ -33,7 +33,7 @@ pub fn limit_at(limit: u64, tie: u64, here: u64) -> u64
 // The set as the best, with what it loses and its day at these prices.
 fn found_at(
     tables: &Tables,
-    steps: &Steps,
+    steps: &DaySteps,
     node: Node,
     limit: u64,
     fuel: u64,
@@ -54,7 +54,7 @@ fn found_at(
 }
 
 // The set at the shift nearest the middle at which its blocks keep their limits; the best as it was where there is none.
-fn decide_at_shift(tables: &Tables, steps: &Steps, node: Node, limit: u64, best: Best) -> Best
+fn decide_at_shift(tables: &Tables, steps: &DaySteps, node: Node, limit: u64, best: Best) -> Best
     requires { ShiftSized tables.now.unit_prices.now tables.now.blocks.now tables.now.count node.places (change_often tables.now.hours.now)
         × (length tables.now.hours.now ≡ hour_list_size) × BlocksSized tables.now.blocks.now × StepsFit steps.now × (node.tie ≤ most_loss) × Held best
         × (limit < limit_at best.limit best.tie node.tie) }
@@ -71,7 +71,7 @@ fn decide_at_shift(tables: &Tables, steps: &Steps, node: Node, limit: u64, best:
 
 // All blocks are decided: the set becomes the best where it is lawful and loses less, with its day. The middle prices first: another shift is looked for
 // only where they miss a limit and prices can give way.
-pub fn decide(tables: &Tables, steps: &Steps, node: Node, best: Best) -> Best
+pub fn decide(tables: &Tables, steps: &DaySteps, node: Node, best: Best) -> Best
     requires { Sized (seen tables.now) × (length tables.now.hours.now ≡ hour_list_size) × StepsFit steps.now × (node.loss ≤ most_loss)
         × (node.tie ≤ most_loss) × Held best }
     ensures kept { Kept 0 best result }

@@ -10,7 +10,7 @@ use crate::decide::{decide, limit_at};
 use branches::Node;
 use branches::judge::judge;
 use branches::next::{is_barred, is_due, leave, take};
-use orders::Steps;
+use orders::DaySteps;
 use places::reach::is_out;
 use places::tables::Tables;
 use rivals::lookup::is_rivalled;
@@ -21,7 +21,7 @@ use rivals::lookup::is_rivalled;
 // is not gone.
 pub fn explore(
     tables: &Tables,
-    steps: &Steps,
+    steps: &DaySteps,
     table: &mut [u32],
     left: u32,
     out: u32,

@@ -12,10 +12,11 @@ use borrow.Rule.Slice.PartMut.{put_mid, mid_of, take_put, same_len_mid}
 use Rattle.places.specs.Layout.{hour_places, last_place}
 use Rattle.rules.specs.Orders.{Step, buy, sell, max_price}
 use Rattle.orders.specs.Columns.{steps_from}
+use Rattle.orders.specs.HourSteps.{HourHeld}
 use Rattle.tables.specs.Tables.{PriceTable, AllOf, ClearRange, NotRising, GapsFor, GapTable}
 use Rattle.tables.proofs.LevelLaws.{table-not-rising, table-in-range}
 use Rattle.places.specs.Hours.{Small, row_width, last_in}
-use Rattle.setup.specs.Setup.{hour_part, row_places, table_row, RowsFit, RowIs, Ranged, RangedAt}
+use Rattle.setup.specs.Setup.{StepsHeld, hour_part, row_places, table_row, RowsFit, RowIs, Ranged, RangedAt}
 use Rattle.places.proofs.NumberLaws.{below_next}
 use Rattle.places.proofs.StepLaws.{small-take, small-drop}
 use Rattle.places.proofs.CellLaws.{rows_apart, row_fits}
@@ -37,6 +38,19 @@ small-append : (m : ℕ) (a b : List ℕ) → Small m a → Small m b → Small 
 small-append m [] b sa sb i = sb i
 small-append m (x ∷ a) b sa sb zero = sa 0
 small-append m (x ∷ a) b sa sb (suc i) = small-append m a b (λ j. sa (suc j)) sb i
+
+-- each hour stands within columns as they are held
+pub hour-held : (sides prices quantities ends : List ℕ) (h : ℕ) → length ends ≡ hour_places + 1 → StepsHeld sides prices quantities ends → h < hour_places →
+    HourHeld ends sides prices quantities h
+hour-held sides prices quantities ends h size held k =
+    let inside = held.inside (h + 1) (omega arith) in
+    record {
+      inside = record { an_hour = k; ordered = held.rising h k; fits = omega (arith, inside, held.not_too_many) };
+      has_end = omega (arith, size);
+      in_sides = inside;
+      in_prices = omega (arith, inside, held.as_many_prices);
+      in_quantities = omega (arith, inside, held.as_many_quantities);
+    }
 
 -- ROWS
 module _ (w : ℕ) (table row : List ℕ) (h k most : ℕ) (room : h * w + row_places most ≤ length table) (full : length row ≡ row_places most)

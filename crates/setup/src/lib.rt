@@ -2,7 +2,7 @@
 #![tactic(auto)]
 
 ghost use Rattle.std.specs.Prelude.{◌≡◌, length, ◌+◌, ◌≤◌};
-ghost use Rattle.places.specs.Layout.{last_place, last_and_above};
+ghost use Rattle.places.specs.Layout.{hour_places, last_place, last_and_above};
 ghost use Rattle.places.specs.Hours.{Small, row_width, HasRows};
 ghost use Rattle.rules.specs.Orders.{max_price};
 ghost use Rattle.rules.specs.Day.{autumn_hours};
@@ -14,7 +14,7 @@ use crate::blocks::{block_columns, largest, traded_by_hour, widened, with_parent
 use crate::rows::{fill_ranges, fill_tables, joined};
 use crate::twins::with_twins;
 use fields::hours::change_weight;
-use orders::{Blocks, Steps};
+use orders::{Blocks, DaySteps};
 use places::cells::counted_prices;
 use places::layout::{BLOCK_LIST, HOUR_LIST, HOURS, LAST_AND_ABOVE, MOST_BLOCKS};
 use roots::root_prices;
@@ -45,20 +45,21 @@ pub fn row_needed(blocks: &Blocks) -> usize
 pub fn prepare(
     edition: u8,
     day: u8,
-    steps: &Steps,
+    steps: &DaySteps,
     blocks: &Blocks,
     parents: [u32; MOST_BLOCKS],
     unit_prices: &mut [u32],
     gap: &mut [u32],
 ) -> Prepared
     requires day { day ≤ autumn_hours }
-    requires steps { StepsHeld steps.now.sides steps.now.prices steps.now.quantities steps.now.ends }
+    requires steps { (length steps.now.ends.now ≡ hour_places + 1)
+        × StepsHeld steps.now.sides.now steps.now.prices.now steps.now.quantities.now steps.now.ends.now }
     requires blocks { BlocksHeld blocks.now.count blocks.now.prices blocks.now.quantities }
     requires parents { ParentsHeld parents }
     requires tables { HasRows unit_prices.old × (length gap.old ≡ length unit_prices.old) × Small max_price unit_prices.old }
     requires room { BlocksFit (row_width unit_prices.old) blocks.now }
     ensures sized { Sized (tables_of unit_prices.new gap.new result.hours result.columns blocks.now.count) }
-    ensures ready { ReadyFor edition day steps.now.sides steps.now.prices steps.now.quantities steps.now.ends
+    ensures ready { ReadyFor edition day steps.now.sides.now steps.now.prices.now steps.now.quantities.now steps.now.ends.now
         blocks.now.records blocks.now.sides blocks.now.hours blocks.now.prices blocks.now.quantities parents
         (tables_of unit_prices.new gap.new result.hours result.columns blocks.now.count) }
 {

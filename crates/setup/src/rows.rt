@@ -7,7 +7,7 @@ ghost use Rattle.rules.specs.Day.{gives_way};
 ghost use Rattle.tables.specs.Tables.{PriceTable};
 ghost use Rattle.setup.specs.Setup.{row_places, RowsFit, StepsHeld, RowsAre, Ranged, RangesAre};
 
-use orders::{HourSteps, Steps};
+use orders::{DaySteps, HourSteps};
 use places::layout::{CHANGE, HOUR_LIST, HOURS, LAST, LAST_AND_ABOVE, SHIFTS, TURN};
 use roots::gives_way;
 use tables::{all_totals, clear_range, fill_gaps, fill_prices};
@@ -29,10 +29,11 @@ pub struct Ranges {
 }
 
 // The price tables of the hours, row after row: of each the places that the blocks can reach, up to most, and the one above it. The others stay as they were.
-pub fn fill_tables(steps: &Steps, off: [u32; HOURS], most: [u32; HOURS], unit_prices: &mut [u32])
-    requires steps { StepsHeld steps.now.sides steps.now.prices steps.now.quantities steps.now.ends × Small last_place off × Small last_place most }
+pub fn fill_tables(steps: &DaySteps, off: [u32; HOURS], most: [u32; HOURS], unit_prices: &mut [u32])
+    requires steps { (length steps.now.ends.now ≡ hour_places + 1)
+        × StepsHeld steps.now.sides.now steps.now.prices.now steps.now.quantities.now steps.now.ends.now × Small last_place off × Small last_place most }
     requires table { HasRows unit_prices.old × RowsFit (row_width unit_prices.old) most × Small max_price unit_prices.old }
-    ensures rows { RowsAre (row_width unit_prices.old) steps.now.sides steps.now.prices steps.now.quantities steps.now.ends off most unit_prices.new }
+    ensures rows { RowsAre (row_width unit_prices.old) steps.now.sides.now steps.now.prices.now steps.now.quantities.now steps.now.ends.now off most unit_prices.new }
     ensures small { Small max_price unit_prices.new }
 {
     let width = unit_prices.len() / HOURS;
@@ -70,18 +71,20 @@ fn fill_hour(
 
 // The hours' ranges, and their gaps at the prices root, row after row.
 pub fn fill_ranges(
-    steps: &Steps,
+    steps: &DaySteps,
     off: [u32; HOURS],
     most: [u32; HOURS],
     root: [u32; HOURS],
     unit_prices: &[u32],
     gap: &mut [u32],
 ) -> Ranges
-    requires held { StepsHeld steps.now.sides steps.now.prices steps.now.quantities steps.now.ends × Small last_place most × Small max_price root × HasRows gap.old × RowsFit (row_width gap.old) most }
+    requires held { (length steps.now.ends.now ≡ hour_places + 1)
+        × StepsHeld steps.now.sides.now steps.now.prices.now steps.now.quantities.now steps.now.ends.now × Small last_place most × Small max_price root
+        × HasRows gap.old × RowsFit (row_width gap.old) most }
     requires within { (h : ℕ) → h < hour_places → get_or off h 0 ≤ get_or most h 0 }
-    requires tables { (length unit_prices.now ≡ length gap.old) × RowsAre (row_width gap.old) steps.now.sides steps.now.prices steps.now.quantities steps.now.ends off most unit_prices.now }
+    requires tables { (length unit_prices.now ≡ length gap.old) × RowsAre (row_width gap.old) steps.now.sides.now steps.now.prices.now steps.now.quantities.now steps.now.ends.now off most unit_prices.now }
     ensures small { (length result.first ≡ hour_places) × (length result.last ≡ hour_places) × (length result.turn ≡ hour_places) × Small (last_in gap.old) result.last }
-    ensures ranges { RangesAre (row_width gap.old) steps.now.sides steps.now.prices steps.now.quantities steps.now.ends off most root
+    ensures ranges { RangesAre (row_width gap.old) steps.now.sides.now steps.now.prices.now steps.now.quantities.now steps.now.ends.now off most root
         unit_prices.now gap.new result.first result.last result.turn }
 {
     let width = gap.len() / HOURS;

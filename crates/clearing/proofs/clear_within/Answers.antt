@@ -18,10 +18,15 @@ pub prepare-prepared-requires : goal.prepare-prepared-requires
 prepare-prepared-requires c =
     let h = c.requires.held in
     let t = c.requires.tables in
+    let e = c.lent-columns.ensures in
     record {
       day = rw c.day_hours-day.ensures (day-hours _ h.accepted).1;
-      steps = steps-held _ _ _ _ _ _ h.steps_are (sides-size _ _ _ _ _ _ h.steps_are) (prices-size _ _ _ _ _ _ h.steps_are)
-          (quantities-size _ _ _ _ _ _ h.steps_are);
+      steps = (
+        e.ends.1,
+        rw (e.sides, e.prices, e.quantities, e.ends.0)
+            (steps-held _ _ _ _ _ _ h.steps_are (sides-size _ _ _ _ _ _ h.steps_are) (prices-size _ _ _ _ _ _ h.steps_are)
+            (quantities-size _ _ _ _ _ _ h.steps_are)),
+      );
       blocks = blocks-held _ _ _ _ _ _ _ h.blocks_are h.accepted;
       parents = parents-held _ _ h.accepted c.parents_of-parents.ensures;
       tables = (t.0, t.1, t.2);
@@ -35,7 +40,15 @@ find-best-requires c =
     let sides = sides-size _ _ _ _ _ _ h.steps_are in
     let prices = prices-size _ _ _ _ _ _ h.steps_are in
     let quantities = quantities-size _ _ _ _ _ _ h.steps_are in
-    (c.prepare-prepared.ensures.sized, search rules, steps-sized _ h.accepted _ _ _ _ _ h.steps_are (omega arith) (omega arith) (omega arith))
+    let e = c.lent-columns.ensures in (
+      c.prepare-prepared.ensures.sized,
+      search rules,
+      (
+        e.ends.1,
+        rw (e.sides, e.prices, e.quantities, e.ends.0)
+            (steps-sized _ h.accepted _ _ _ _ _ h.steps_are (omega arith) (omega arith) (omega arith)),
+      ),
+    )
 
 pub publish-requires : goal.publish-requires
 publish-requires c =
@@ -46,20 +59,24 @@ publish-requires c =
     let prices = prices-size _ _ _ _ _ _ h.steps_are in
     let quantities = quantities-size _ _ _ _ _ _ h.steps_are in
     let day = sym c.day_hours-day.ensures in
+    let e = c.lent-columns.ensures in
+    let lent = rw (← e.sides, ← e.prices, ← e.quantities, ← e.ends.0) at h.steps_are in
     let parents = parents-of _ _ _ h.accepted c.parents_of-parents.ensures in
-    let ready = c.prepare-prepared.ensures.ready _ _ h.accepted (sym c.edition_of-edition.ensures) day h.steps_are h.blocks_are parents in
-    let steps = columns-steps _ _ _ _ _ _ h.steps_are h.accepted in
+    let ready = c.prepare-prepared.ensures.ready _ _ h.accepted (sym c.edition_of-edition.ensures) day lent h.blocks_are parents in
+    let steps = columns-steps _ _ _ _ _ _ lent h.accepted in
     let is = c.find-best.ensures _ ready.p ready.rest steps ready.known ready.turning (links-stand _ h.accepted).numbers in
-    let e = c.record_count-count.ensures in
-    publishable _ h.accepted _ _ _ _ _ _ h.blocks_are is.2 day e (omega (arith, h.buffer, e)) (omega arith)
+    let count = c.record_count-count.ensures in
+    publishable _ h.accepted _ _ _ _ _ _ h.blocks_are is.2 day count (omega (arith, h.buffer, count)) (omega arith)
     (steps-sized _ h.accepted _ _ _ _ _ h.steps_are (omega arith) (omega arith) (omega arith))
 
 pub returns : goal.returns
 returns c =
     let h = c.requires.held in
     let day = sym c.day_hours-day.ensures in
+    let e = c.lent-columns.ensures in
+    let lent = rw (← e.sides, ← e.prices, ← e.quantities, ← e.ends.0) at h.steps_are in
     let parents = parents-of _ _ _ h.accepted c.parents_of-parents.ensures in
-    let ready = c.prepare-prepared.ensures.ready _ _ h.accepted (sym c.edition_of-edition.ensures) day h.steps_are h.blocks_are parents in
-    let steps = columns-steps _ _ _ _ _ _ h.steps_are h.accepted in
+    let ready = c.prepare-prepared.ensures.ready _ _ h.accepted (sym c.edition_of-edition.ensures) day lent h.blocks_are parents in
+    let steps = columns-steps _ _ _ _ _ _ lent h.accepted in
     let is = c.find-best.ensures _ ready.p ready.rest steps ready.known ready.turning (links-stand _ h.accepted).numbers in
     c.publish.ensures _ h.accepted day h.steps_are h.blocks_are is.0 is.2 c.record_count-count.ensures

@@ -25,7 +25,7 @@ fill_ranges-ranges-requires-clause-held c =
     let t = c.requires.tables in
     let same = sym t.1 in
     let fit = rows_fit _ _ _ _ _ _ c.traded_by_hour-most.ensures c.requires.room in
-    (c.requires.steps, c.traded_by_hour-most.ensures.small, c.root_prices-root.ensures, rw same at t.0, rw same at fit)
+    (c.requires.steps.0, c.requires.steps.1, c.traded_by_hour-most.ensures.small, c.root_prices-root.ensures, rw same at t.0, rw same at fit)
 
 pub fill_ranges-ranges-requires-clause-within : goal.fill_ranges-ranges-requires-clause-within
 fill_ranges-ranges-requires-clause-within c = bought-within _ _ _ _ _ _ c.traded_by_hour-off.ensures c.traded_by_hour-most.ensures

@@ -4,7 +4,7 @@
 
 use crate::twin::by_value::passes::stages::find_there;
 use crate::twin::by_value::order::{by_number, order_of, reordered};
-use crate::twin::by_value::orders::Steps;
+use crate::twin::by_value::orders::DaySteps;
 use crate::twin::by_value::places::tables::Tables;
 use crate::twin::by_value::search::Best;
 
@@ -15,7 +15,7 @@ mod pass; // one pass
 mod stages; // light passes, then heavy ones
 
 // The published set, by number: found with the blocks in the order in which they are decided.
-pub fn find(tables: &Tables, steps: &Steps) -> Best
+pub fn find(tables: &Tables, steps: &DaySteps) -> Best
 {
     let count = tables.count as usize;
     let order = order_of(tables.blocks, count);

@@ -5,7 +5,7 @@ use crate::twin::by_value::setup::blocks::{block_columns, largest, traded_by_hou
 use crate::twin::by_value::setup::rows::{fill_ranges, fill_tables, joined};
 use crate::twin::by_value::setup::twins::with_twins;
 use crate::twin::by_value::fields::hours::change_weight;
-use crate::twin::by_value::orders::{Blocks, Steps};
+use crate::twin::by_value::orders::{Blocks, DaySteps};
 use crate::twin::by_value::places::cells::counted_prices;
 use crate::twin::by_value::places::layout::{BLOCK_LIST, HOUR_LIST, HOURS, LAST_AND_ABOVE, MOST_BLOCKS};
 use crate::twin::by_value::roots::root_prices;
@@ -33,7 +33,7 @@ pub fn row_needed(blocks: &Blocks) -> usize
 pub fn prepare(
     edition: u8,
     day: u8,
-    steps: &Steps,
+    steps: &DaySteps,
     blocks: &Blocks,
     parents: [u32; MOST_BLOCKS],
     unit_prices: &mut [u32],

@@ -5,4 +5,4 @@ use Rattle.places.proofs.trades.hours_traded.Given as goal
 
 abbrev pub invariant-loop-h : goal.invariant-loop-h
 invariant-loop-h l =
-    TradedTo (steps_at l.steps.ends l.steps.sides l.steps.prices l.steps.quantities) l.sales l.buys l.middles l.h l.traded
+    TradedTo (steps_at l.steps.ends.now l.steps.sides.now l.steps.prices.now l.steps.quantities.now) l.sales l.buys l.middles l.h l.traded

@@ -3,4 +3,4 @@ use Rattle.setup.proofs.SetupTableLaws.{RangesTo}
 use Rattle.setup.proofs.rows.fill_ranges.Given as goal
 
 abbrev pub invariant-loop-h : goal.invariant-loop-h
-invariant-loop-h l = RangesTo l.initial.gap l.steps.sides l.steps.prices l.steps.quantities l.steps.ends l.off l.most l.root l.unit_prices l.gap l.first l.last l.turn l.h
+invariant-loop-h l = RangesTo l.initial.gap l.steps.sides.now l.steps.prices.now l.steps.quantities.now l.steps.ends.now l.off l.most l.root l.unit_prices l.gap l.first l.last l.turn l.h

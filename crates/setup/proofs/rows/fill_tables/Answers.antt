@@ -3,8 +3,11 @@ use Rattle.std.proofs.Common.{◌+◌, ◌*◌, ◌≤◌, length, get_or, arith
 use Rattle.places.specs.Hours.{row_width}
 use Rattle.setup.specs.Setup.{row_places}
 use Rattle.places.proofs.CellLaws.{row_fits}
-use Rattle.setup.proofs.SetupTableLaws.{part_length, row-wide, rows_next}
+use Rattle.setup.proofs.SetupTableLaws.{hour-held, part_length, row-wide, rows_next}
 use Rattle.setup.proofs.rows.fill_tables.Goals as goal
+
+pub hour-requires : goal.hour-requires
+hour-requires c = hour-held _ _ _ _ c.loop-h.h c.requires.steps.0 c.requires.steps.1 c.loop-h-test.true
 
 pub loop-h-preserved : goal.loop-h-preserved
 loop-h-preserved c =

@@ -3,7 +3,7 @@
 
 use crate::twin::by_value::passes::limits::{ENOUGH_FUEL, LAST_LIMIT, limit_after};
 use crate::twin::by_value::passes::pass::pass;
-use crate::twin::by_value::orders::Steps;
+use crate::twin::by_value::orders::DaySteps;
 use crate::twin::by_value::places::tables::Tables;
 use crate::twin::by_value::search::Best;
 
@@ -15,7 +15,7 @@ fn are_words(list: &[u32])
 {}
 
 // The published set, by passes from a limit on. A pass that finds a set has found the published one, and the last one finds.
-pub fn find_heavy(tables: &Tables, steps: &Steps, guessed: Option<u64>, from: u64) -> Best
+pub fn find_heavy(tables: &Tables, steps: &DaySteps, guessed: Option<u64>, from: u64) -> Best
 {
     let mut table = [0; SLOTS];
     let mut limit = from;

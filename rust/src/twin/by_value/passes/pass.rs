@@ -2,7 +2,7 @@
 // One pass over all blocks.
 
 use crate::twin::by_value::branches::Node;
-use crate::twin::by_value::orders::Steps;
+use crate::twin::by_value::orders::DaySteps;
 use crate::twin::by_value::places::layout::HOURS;
 use crate::twin::by_value::places::tables::Tables;
 use crate::twin::by_value::search::explore::explore;
@@ -25,7 +25,7 @@ pub fn start_at(limit: u64, fuel: u64) -> Best
 }
 
 // A pass over all blocks from a limit, with fuel; rivals are looked up in the table, where it has slots.
-pub fn pass(tables: &Tables, steps: &Steps, table: &mut [u32], limit: u64, fuel: u64) -> Best
+pub fn pass(tables: &Tables, steps: &DaySteps, table: &mut [u32], limit: u64, fuel: u64) -> Best
 {
     let root = Node {
         set: 0,

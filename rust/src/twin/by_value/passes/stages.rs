@@ -5,7 +5,7 @@ use crate::twin::by_value::passes::heavy::find_heavy;
 use crate::twin::by_value::passes::light::find_light;
 use crate::twin::by_value::passes::limits::{FIRST_LIMIT, LAST_LIGHT, LAST_NEAR};
 use crate::twin::by_value::guess::guess;
-use crate::twin::by_value::orders::Steps;
+use crate::twin::by_value::orders::DaySteps;
 use crate::twin::by_value::places::layout::PARENT;
 use crate::twin::by_value::places::tables::Tables;
 use crate::twin::by_value::search::Best;
@@ -22,7 +22,7 @@ fn is_linked(blocks: &[u32], count: usize) -> bool
 }
 
 // The published set by rising limits. Ordinary days are found by the light passes, and pay nothing for a guess or a table.
-fn find_by_limits(tables: &Tables, steps: &Steps) -> Best
+fn find_by_limits(tables: &Tables, steps: &DaySteps) -> Best
 {
     match find_light(tables, steps, FIRST_LIMIT, LAST_LIGHT) {
         Ok(best) => best,
@@ -32,7 +32,7 @@ fn find_by_limits(tables: &Tables, steps: &Steps) -> Best
 
 // The published set from the guess on: a set of linked blocks loses much, since a parent that misses its limit takes its children out with it, and no small
 // limit finds it. A guess that is far off is not gone by.
-fn find_at_guess(tables: &Tables, steps: &Steps) -> Best
+fn find_at_guess(tables: &Tables, steps: &DaySteps) -> Best
 {
     let guessed = guess(tables);
     let Some(loss) = guessed else {
@@ -48,7 +48,7 @@ fn find_at_guess(tables: &Tables, steps: &Steps) -> Best
 }
 
 // The published set, of blocks as they stand.
-pub fn find_there(tables: &Tables, steps: &Steps) -> Best
+pub fn find_there(tables: &Tables, steps: &DaySteps) -> Best
 {
     if is_linked(tables.blocks, tables.count as usize) {
         return find_at_guess(tables, steps);

@@ -3,7 +3,7 @@
 
 use crate::twin::by_value::places::added::moved_where;
 use crate::twin::by_value::places::layout::{HOURS, SIDE};
-use crate::twin::by_value::orders::Steps;
+use crate::twin::by_value::orders::DaySteps;
 use crate::twin::by_value::pricing::execution::traded_at;
 
 // What blocks sell and buy in each hour.
@@ -30,7 +30,7 @@ pub fn set_trades(blocks: &[u32], count: usize, set: u32) -> Trades
 }
 
 // What is traded in each hour at its price.
-pub fn hours_traded(steps: &Steps, trades: Trades, middles: [u32; HOURS]) -> [u32; HOURS]
+pub fn hours_traded(steps: &DaySteps, trades: Trades, middles: [u32; HOURS]) -> [u32; HOURS]
 {
     let sales = trades.sales;
     let buys = trades.buys;

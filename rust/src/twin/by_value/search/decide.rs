@@ -3,7 +3,7 @@
 
 use crate::twin::by_value::search::{Best, Day};
 use crate::twin::by_value::branches::Node;
-use crate::twin::by_value::orders::Steps;
+use crate::twin::by_value::orders::DaySteps;
 use crate::twin::by_value::places::cells::{counted_gaps, counted_prices, prices_at, shifted_prices};
 use crate::twin::by_value::places::layout::{CHANGE, FIRST, HOURS, LAST, SHIFTS, TURN};
 use crate::twin::by_value::places::limits::keeps_limits;
@@ -23,7 +23,7 @@ pub fn limit_at(limit: u64, tie: u64, here: u64) -> u64
 // The set as the best, with what it loses and its day at these prices.
 fn found_at(
     tables: &Tables,
-    steps: &Steps,
+    steps: &DaySteps,
     node: Node,
     limit: u64,
     fuel: u64,
@@ -42,7 +42,7 @@ fn found_at(
 }
 
 // The set at the shift nearest the middle at which its blocks keep their limits; the best as it was where there is none.
-fn decide_at_shift(tables: &Tables, steps: &Steps, node: Node, limit: u64, best: Best) -> Best
+fn decide_at_shift(tables: &Tables, steps: &DaySteps, node: Node, limit: u64, best: Best) -> Best
 {
     let Some(shift) = shift_of(tables, node.set, node.places, tables.hours[CHANGE]) else {
         return best;
@@ -53,7 +53,7 @@ fn decide_at_shift(tables: &Tables, steps: &Steps, node: Node, limit: u64, best:
 
 // All blocks are decided: the set becomes the best where it is lawful and loses less, with its day. The middle prices first: another shift is looked for
 // only where they miss a limit and prices can give way.
-pub fn decide(tables: &Tables, steps: &Steps, node: Node, best: Best) -> Best
+pub fn decide(tables: &Tables, steps: &DaySteps, node: Node, best: Best) -> Best
 {
     let hours = tables.hours;
     let often = hours[CHANGE];

@@ -6,7 +6,7 @@ use crate::twin::by_value::search::decide::{decide, limit_at};
 use crate::twin::by_value::branches::Node;
 use crate::twin::by_value::branches::judge::judge;
 use crate::twin::by_value::branches::next::{is_barred, is_due, leave, take};
-use crate::twin::by_value::orders::Steps;
+use crate::twin::by_value::orders::DaySteps;
 use crate::twin::by_value::places::reach::is_out;
 use crate::twin::by_value::places::tables::Tables;
 use crate::twin::by_value::rivals::lookup::is_rivalled;
@@ -17,7 +17,7 @@ use crate::twin::by_value::rivals::lookup::is_rivalled;
 // is not gone.
 pub fn explore(
     tables: &Tables,
-    steps: &Steps,
+    steps: &DaySteps,
     table: &mut [u32],
     left: u32,
     out: u32,

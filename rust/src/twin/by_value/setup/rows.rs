@@ -1,7 +1,7 @@
 // Written by `twin_source` from crates/setup/src/rows.rt.
 // The hours for the search: the price table of each, the places at which it clears, and its gaps there, row after row; and the hours' three columns.
 
-use crate::twin::by_value::orders::{HourSteps, Steps};
+use crate::twin::by_value::orders::{DaySteps, HourSteps};
 use crate::twin::by_value::places::layout::{CHANGE, HOUR_LIST, HOURS, LAST, LAST_AND_ABOVE, SHIFTS, TURN};
 use crate::twin::by_value::roots::gives_way;
 use crate::twin::by_value::tables::{all_totals, clear_range, fill_gaps, fill_prices};
@@ -23,7 +23,7 @@ pub struct Ranges {
 }
 
 // The price tables of the hours, row after row: of each the places that the blocks can reach, up to most, and the one above it. The others stay as they were.
-pub fn fill_tables(steps: &Steps, off: [u32; HOURS], most: [u32; HOURS], unit_prices: &mut [u32])
+pub fn fill_tables(steps: &DaySteps, off: [u32; HOURS], most: [u32; HOURS], unit_prices: &mut [u32])
 {
     let width = unit_prices.len() / HOURS;
     for h in 0..HOURS {
@@ -55,7 +55,7 @@ fn fill_hour(
 
 // The hours' ranges, and their gaps at the prices root, row after row.
 pub fn fill_ranges(
-    steps: &Steps,
+    steps: &DaySteps,
     off: [u32; HOURS],
     most: [u32; HOURS],
     root: [u32; HOURS],
