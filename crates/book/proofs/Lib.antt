@@ -3,4 +3,3 @@ pub mod Refused
 pub mod StepLimits
 pub mod Accepted
 pub mod RecordSums
-pub mod OneByOne

@@ -1,6 +1,6 @@
 -- How the causes give a book's number and its answer, and document 01's sentence on them:
 -- "The lowest number whose cause holds is given, and none without its cause." Assumes nothing.
-use Prim.Native.Nat.{ℕ, ◌+◌, ◌*◌, ◌≤◌, ◌<◌}
+use Prim.Native.Nat.{ℕ, zero, suc, ◌+◌, ◌*◌, ◌≤◌, ◌<◌}
 use mathlib.Core.Path.{◌≡◌, refl, ap, sym, ◌∙◌}
 use mathlib.Core.List.{List, [], ◌∷◌, ◌++◌}
 use mathlib.Core.Bool.{Bool, true, false, cond, not, ◌||◌, ◌&&◌, and-false}
@@ -17,6 +17,7 @@ use Rattle.chains.specs.Chains.{count_on, step_order, block_order}
 use Rattle.chains.specs.Causes.{broken_on, broken_chain, wrong_field_on, wrong_field, stray_record, wrong_hours, wrong_link}
 use Rattle.book.specs.Refusals.{wrong_size, wrong_head, too_many_of, too_many_blocks, too_many_steps, first_cause, own_causes, refusal}
 use Rattle.chains.specs.Passes.{surveyed}
+use Rattle.book.specs.Passes.{next_found}
 use Rattle.book.specs.Numbers.{refusal_number, refusal_numbered, answered, tested, number_of}
 use Rattle.book.specs.Answers.{counted, reading}
 use Rattle.chains.specs.declared.Chain.TheVariants as chain-of
@@ -63,11 +64,46 @@ pub stops : (test : Bool) (why got : Refusal) → Err got ≡ tested test why �
 stops true why got e = (refl, (cc))
 stops false why got e = absurd (cc)
 
--- .. and after one that does not the causes after it are left
+-- BY THE NUMBERS: what was found before, else the next one
+-- A book's number, where the causes looked for gave `found` (0 where none holds) and those of `rest` are still to be looked for
+unfoldable pub LeftAfter : List ℕ → ℕ → List (Bool × ℕ) → Type 0
+LeftAfter b found rest = refusal b ≡ cond (eqb found 0) (first_cause rest) found
+
+-- One cause more. The test for it has to be right only where none was found before
+pub one-cause : (b : List ℕ) (found next number : ℕ) (test cause : Bool) (rest : List (Bool × ℕ)) → 0 < number
+    → LeftAfter b found ((cause, number) ∷ rest) → (found ≡ 0 → test ≡ cause) → next ≡ next_found found test number → LeftAfter b next rest
+unfolding first_cause next_found LeftAfter
+one-cause b found next number test cause rest p left agree e = left ∙ rw e (at (eqb found 0) refl)
+  where
+    holds : (t : Bool) → ◌≡◌ {A = ℕ} (cond t number (first_cause rest)) (cond (eqb (cond t number 0) 0) (first_cause rest) (cond t number 0))
+    holds true = rw (ne_eqb number 0 (λ w. omega arith))
+    holds false = refl
+
+    at : (none : Bool) → eqb found 0 ≡ none
+        → ◌≡◌ {A = ℕ} (cond none (cond cause number (first_cause rest)) found)
+        (cond (eqb (cond none (cond test number 0) found) 0) (first_cause rest) (cond none (cond test number 0) found))
+    at true f = rw (agree (eqb-true found 0 f)) (holds cause)
+    at false f = rw f
+
+-- So a cause that is looked for where none was found gives the book's number, where it holds ..
+pub found-here : {b : List ℕ} {number : ℕ} {cause : Bool} {rest : List (Bool × ℕ)} → 0 < number
+    → Left b ((cause, number) ∷ rest) → true ≡ cause → refusal b ≡ number
+unfolding next_found LeftAfter
+found-here {b} {number} {cause} {rest} some left holds =
+    one-cause b 0 number number true cause rest some left.is (λ z. holds) refl ∙ rw (ne_eqb number 0 (λ w. omega arith))
+
+-- .. and else those of `rest` are left
+pub left-over : {b : List ℕ} {number : ℕ} {cause : Bool} {rest : List (Bool × ℕ)} → 0 < number
+    → Left b ((cause, number) ∷ rest) → false ≡ cause → Left b rest
+unfolding next_found LeftAfter
+left-over {b} {number} {cause} {rest} some left holds = record { is = one-cause b 0 0 number false cause rest some left.is (λ z. holds) refl }
+
+-- BY THE TESTS: after one that refuses nothing the causes after it are left
 pub next : {b : List ℕ} {number : ℕ} {test cause : Bool} {rest : List (Bool × ℕ)} (why : Refusal)
     → Left b ((cause, number) ∷ rest) → test ≡ cause → Ok tt ≡ tested test why → Left b rest
 unfolding first_cause
-next {b} {number} {test} {cause} why left right none = record { is = left.is ∙ rw (sym right ∙ passed test why none) }
+next {number = zero} {test = test} why left right none = record { is = left.is ∙ rw (sym right ∙ passed test why none) }
+next {number = suc n} {test = test} why left right none = left-over (omega arith) left (sym (passed test why none) ∙ right)
 
 -- Where the last one does not hold either, the book is accepted
 pub accepts : {b : List ℕ} → Left b [] → refusal b ≡ 0
@@ -78,22 +114,26 @@ accepts left = left.is
 pub stopped : {b : List ℕ} {number : ℕ} {test cause : Bool} {rest : List (Bool × ℕ)} {got : Refusal} {A : Type 0} (why : Refusal) (value : A)
     → Left b ((cause, number) ∷ rest) → test ≡ cause → refusal_numbered number ≡ why → 0 < number → Err got ≡ tested test why
     → Err got ≡ answered (refusal b) value
-unfolding first_cause answered
+unfolding answered
 stopped {b} {number} {test} {cause} {rest} {got} why value left right named some told = at test right told
   where
     at : (t : Bool) → t ≡ cause → Err got ≡ tested t why → Err got ≡ answered (refusal b) value
-    at true is e = let same : got ≡ why = cc in rw (left.is, ← is, ne_eqb number 0 (λ w. omega arith), named, same)
+    at true is e = let same : got ≡ why = cc in rw (found-here some left is, ne_eqb number 0 (λ w. omega arith), named, same)
     at false is e = absurd (cc)
 
 -- The last test gives the answer
 pub ends : {b : List ℕ} {number : ℕ} {test cause : Bool} {r : Result (Unit {0}) Refusal} (why : Refusal)
     → Left b ((cause, number) ∷ []) → test ≡ cause → refusal_numbered number ≡ why → 0 < number → r ≡ tested test why → r ≡ answered (refusal b) tt
-unfolding first_cause answered
+unfolding answered
 ends {b} {number} {test} {cause} why left right named some told = told ∙ at test right
   where
     at : (t : Bool) → t ≡ cause → tested t why ≡ answered (refusal b) tt
-    at true is = rw (left.is, ← is, ne_eqb number 0 (λ w. omega arith), named)
-    at false is = rw (left.is, ← is)
+    at true is = rw (found-here some left is, ne_eqb number 0 (λ w. omega arith), named)
+    at false is = rw (accepts (left-over some left is))
+
+-- 1 comes first ..
+pub refusal-size : (b : List ℕ) → wrong_size b ≡ true → refusal b ≡ 1
+refusal-size b e = found-here (omega arith) (all-left b) (sym e)
 
 -- .. and without 1 the others are left
 pub without-size : (b : List ℕ) → wrong_size b ≡ false

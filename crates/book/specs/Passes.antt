@@ -1,4 +1,4 @@
--- What the reader's private functions find out on the way to its answer. No reader of the answer needs it. Definitions only. Assumes nothing.
+-- What the laws of the causes find out on the way to the reader's answer. No reader of the answer needs it. Definitions only. Assumes nothing.
 use Rattle.std.specs.Prelude.{ℕ, Bool, cond, eqb}
 
 -- One cause more, looked for after others: the number that they gave, else, where it holds, its own

@@ -31,7 +31,7 @@ use Rattle.places.specs.Hours.{sum_of_hours, sum_over, counted_column, cell, of_
 use Rattle.places.specs.Blocks.{side_at, hours_at, limit_at, against_at, gain_at, parent_at, row_quantity, keeps_at, all_keep, added_in}
 use Rattle.places.specs.Reach.{is_out, must_from, may_from, RestOf, AllBalance, Reaches}
 use Rattle.places.specs.Reach as hour
-use Rattle.std.specs.Prelude.{Some}
+use Rattle.std.specs.Prelude.{Some, None}
 use Rattle.branches.specs.Decisions.{names_gone, is_ruled_out, out_gains, RuledOut}
 use Rattle.branches.specs.Meaning.{AnHour, Shown, Known, Branch, loss_above, best_for_sells, best_for_buys, BoundsOf, At, DroppedFrom, JudgedFrom, last_reached}
 use Rattle.branches.specs.Tables.{Tables}
@@ -309,9 +309,9 @@ module _ {tables : Tables} {left out : ℕ} {node : Node} {limit gains : ℕ}
       size : length d + left ≡ tables.count
       size = at.size
 
-      reached : loss_above day p rest (d ++ t) < limit → (h : ℕ) → AnHour h →
+      in_reach : loss_above day p rest (d ++ t) < limit → (h : ℕ) → AnHour h →
           (hour.first_reached tables.first least h ≤ place day.blocks (d ++ t) h) × (place day.blocks (d ++ t) h ≤ hour.last_reached tables.last least free h)
-      reached k h c =
+      in_reach k h c =
           let a = c.first in
           let b = c.last in
           let here : tables.count - left ≡ length d = omega arith in
@@ -339,16 +339,16 @@ module _ {tables : Tables} {left out : ℕ} {node : Node} {limit gains : ℕ}
     pub dropped-unbalanced : (AllBalance tables.first tables.last least free → ⊥) → DroppedFrom tables left out node limit
     dropped-unbalanced e day p rest d t at l law =
         unless _ _ (λ k. absurd (e (λ h a b.
-        let r = reached t at l law k h record { first = a; last = b } in omega arith)))
+        let r = in_reach t at l law k h record { first = a; last = b } in omega arith)))
 
     module _ {from to : List ℕ} (reach : Reaches tables.first tables.last least free from to) where
       -- a lawful completion that loses less has its places from `from` to `to`
       module _ {day : Day} {p rest : ℕ → ℕ} {d : List Bool} (t : List Bool) (at : At tables left node limit out day p rest d)
           (l : length t ≡ left) (law : lawful day (d ++ t) ≡ true) where
-        in_reach : loss_above day p rest (d ++ t) < limit → (h : ℕ) → AnHour h →
+        in_columns : loss_above day p rest (d ++ t) < limit → (h : ℕ) → AnHour h →
             (of_hour from h ≤ place day.blocks (d ++ t) h) × (place day.blocks (d ++ t) h ≤ of_hour to h)
-        in_reach k h c =
-            let r = reached t at l law k h c in
+        in_columns k h c =
+            let r = in_reach t at l law k h c in
             (rw (reach.from_is h c.first c.last) r.0, rw (reach.to_is h c.first c.last) r.1)
 
         -- its gaps are at least the least gaps there
@@ -371,7 +371,7 @@ module _ {tables : Tables} {left out : ℕ} {node : Node} {limit gains : ℕ}
             gap-least h c =
                 let a = c.first in
                 let b = c.last in
-                let r = in_reach k h c in
+                let r = in_columns k h c in
                 let above = (larger-above (of_hour least h) (of_hour tables.first h)).1 in
                 let below = (smaller-below (of_hour least h + of_hour free h) (of_hour tables.last h)).1 in
                 let from_is = reach.from_is h a b in
@@ -392,7 +392,7 @@ module _ {tables : Tables} {left out : ℕ} {node : Node} {limit gains : ℕ}
         block-could bounds k j inside set-bit =
             let s = at.known.shown j inside in
             let could = taken-could day at.known.prices at.known.hours (d ++ t) (whole t at l law ∙ sym at.known.counted) law (of_hour from) (of_hour to)
-            record { from = λ h c. (in_reach k h (an-hour c)).0; to = λ h c. (in_reach k h (an-hour c)).1 }
+            record { from = λ h c. (in_columns k h (an-hour c)).0; to = λ h c. (in_columns k h (an-hour c)).1 }
             j no_block (omega (arith, at.known.counted)) set-bit in
             could-same at.known bounds fits_in.0 fits_in.1 s
             ∙ rw (block-at day.blocks j s.block _ no_block s.next) at could
@@ -487,15 +487,20 @@ module _ {tables : Tables} {left out : ℕ} {node : Node} {limit gains : ℕ}
               by-which bit before (inr gone) = absurd (gone-not k inside (rw here-is at gone) before bit)
 
         module _ (le : left ≤ tables.count) (r : ℕ) (is : RuledOut tables.blocks tables.count (tables.count - left) node.set out high low r) where
-          pub judged-open : JudgedFrom tables left out node limit (Some r)
-          judged-open day p rest d at t k l law less inside ruled = ruled-not le r is at t l law less (suc k) k (omega arith) inside ruled
+          pub out-of-it : JudgedFrom tables left out node limit (Some r)
+          out-of-it day p rest d at t k l law less inside ruled = ruled-not le r is at t l law less (suc k) k (omega arith) inside ruled
 
-          -- or the at.branch is dropped: what they would gain and the least gaps come to as much
-          pub dropped-by-gains : {gaps more : ℕ} → gaps ≡ sum_over tables.change (least_gap tables.gaps tables.turn from to) →
-              more ≡ out_gains tables.blocks (tables.count - left) r (tables.count - (tables.count - left)) → limit ≤ node.loss + gaps + more →
-              DroppedFrom tables left out node limit
-          dropped-by-gains {gaps} {more} gapped mores much day p rest d t at l law = unless _ _ (λ less. absurd (omega (
-            arith,
-            gaps-least t at l law less more (avoided-lost t at l law r mores
-                (λ k inside ruled. ruled-not le r is at t l law less (suc k) k (omega arith) inside ruled)),
-          )))
+          -- or the branch is dropped: what they would gain and the least gaps come to as much
+          module _ {gaps more : ℕ} (gapped : gaps ≡ sum_over tables.change (least_gap tables.gaps tables.turn from to))
+              (mores : more ≡ out_gains tables.blocks (tables.count - left) r (tables.count - (tables.count - left))) where
+            pub dropped-by-gains : limit ≤ node.loss + gaps + more → DroppedFrom tables left out node limit
+            dropped-by-gains much day p rest d t at l law = unless _ _ (λ less. absurd (omega (
+              arith,
+              gaps-least t at l law less more (avoided-lost t at l law r mores
+                  (λ k inside ruled. ruled-not le r is at t l law less (suc k) k (omega arith) inside ruled)),
+            )))
+
+            -- so it is judged: dropped where that comes to the limit, else these are out
+            pub judged-open : (leb limit (node.loss + gaps + more) ≡ true → JudgedFrom tables left out node limit None)
+                × (leb limit (node.loss + gaps + more) ≡ false → JudgedFrom tables left out node limit (Some r))
+            judged-open = (λ much. dropped-by-gains (leb-true _ _ much), λ less. out-of-it)

@@ -1,7 +1,8 @@
 -- `branches::judge::judge` meets its contract: one law for each reason to drop a branch, and one for what is out of it. Assumes nothing.
 use Rattle.std.proofs.Common.{rules, sym, ◌∙◌, arith}
 use lib.ListN.{length-take, length-drop}
-use Rattle.branches.proofs.DropLaws.{dropped-by-loss, dropped-unbalanced, dropped-by-gaps, dropped-by-limit, dropped-by-gains, judged-open}
+use borrow.Author.Tests.{le-leb, lt-leb}
+use Rattle.branches.proofs.DropLaws.{dropped-by-loss, dropped-unbalanced, dropped-by-gaps, dropped-by-limit, judged-open}
 use Rattle.places.proofs.ReachLaws.{to-fits, to-small, from-small}
 use Rattle.branches.proofs.judge.judge.Goals as goal
 
@@ -37,10 +38,13 @@ returns-then-not-keeps_limits c =
 pub returns-then-limit-least-2 : goal.returns-then-limit-least-2
 returns-then-limit-least-2 c =
     let reached = rw c.in_ok-reach.was at c.reach_at.ensures.reached in
-    dropped-by-gains c.out_gains.ensures.0 c.reach_at.ensures.rest reached c.bounds_at-bounds.ensures c.requires.2 _
-    c.ruled_out-ruled.ensures.out c.counted_least_gaps.ensures.0 c.ruled_out-ruled.ensures.gains.0 c.if-limit-least-2.true
+    let judged = judged-open c.out_gains.ensures.0 c.reach_at.ensures.rest reached c.bounds_at-bounds.ensures c.requires.2 _
+    c.ruled_out-ruled.ensures.out c.counted_least_gaps.ensures.0 c.ruled_out-ruled.ensures.gains.0 in
+    judged.0 (le-leb _ _ c.if-limit-least-2.true)
 
 pub returns : goal.returns
 returns c =
     let reached = rw c.in_ok-reach.was at c.reach_at.ensures.reached in
-    judged-open c.out_gains.ensures.0 c.reach_at.ensures.rest reached c.bounds_at-bounds.ensures c.requires.2 _ c.ruled_out-ruled.ensures.out
+    let judged = judged-open c.out_gains.ensures.0 c.reach_at.ensures.rest reached c.bounds_at-bounds.ensures c.requires.2 _
+    c.ruled_out-ruled.ensures.out c.counted_least_gaps.ensures.0 c.ruled_out-ruled.ensures.gains.0 in
+    judged.1 (lt-leb _ _ (omega (arith, c.if-limit-least-2.false)))
