@@ -6,6 +6,7 @@ ghost use Rattle.text.specs.Text.{Put};
 ghost use Rattle.gains.specs.Gains.{IsResult};
 ghost use Rattle.family_sheet.specs.FamilySheet.{family_sheet_of, most_family_sheet};
 
+use book::read;
 use clearing::clear_front;
 use families::put_families;
 use gains::gains_of;
@@ -44,6 +45,10 @@ pub fn families(book: &[u8], out: &mut [u8; MOST_FAMILY_SHEET]) -> usize
     ensures put { Put out.old 0 (family_sheet_of book.now) out.new result }
     ensures fits { result ≤ most_family_sheet }
 {
+    // A refused book needs no room for a result, and not the stack of a clearing.
+    if let Err(why) = read(book) {
+        return put_refusal(out, why);
+    }
     let mut space = [0; MOST_RESULT];
     match clear_front(book, &mut space) {
         Ok(size) => put_report(out, book, &space[..size]),

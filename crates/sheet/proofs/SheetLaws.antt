@@ -201,7 +201,7 @@ module _ (b result : List ℕ) (a : Accepted b) (is : result ≡ result_bytes b)
   lines-are = rw is (sheet-accepted b a)
 
   -- they have room in 781 bytes, and are the sheet
-  pub lines-room : ((i : ℕ) → byte_at b i < 256) → (out : List ℕ) → length out ≡ 781 → HasRoom out 0 (lines_in b result)
+  pub lines-room : ((i : ℕ) → byte_at b i < 256) → (out : List ℕ) → 781 ≤ length out → HasRoom out 0 (lines_in b result)
   unfolding HasRoom
   lines-room bytes out room = rw lines-are (omega (arith, sheet-short b bytes))
 

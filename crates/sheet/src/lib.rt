@@ -7,7 +7,7 @@ ghost use Rattle.sheet.specs.Sheet.{refused_line, sheet_of, most_sheet};
 ghost use Rattle.text.specs.Text.{HasRoom, Put};
 
 use crate::lines::put_lines;
-use book::Refusal;
+use book::{Refusal, read};
 use clearing::clear_front;
 use result::MOST_RESULT;
 use text::put_line;
@@ -31,6 +31,10 @@ pub fn sheet(book: &[u8], out: &mut [u8; MOST_SHEET]) -> usize
     ensures put { Put out.old 0 (sheet_of book.now) out.new result }
     ensures fits { result ≤ most_sheet }
 {
+    // A refused book needs no room for a result, and not the stack of a clearing.
+    if let Err(why) = read(book) {
+        return put_refusal(out, why);
+    }
     let mut space = [0; MOST_RESULT];
     match clear_front(book, &mut space) {
         Ok(size) => put_lines(out, book, &space[..size]),

@@ -1,5 +1,5 @@
 -- `families` meets its contract: the report out of the result, or the line of the refusal. Assumes nothing.
-use mathlib.Core.Path.{◌≡◌}
+use mathlib.Core.Path.{◌≡◌, sym}
 use native.Mathlib.Omega.{arith}
 use lib.ListN.{length}
 use borrow.Author.Rules.{rules}
@@ -22,5 +22,5 @@ returns-in-Ok c =
 
 pub returns-in-Err : goal.returns-in-Err
 returns-in-Err c =
-    let put = refusal-put _ _ c.in-Err.ensures _ _ _ c.put_refusal.ensures in
+    let put = refusal-put _ _ (sym c.in-Err.ensures) _ _ _ c.put_refusal.ensures in
     record { put = put; fits = put-short _ (λ i. omega (arith, c.type_inv.book i)) _ _ _ put }

@@ -1,5 +1,5 @@
 -- `sheet` meets its contract: the lines of the result, or the line of the refusal. Assumes nothing.
-use mathlib.Core.Path.{◌≡◌}
+use mathlib.Core.Path.{◌≡◌, sym}
 use native.Mathlib.Omega.{arith}
 use lib.ListN.{length}
 use borrow.Author.Rules.{rules}
@@ -9,7 +9,7 @@ use Rattle.sheet.proofs.sheet.Goals as goal
 pub put_lines-requires : goal.put_lines-requires
 put_lines-requires c =
     let room : length c.args.out.now ≡ 781 = search rules in
-    lines-room _ _ c.in-Ok.ensures.0 c.in-Ok.ensures.2 (λ i. omega (arith, c.type_inv.book i)) _ room
+    lines-room _ _ c.in-Ok.ensures.0 c.in-Ok.ensures.2 (λ i. omega (arith, c.type_inv.book i)) _ (omega arith)
 
 pub put_refusal-requires : goal.put_refusal-requires
 put_refusal-requires c =
@@ -23,5 +23,5 @@ returns-in-Ok c =
 
 pub returns-in-Err : goal.returns-in-Err
 returns-in-Err c =
-    let put = refusal-put _ _ c.in-Err.ensures _ _ _ c.put_refusal.ensures in
+    let put = refusal-put _ _ (sym c.in-Err.ensures) _ _ _ c.put_refusal.ensures in
     record { put = put; fits = put-short _ (λ i. omega (arith, c.type_inv.book i)) _ _ _ put }
