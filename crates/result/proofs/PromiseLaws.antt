@@ -184,7 +184,7 @@ unfolding clearing clear_refusal first_cause refusal_numbered
 number-clearing b before = number-of-causes (own_causes b ++ ((wrong_buffer b before, 7) ∷ [])) tt (have-append (own_causes b) _ (own-have b) (refl, tt))
 
 -- THE PROMISE of a refused clearing
-promise-refused : (b before after : List ℕ) (n : ℕ) → clear_refusal b before ≡ n → (n ≡ 0 → ⊥) → after ≡ before → Promise b before after (Err (refusal_numbered n))
+pub promise-refused : (b before after : List ℕ) (n : ℕ) → clear_refusal b before ≡ n → (n ≡ 0 → ⊥) → after ≡ before → Promise b before after (Err (refusal_numbered n))
 unfolding clearing result_after
 promise-refused b before after n e f same =
     record {

@@ -1,5 +1,5 @@
 -- One turn of each pass of the code, and its end. Assumes nothing.
-use Prim.Native.Nat.{ℕ, suc, ◌+◌, ◌-◌, ◌≤◌, ◌<◌}
+use Prim.Native.Nat.{ℕ, zero, suc, ◌+◌, ◌-◌, ◌≤◌, ◌<◌}
 use mathlib.Core.Bool.{Bool, true, false, cond, ◌||◌, ◌&&◌}
 use mathlib.Core.Path.{◌≡◌, refl, sym, ap, ◌∙◌}
 use mathlib.Core.List.{List, ◌∷◌, ◌++◌, map, append-nil, append_assoc}
@@ -16,6 +16,7 @@ use Rattle.rules.specs.Orders.{Step}
 use Rattle.rules.specs.Hour.{when, total}
 use Rattle.rules.specs.Execution.{plus, at_least}
 use Rattle.rules.proofs.CutLaws.{by_cut}
+use Rattle.rules.proofs.ShareLaws.{when-le}
 use Rattle.orders.specs.Columns.{steps_from}
 use Rattle.pricing.specs.Curves.{Columns}
 use Rattle.pricing.proofs.TotalsLaws.{rest_of, rest_more, rest_end}
@@ -81,6 +82,12 @@ count-above x l = sym (is_count_by (at_least (suc x)) (λ r. nat_lt x r) refl (�
 pub one-when : (b : Bool) → from_bool b ≡ when b 1
 one-when true = refl
 one-when false = refl
+
+-- GIVING the leftover tenths: one goes only where there is one
+pub room_within : (a : Bool) (m : ℕ) → when (a && ltb 0 m) 1 ≤ m
+room_within true zero = omega arith
+room_within true (suc m) = omega (arith, when-le (ltb 0 (suc m)) 1)
+room_within false m = omega arith
 
 -- whether a remainder gets one more
 abbrev pub extra_at : ℕ → ℕ → ℕ → ℕ
