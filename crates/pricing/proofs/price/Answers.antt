@@ -1,5 +1,6 @@
 -- `pricing::price` meets its contract: the book's refusal, then 8, then the hour's answer. Assumes nothing.
 use mathlib.Core.Path.{sym, ap, ◌∙◌}
+use native.Mathlib.Omega.{arith}
 use Rattle.std.specs.Prelude.{Ok}
 use Rattle.std.proofs.lemmas.Result.{err_from_is_err_and}
 use Rattle.book.proofs.Refused.{passed, stops}
@@ -28,7 +29,7 @@ pub answer_in-requires : goal.answer_in-requires
 answer_in-requires c =
     let t = tested-is _ _ _ _ c.in_ok-counted.ensures _ _ _ _ c.day_hours.ensures c.has_hour.ensures c.from.ensures c.names_absent.ensures in
     let e = call-bounds _ t.0 _ _ (sym t.1 ∙ passed _ _ c.in_ok-refuse.ensures) in
-    (t.0, e.0, e.1)
+    (t.0, omega (arith, e.0), omega (arith, e.1))
 
 pub returns : goal.returns
 returns c =
